@@ -1,0 +1,5 @@
+pub mod Breaks
+pub mod Tallies
+pub mod Runs
+pub mod Words
+pub mod Verdicts

@@ -1,0 +1,3 @@
+pub mod Duty
+pub mod Summary
+pub mod Lawful

@@ -1,0 +1,175 @@
+//! Articles 6 to 8 of Regulation (EC) 561/2006 for the duty of one day.
+//!
+//! A duty is the list of its drives, each with the pause before it, and its spread from sign-on
+//! to sign-off. [`judge`] names the first article that it breaks, by these definitions.
+//!
+//! - A full break (article 7) is a pause of at least 45 minutes, or of at least 30 minutes where
+//!   a pause of at least 15 minutes stands before it and after the last full break. 30 minutes
+//!   and then 15 are none: this is the stricter reading.
+//! - Neighbouring drives with no full break between them have at most 4.5 hours of driving in
+//!   all (article 7), and the whole duty at most 9 hours (article 6(1)).
+//! - The spread is at most 13 hours, or 15 where some pause is at least 3 hours (article 8(2),
+//!   with the split daily rest of article 4(g)).
+//!
+//! [`Tally`] gives the same verdict drive by drive. Nothing here takes memory from the heap.
+#![tactic(auto)]
+
+ghost use Rattle.std.specs.Prelude.{◌≡◌, ℕ, ◌<◌, ◌≤◌, ◌↔◌, length, IsTrue};
+ghost use Rattle.eu561_rules.specs.Duty.{FirstPauseIsZero, IsBreakInWords, IsLawful, BreaksArticle7, BreaksArticle8, Judged, driving_of};
+ghost use Rattle.eu561_rules.specs.Duty.{is_full_break as is_break};
+ghost use Rattle.eu561_rules.specs.Lawful.{is_lawful};
+
+mod counting;
+mod rules;
+
+pub use counting::Tally;
+use counting::{completes, leaves_quarter};
+pub use rules::{Drive, Limits, Verdict};
+
+/// Whether the pause before the drive at this place, counted from 0, is a full break (article 7).
+pub fn is_full_break(drives: &[Drive], place: usize) -> bool
+    requires { place < length drives.now }
+    ensures recursion { result ≡ is_break drives.now place }
+    ensures words { IsTrue result ↔ IsBreakInWords drives.now place }
+{
+    let mut quarter = false;
+    for drive in &drives[..place] {
+        quarter = leaves_quarter(quarter, drive.pause);
+    }
+    completes(quarter, drives[place].pause)
+}
+
+/// The verdict on the drives of a duty of this spread, in seconds. A duty has at most 3,000
+/// drives, and no pause before its first one.
+///
+/// - `Art6` where the driving in all exceeds the limit of the day (article 6(1));
+/// - else `Art7`, with the first driving period that has too much driving (article 7);
+/// - else `Art8` where the spread is longer than the one that applies (article 8(2));
+/// - else `Lawful`.
+pub fn judge(drives: &[Drive], spread: u64, limits: &Limits) -> Verdict
+    requires few { length drives.now ≤ 3000 }
+    requires begins { FirstPauseIsZero drives.now }
+    ensures first { Judged drives.now spread limits.now result }
+
+    ensures art6 { (result ≡ Verdict.Art6 (driving_of drives.now)) ↔ (limits.now.day < driving_of drives.now) }
+    ensures art7 { (i j driving : ℕ) → (result ≡ Verdict.Art7 i j driving) ↔ BreaksArticle7 limits.now drives.now i j driving }
+    ensures art8 { (result ≡ Verdict.Art8 spread) ↔ BreaksArticle8 limits.now drives.now spread }
+    ensures lawful { (result ≡ Verdict.Lawful) ↔ IsLawful limits.now drives.now spread }
+    ensures tested { IsLawful limits.now drives.now spread ↔ IsTrue (is_lawful limits.now drives.now spread) }
+{
+    let mut tally = Tally::new(*limits);
+    for drive in drives {
+        tally.add(*drive);
+    }
+    tally.close(spread)
+}
+
+#[cfg(test)]
+mod tests {
+    use crate::{Drive, Limits, Tally, Verdict, is_full_break, judge};
+    use std::rt::HostRuntime;
+
+    fn drive(pause: u32, driving: u32) -> Drive {
+        Drive { pause, driving }
+    }
+
+    fn is_duty(drives: &[Drive]) -> bool
+        ensures { IsTrue result ↔ ((length drives.now ≤ 3000) × FirstPauseIsZero drives.now) }
+    {
+        drives.len() <= 3000 && (drives.is_empty() || drives[0].pause == 0)
+    }
+
+    // the verdict on the duty, drive by drive
+    fn tallied(drives: &[Drive], spread: u64) -> Verdict
+        requires few { length drives.now ≤ 3000 }
+        requires begins { FirstPauseIsZero drives.now }
+    {
+        let mut tally = Tally::new(Limits::regular());
+        for drive in drives {
+            tally.add(*drive);
+        }
+        tally.close(spread)
+    }
+
+    fn art7(first: u32, last: u32, driving: u64) -> Verdict {
+        Verdict::Art7 {
+            first,
+            last,
+            driving,
+        }
+    }
+
+    #[test]
+    fn duties_are_judged(rt: HostRuntime) {
+        let lawful = Verdict::Lawful;
+        let two = |pause: u32| [drive(0, 3600), drive(pause, 3600)];
+        let rows: [(&[Drive], u64, Verdict); 14] = [
+            (&[], 0, lawful),
+            (&[drive(0, 16200), drive(2700, 16200)], 40000, lawful),
+            (
+                &[drive(0, 16201), drive(2700, 16199)],
+                40000,
+                art7(0, 0, 16201),
+            ),
+            (
+                &[drive(0, 16200), drive(2700, 16201)],
+                40000,
+                Verdict::Art6 { driving: 32401 },
+            ),
+            (
+                &[drive(0, 16200), drive(2699, 16200)],
+                40000,
+                art7(0, 1, 32400),
+            ),
+            (
+                &[drive(0, 3600), drive(900, 10800), drive(1800, 14400)],
+                31500,
+                lawful,
+            ),
+            (
+                &[drive(0, 3600), drive(1800, 10800), drive(900, 3600)],
+                20700,
+                art7(0, 2, 18000),
+            ),
+            (
+                &[
+                    drive(0, 1800),
+                    drive(900, 1800),
+                    drive(1800, 10800),
+                    drive(1800, 14400),
+                ],
+                33300,
+                art7(2, 3, 25200),
+            ),
+            (&two(2700), 46800, lawful),
+            (&two(2700), 46801, Verdict::Art8 { spread: 46801 }),
+            (&two(10800), 54000, lawful),
+            (&two(10800), 54001, Verdict::Art8 { spread: 54001 }),
+            (&two(10799), 46800, lawful),
+            (&two(10799), 54000, Verdict::Art8 { spread: 54000 }),
+        ];
+        for (drives, spread, verdict) in rows {
+            assert!(&rt; is_duty(drives));
+            assert_eq!(&rt;
+                judge(drives, spread, &Limits::regular()),
+                verdict,
+                "judge, spread {spread}"
+            );
+            assert_eq!(&rt; tallied(drives, spread), verdict, "Tally, spread {spread}");
+        }
+    }
+
+    #[test]
+    fn full_breaks_are_told(rt: HostRuntime) {
+        let drives = [
+            drive(0, 1800),
+            drive(900, 1800),
+            drive(1800, 10800),
+            drive(1800, 14400),
+            drive(2700, 0),
+        ];
+        for (place, full) in [(0, false), (1, false), (2, true), (3, false), (4, true)] {
+            assert_eq!(&rt; is_full_break(&drives, place), full, "at {place}");
+        }
+    }
+}
