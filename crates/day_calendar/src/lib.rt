@@ -1,0 +1,10 @@
+//! The version and the kind of an operating day, and its trips in order.
+#![tactic(auto)]
+
+mod day;
+#[cfg(test)]
+mod tests;
+mod trips;
+
+pub use day::{DayFault, DayKind, kind_of};
+pub use trips::{DayTrip, day_rows};

@@ -1,0 +1,67 @@
+//! How a command ends.
+
+ghost use Rattle.std.specs.Prelude.{◌≡◌};
+
+use day_calendar::DayFault;
+use plan_core::Memory;
+use vdv451_text::TextFault;
+use vdv452_tables::TableFault;
+
+/// What is wrong with the input files.
+#[derive(Debug, Drop)]
+pub enum InputFault {
+    /// The first fault of the text of a file. Files are numbered from 1 in the order of their words.
+    Text { file: u32, fault: TextFault },
+    /// The first fault of the tables.
+    Table(TableFault),
+    /// The day has more than 3,000 trips.
+    Trips { count: u32 },
+}
+
+/// How a command ends, with the cause where it refused.
+#[derive(Debug, Drop)]
+pub enum Status {
+    /// The text of the command was written whole.
+    Ok,
+    /// The words are none of the planner's.
+    Usage,
+    /// The files hold something wrong.
+    Input(InputFault),
+    /// The day is no date, has no version or no kind.
+    Day(DayFault),
+    /// A read of the file of this number failed.
+    ReadFault { file: u32 },
+    /// A write failed; what was taken before is a front of the text.
+    WriteFault,
+    /// Memory ran out.
+    Memory,
+}
+
+impl From<Memory> for Status {
+    ghost use Rattle.planner_cli.specs.declared.status.Status.TheVariants as statuses;
+
+    ghost from_gives = { λ _ status. status ≡ statuses.Memory };
+
+    fn from(_memory: Memory) -> Status {
+        Status::Memory
+    }
+}
+
+impl Status {
+    ghost use Rattle.planner_cli.specs.Codes.{code_of};
+
+    /// The status number with which the program ends: 0 Ok, 2 Usage, 3 Input, 4 Day, 7 ReadFault, 8 WriteFault, 9 Memory.
+    pub fn code(&self) -> u8
+        ensures { result ≡ code_of self.now }
+    {
+        match self {
+            Status::Ok => 0,
+            Status::Usage => 2,
+            Status::Input(_) => 3,
+            Status::Day(_) => 4,
+            Status::ReadFault { .. } => 7,
+            Status::WriteFault => 8,
+            Status::Memory => 9,
+        }
+    }
+}

@@ -1,0 +1,170 @@
+//! The command `trips`: the rows of a day's trips.
+
+ghost use Rattle.std.specs.Prelude.{◌≡◌, ◌≢◌, ◌<◌, ◌≤◌, ◌^◌, ◌⊎◌, ℕ, List, None, Some, All, IsTrue, IfOk, IfErr, OnOk, length, slice_index_or, ◌∷◌, []};
+ghost use Rattle.vdv451_text.specs.Plain.{are_plain, text};
+ghost use Rattle.vdv452_tables.specs.declared.reading.Needs.TheVariants as needs;
+ghost use Rattle.vdv452_tables.specs.Schema.{trips as trips_schema};
+ghost use Rattle.vdv452_tables.specs.Calendar.{net_of, schemas_of};
+ghost use Rattle.vdv452_tables.specs.Rows.{first_fault, table_of};
+ghost use Rattle.vdv451_text.specs.declared.table.Table.{Table as TextTable};
+ghost use Rattle.planner_cli.specs.Trips.{IsDayCause, IsTripsText, most_trips, picked_table, rows_at};
+ghost use Rattle.planner_cli.specs.Trips.{IsCrowdRefusal, IsDayRefusal, IsRefused, refused_tables};
+ghost use Rattle.day_calendar.specs.Kinds.{IsKindOf};
+ghost use Rattle.day_calendar.specs.DayTrips.{AreDayRows};
+ghost use Rattle.vdv451_text.specs.Plain.{is_plain_table};
+
+use crate::status::{InputFault, Status};
+use day_calendar::{DayKind, day_rows, kind_of};
+use plan_core::{Bytes, Memory, Seq};
+use std::alloc::Global;
+use vdv451_text::{Field, Head, Table, write_tables};
+use vdv452_tables::{Needs, Network, TableFault, TableKind, read_tables};
+
+/// A day has at most so many trips.
+const MOST_TRIPS: usize = 3_000;
+
+/// A row's fields once more.
+fn copied_row(alloc: Global, row: &[Field]) -> Result<Seq<Field>, Memory>
+    ensures { IfOk result (λ copy. copy ≡ row.now) }
+{
+    let mut copy = Seq::new(alloc);
+    for field in row {
+        copy.push(field.clone()?)?;
+    }
+    Ok(copy)
+}
+
+/// The columns once more.
+fn copied_columns(alloc: Global, columns: &[Head]) -> Result<Seq<Head>, Memory>
+    ensures { IfOk result (λ copy. copy ≡ columns.now) }
+{
+    let mut copy = Seq::new(alloc);
+    for column in columns {
+        copy.push(column.clone()?)?;
+    }
+    Ok(copy)
+}
+
+/// The rows that stand at these places.
+fn picked_rows(
+    alloc: Global,
+    rows: &[Seq<Field>],
+    places: &[u32],
+) -> Result<Seq<Seq<Field>>, Memory>
+    requires { All (λ place. place < length rows.now) places.now }
+    ensures { IfOk result (λ picked. picked ≡ rows_at rows.now places.now) }
+{
+    let mut picked = Seq::new(alloc);
+    for place in places {
+        picked.push(copied_row(alloc, rows[*place as usize].as_slice())?)?;
+    }
+    Ok(picked)
+}
+
+/// The table with the rows at these places alone.
+fn picked(alloc: Global, table: &Table, places: &[u32]) -> Result<Table, Memory>
+    requires { All (λ place. place < length table.now.rows) places.now }
+    ensures { IfOk result (λ picked. picked ≡ picked_table table.now places.now) }
+{
+    Ok(Table {
+        name: table.name.clone()?,
+        columns: copied_columns(alloc, table.columns.as_slice())?,
+        rows: picked_rows(alloc, table.rows.as_slice(), places)?,
+    })
+}
+
+/// The status for tables with a fault.
+fn table_status(fault: TableFault) -> Status
+    ensures { result ≡ refused_tables fault }
+{
+    if fault.kind == TableKind::Memory {
+        Status::Memory
+    } else {
+        Status::Input(InputFault::Table(fault))
+    }
+}
+
+/// The network of the calendar and the trips.
+fn network(alloc: Global, tables: &[Table]) -> Result<Network, Status>
+    requires { All (λ table. length table.rows < 2 ^ 32) tables.now }
+    ensures net { IfOk result (λ net. net ≡ net_of needs.Calendar tables.now) }
+    ensures faultless { OnOk result (first_fault (schemas_of needs.Calendar) tables.now ≡ None) }
+    ensures cause { (day : ℕ) → IfErr result (IsRefused tables.now day) }
+{
+    match read_tables(alloc, tables, Needs::Calendar) {
+        Ok(net) => Ok(net),
+        Err(fault) => Err(table_status(fault)),
+    }
+}
+
+/// The place of the table REC_FRT, which stands among tables without a fault.
+fn trips_place(tables: &[Table]) -> usize
+    requires { first_fault (schemas_of needs.Calendar) tables.now ≡ None }
+    ensures within { result < length tables.now }
+    ensures found { (other : TextTable) → table_of trips_schema tables.now ≡ Some (slice_index_or tables.now result other) }
+{
+    let name: &[u8] = b"REC_FRT";
+    for (place, table) in tables.iter().enumerate() {
+        if table.name.as_slice() == name {
+            return place;
+        }
+    }
+    unreachable!()
+}
+
+/// The text of the table REC_FRT with the rows at these places.
+fn rows_text(alloc: Global, table: &Table, places: &[u32]) -> Result<Bytes, Memory>
+    requires plain { IsTrue (is_plain_table table.now) }
+    requires within { All (λ place. place < length table.now.rows) places.now }
+    ensures { IfOk result (λ bytes. bytes ≡ text (picked_table table.now places.now ∷ [])) }
+{
+    let table = picked(alloc, table, places)?;
+    write_tables(alloc, &[table])
+}
+
+/// The version, kind and weekday of a day, or why it has none.
+fn day_kind(net: &Network, day: u32) -> Result<DayKind, Status>
+    ensures kind { IfOk result (IsKindOf net.now day) }
+    ensures cause { IfErr result (IsDayRefusal net.now day) }
+{
+    match kind_of(net, day) {
+        Ok(kind) => Ok(kind),
+        Err(fault) => Err(Status::Day(fault)),
+    }
+}
+
+/// The places of the day's trips, of which there are at most 3,000.
+fn day_places(alloc: Global, net: &Network, kind: &DayKind) -> Result<Seq<u32>, Status>
+    requires { length net.now.trips < 2 ^ 32 }
+    ensures rows { IfOk result (AreDayRows net.now.trips kind.now.version kind.now.kind) }
+    ensures within { IfOk result (All (λ place. place < length net.now.trips)) }
+    ensures few { IfOk result (λ places. length places ≤ most_trips) }
+    ensures cause { IfErr result (IsCrowdRefusal net.now.trips kind.now.version kind.now.kind) }
+{
+    let places = day_rows(alloc, net, kind)?;
+    if places.len() > MOST_TRIPS {
+        return Err(Status::Input(InputFault::Trips {
+            count: places.len() as u32,
+        }));
+    }
+    Ok(places)
+}
+
+/// The text of the day's trips, from the tables of all files: REC_FRT with their rows, unchanged, by departure and number.
+///
+/// # Errors
+///
+/// `Input` with the first fault of the tables; then `Day` where the day has no kind; then `Input` with the number of trips where
+/// there are more than 3,000; and `Memory`.
+pub fn trips_text(alloc: Global, tables: &[Table], day: u32) -> Result<Bytes, Status>
+    requires plain { IsTrue (are_plain tables.now) }
+    requires sized { All (λ table. length table.rows < 2 ^ 32) tables.now }
+    ensures written { IfOk result (IsTripsText tables.now day) }
+    ensures cause { IfErr result (IsRefused tables.now day) }
+{
+    let net = network(alloc, tables)?;
+    let kind = day_kind(&net, day)?;
+    let places = day_places(alloc, &net, &kind)?;
+    let table = &tables[trips_place(tables)];
+    Ok(rows_text(alloc, table, places.as_slice())?)
+}

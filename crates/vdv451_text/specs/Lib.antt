@@ -1,0 +1,12 @@
+pub mod Lines
+pub mod Fields
+pub mod Plain
+pub mod Grammar
+pub mod Faults
+pub mod Answers
+pub mod Machine
+pub mod FieldScan
+pub mod LineView
+pub mod FieldView
+pub mod RowView
+pub mod FewFields

@@ -1,0 +1,5 @@
+pub mod Refusals
+pub mod RowSteps
+pub mod FoundLemmas
+pub mod VersionLemmas
+pub mod KeyLemmas

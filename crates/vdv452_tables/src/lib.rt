@@ -1,0 +1,25 @@
+//! Tables after VDV 452 as typed rows, read from text tables.
+//!
+//! Tables and their columns are found by their names; of two columns with one name the first counts,
+//! and what is not named is passed over. The tables that are looked at, their columns, ranges and
+//! keys are data, of which one rule speaks: a row is a map from names to values, and the first fault
+//! is the head of the list of all faults in their order. A `Network` holds the typed rows, with
+//! indexes for its look-ups, none of which takes memory.
+#![tactic(auto)]
+
+mod cell;
+mod fault;
+mod index;
+mod network;
+mod reading;
+mod rows;
+mod schema;
+mod table;
+
+pub use fault::{TableFault, TableKind};
+pub use network::Network;
+pub use reading::{Needs, read_tables};
+pub use rows::{CalendarRow, TripRow, VersionRow};
+
+#[cfg(test)]
+mod tests;
