@@ -1,0 +1,3 @@
+mod Chains
+mod ByValue
+pub mod Fitting

@@ -1,0 +1,9 @@
+pub mod Sums
+pub mod Duality
+pub mod Order
+pub mod Best
+pub mod Counts
+pub mod Labels
+pub mod Values
+pub mod Parts
+pub mod Fits

@@ -1,0 +1,149 @@
+//! Set partitioning, of which block and duty planning are instances: items (trips, or pieces of work), classes with caps (depots, or
+//! groups of drivers), lists of items that have a worth, prices, and plans. Nothing here knows of buses.
+//!
+//! A *column* is a class with a list of items and what it is worth. A *plan* is a list of columns in which each item stands exactly
+//! once and no class has more columns than its cap; it costs the sum of its worths. *Prices*, one for each item and in thousandths of
+//! a cost unit, give each column its *value* (the reduced cost of linear programming). The laws say why a bound that is made of prices
+//! is a bound on every plan.
+#![tactic(auto)]
+
+ghost use Rattle.std.specs.Prelude.{◌≡◌, ◌<◌, ◌≤◌, length, slice_index, ◌*◌, IfOk, IfSome};
+ghost use Rattle.cover_core.specs.Cover.{Problem, AllBelow, Rises};
+ghost use Rattle.cover_core.specs.Plans.{HasListedColumns, cost, price_at};
+ghost use Rattle.cover_core.specs.FirstLeast.{value, AreCheap, AllWithin};
+ghost use Rattle.cover_core.specs.Best.{best_of, within};
+
+mod items;
+mod laws;
+mod marks;
+#[cfg(test)]
+mod tests;
+
+pub use items::Items;
+pub use laws::{backward_order, best_is_first_least, least_is_paid, plan_sizes, weak_duality};
+pub use marks::{Cover, CoverFault, Gap, Mark};
+use plan_core::{Memory, Price, Seq};
+use std::alloc::Global;
+
+/// A list of items of a class, and what it is worth.
+#[derive(Drop)]
+pub struct Column {
+    /// The class, from 0.
+    pub class: u32,
+    /// What the list is worth as a column of the class, in cost units.
+    pub worth: u64,
+    /// The items, which rise by number.
+    pub items: Items,
+}
+
+/// One price for each item.
+#[derive(Drop)]
+pub struct Prices {
+    /// The prices by the items' numbers, in thousandths of a cost unit.
+    pub items: Seq<Price>,
+}
+
+/// A plan, or a part of one.
+#[derive(Drop)]
+pub struct Plan {
+    /// Its columns.
+    pub columns: Seq<Column>,
+}
+
+/// What a list is worth to a pass of the planner.
+#[derive(Clone, Copy, Debug, PartialEq, Eq)]
+pub enum Worth {
+    /// 1, whatever the list: plans are compared by their number of columns.
+    Count,
+    /// Its cost.
+    Cost,
+}
+
+/// The items and classes of a problem, and what lists of items are worth.
+pub trait Columns {
+    ghost problem: { Self → Problem };
+
+    /// How many items there are: at most 3,000.
+    fn items(&self) -> u32
+        ensures value { result ≡ (problem self.now).items }
+        ensures few { result ≤ 3000 };
+
+    /// How many classes there are: at most 32.
+    fn classes(&self) -> u32
+        ensures value { result ≡ length (problem self.now).caps }
+        ensures few { result ≤ 32 };
+
+    /// How many columns of a class a plan may have: at most 10,000.
+    fn cap(&self, class: u32) -> u32
+        requires { class < length (problem self.now).caps }
+        ensures value { result ≡ slice_index (problem self.now).caps class }
+        ensures few { result ≤ 10000 };
+
+    /// What a list is worth as a column of a class, where it is one: at most 4,000,000,000 cost units.
+    fn worth(&self, class: u32, list: &[u32]) -> Option<u64>
+        requires class { class < length (problem self.now).caps }
+        requires items { AllBelow (problem self.now).items list.now }
+        ensures value { result ≡ (problem self.now).worth class list.now }
+        ensures bound { IfSome result (λ worth. worth ≤ 4000000000) };
+
+    /// The law of columns: a list with a worth is not empty and rises, and its items are there.
+    ghost listed: { (s : Self) → HasListedColumns (problem s) };
+}
+
+/// Finds the columns of least value.
+pub trait Pricer: Columns {
+    /// The first least of all lists of the class that have a worth and whose first item is one of 16 * group to 16 * group + 15: the
+    /// column of least value, and of several with that value the one whose list comes first when lists are compared from their last
+    /// items backwards. None where there is no such list or the value is above the limit. `Memory` is the only error.
+    fn best(
+        &self,
+        alloc: Global,
+        class: u32,
+        prices: &Prices,
+        group: u32,
+        limit: i64,
+    ) -> Result<Option<Column>, Memory>
+        requires class { class < length (Self.problem self.now).caps }
+        requires prices { length prices.now.items ≡ (Self.problem self.now).items }
+        requires moderate { AllWithin 10000000000000 prices.now.items }
+        requires group { 16 * group < (Self.problem self.now).items }
+        ensures best { IfOk result (λ answer. answer ≡ within limit prices.now.items (best_of (Self.problem self.now) prices.now.items class group)) }
+        ensures bound { IfOk result (λ answer. IfSome answer (λ column. column.worth ≤ 4000000000)) };
+}
+
+/// What a plan costs, in cost units.
+pub fn plan_cost(plan: &Plan) -> u64
+    requires few { length plan.now.columns ≤ 3000 }
+    requires cheap { AreCheap plan.now.columns }
+    ensures { result ≡ cost plan.now.columns }
+{
+    let mut sum = 0;
+    for column in plan.columns.as_slice() {
+        sum += column.worth;
+    }
+    sum
+}
+
+/// The value of a column, in thousandths of a cost unit: a thousand times its worth, less the prices of its items.
+pub fn value(column: &Column, prices: &Prices) -> i64
+    requires few { length prices.now.items ≤ 3000 }
+    requires moderate { AllWithin 10000000000000 prices.now.items }
+    requires rises { Rises column.now.items }
+    requires items { AllBelow (length prices.now.items) column.now.items }
+    requires cheap { column.now.worth ≤ 4000000000 }
+    ensures { result ≡ value prices.now.items column.now }
+{
+    let mut rest = 1000 * column.worth as i64;
+    for item in column.items.as_slice() {
+        rest -= price(prices, *item);
+    }
+    rest
+}
+
+/// The price of an item.
+fn price(prices: &Prices, item: u32) -> i64
+    requires { item < length prices.now.items }
+    ensures { result ≡ price_at prices.now.items item }
+{
+    prices.items.as_slice()[item as usize].0
+}

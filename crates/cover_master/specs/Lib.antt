@@ -1,0 +1,4 @@
+pub mod Method
+pub mod Fitting
+pub mod Candidates
+pub mod Example

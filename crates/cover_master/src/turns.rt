@@ -1,0 +1,217 @@
+//! Turns: prices rise where the chosen columns cover too little, and fall where they cover too much.
+#![tactic(auto)]
+
+ghost use Rattle.std.specs.Prelude.{◌≡◌, ℕ, ◌<◌, ◌≤◌, ◌+◌, ◌≤ℤ◌, ◌+ℤ◌, ◌-ℤ◌, ◌*ℤ◌, ℤ, pos, neg_ℤ, nat_lt, cond, length, filter, IfOk, OnOk, slice_index, slice_set, vec_len};
+ghost use Rattle.std.specs.List.Sorted.{IsPermutation, IsSortedBy};
+ghost use Rattle.cover_core.specs.FirstLeast.{AllWithin};
+ghost use Rattle.cover_core.specs.Cover.{AllBelow};
+ghost use Rattle.cover_core.specs.Plans.{times, price_at};
+ghost use Rattle.cover_core.specs.Parts.{column_at};
+ghost use Rattle.cover_master.specs.Method.{keys_of, times_chosen, moved_price, turned_prices, clamped};
+ghost use Rattle.cover_core.specs.Fitting.{AreFit};
+ghost use Rattle.cover_master.specs.Candidates.{AreCandidates};
+ghost use Rattle.cover_master.specs.Fitting.{key_cmp, is_before, is_gain};
+
+use crate::clamps::clamp;
+use crate::key::Key;
+use crate::selection::{candidates, limits};
+use cover_core::{Column, Prices, value};
+use plan_core::{Memory, Price, Seq};
+use std::alloc::Global;
+use std::cmp::Ordering;
+
+/// Orders columns by class, value and place.
+fn compare(x: &Key, y: &Key) -> Ordering
+    ensures { result ≡ key_cmp x.now y.now }
+{
+    let within = x.value.cmp(&y.value).then(x.place.cmp(&y.place));
+    x.class.cmp(&y.class).then(within)
+}
+
+/// The columns of value below 0.
+fn gains(alloc: Global, pool: &[Column], prices: &Prices) -> Result<Vec<Key>, Memory>
+    requires pool { length pool.now ≤ 200000 }
+    requires few { length prices.now.items ≤ 3000 }
+    requires moderate { AllWithin 10000000000000 prices.now.items }
+    requires fit { AreFit (length prices.now.items) 32 pool.now }
+    ensures { IfOk result (λ keys. keys.items ≡ filter is_gain (keys_of prices.now.items pool.now)) }
+{
+    let mut keys = Vec::new(alloc);
+    for (place, column) in pool.iter().enumerate() {
+        let key = Key {
+            class: column.class,
+            value: value(column, prices),
+            place: place as u32,
+        };
+        if key.value < 0 {
+            match keys.push(key) {
+                Ok(()) => {}
+                Err(_) => return Err(Memory),
+            }
+        }
+    }
+    Ok(keys)
+}
+
+/// Brings them into order.
+fn sort(keys: &mut Vec<Key>) -> Result<(), Memory>
+    ensures permutation { IsPermutation keys.old.items keys.new.items }
+    ensures sorted { OnOk result (IsSortedBy is_before keys.new.items) }
+{
+    match keys.sort_by(
+        |x: &Key, y: &Key| -> Ordering
+            ensures { result ≡ key_cmp x.now y.now }
+        { compare(x, y) },
+    ) {
+        Ok(()) => Ok(()),
+        Err(_) => Err(Memory),
+    }
+}
+
+/// Counts each item of a list once more.
+fn add_items(cover: &mut Seq<u32>, list: &[u32])
+    requires items { AllBelow (length cover.old) list.now }
+    requires small { (i : ℕ) → slice_index cover.old i ≤ 1000000 }
+    requires short { length list.now ≤ 3000 }
+    ensures added { (i : ℕ) → slice_index cover.new i ≡ slice_index cover.old i + times i list.now }
+    ensures len { length cover.new ≡ length cover.old }
+{
+    for item in list {
+        let count = cover.as_slice()[*item as usize];
+        cover.set(*item as usize, count + 1);
+    }
+}
+
+/// A list of zeros.
+fn zeros(alloc: Global, len: usize) -> Result<Seq<u32>, Memory>
+    ensures len { IfOk result (λ v. length v ≡ len) }
+    ensures zero { IfOk result (λ v. (i : ℕ) → slice_index v i ≡ 0) }
+{
+    match vec![in alloc; 0; len] {
+        Ok(zeros) => Ok(Seq::from_vec(zeros)),
+        Err(_) => Err(Memory),
+    }
+}
+
+/// By how much a turn moves the price of an item that so many chosen columns have.
+fn change(size: i64, times: u32) -> i64
+    requires size_low { pos 0 ≤ℤ size }
+    requires size_high { size ≤ℤ pos 10000000000000 }
+    requires times { times ≤ 200000 }
+    ensures value { result ≡ size *ℤ (pos 1 -ℤ pos times) }
+    ensures low { neg_ℤ (pos 2000000000000000000) ≤ℤ result }
+    ensures high { result ≤ℤ pos 2000000000000000000 }
+{
+    size * (1 - times as i64)
+}
+
+/// The price of such an item after the turn.
+fn moved(price: i64, size: i64, times: u32) -> i64
+    requires low { neg_ℤ (pos 10000000000000) ≤ℤ price }
+    requires high { price ≤ℤ pos 10000000000000 }
+    requires size_low { pos 0 ≤ℤ size }
+    requires size_high { size ≤ℤ pos 10000000000000 }
+    requires times { times ≤ 200000 }
+    ensures { result ≡ clamped (price +ℤ (size *ℤ (pos 1 -ℤ pos times))) }
+{
+    let sum = price + change(size, times);
+    clamp(sum)
+}
+
+/// What one more column adds, where its class has a place left.
+fn walk(pool: &[Column], caps: &[u32], key: Key, cover: &mut Seq<u32>, counts: &mut Seq<u32>)
+    requires class { key.class < length caps.now }
+    requires place { key.place < length pool.now }
+    requires fit { AreFit (length cover.old) (length caps.now) pool.now }
+    requires few { length cover.old ≤ 3000 }
+    requires counts { length counts.old ≡ length caps.now }
+    requires small { (i : ℕ) → slice_index cover.old i ≤ 1000000 }
+    requires low { (i : ℕ) → slice_index counts.old i ≤ 1000000 }
+    ensures counted { counts.new ≡ slice_set counts.old key.class (slice_index counts.old key.class + 1) }
+    ensures covered { (i : ℕ) → slice_index cover.new i ≡ slice_index cover.old i + cond (nat_lt (slice_index counts.old key.class) (slice_index caps.now key.class)) (times i (column_at pool.now key.place).items) 0 }
+    ensures len { length cover.new ≡ length cover.old }
+{
+    let class = key.class as usize;
+    let count = counts.as_slice()[class];
+    if count < caps[class] {
+        add_items(cover, pool[key.place as usize].items.as_slice());
+    }
+    counts.set(class, count + 1);
+}
+
+/// How often each item stands in chosen columns.
+fn cover(
+    alloc: Global,
+    pool: &[Column],
+    prices: &Prices,
+    caps: &[u32],
+    keys: &[Key],
+) -> Result<Seq<u32>, Memory>
+    requires pool { length pool.now ≤ 200000 }
+    requires few { length prices.now.items ≤ 3000 }
+    requires fit { AreFit (length prices.now.items) (length caps.now) pool.now }
+    requires all { AreCandidates prices.now.items pool.now caps.now keys.now }
+    requires sorted { IsSortedBy is_before keys.now }
+    ensures len { IfOk result (λ v. length v ≡ length prices.now.items) }
+    ensures times { IfOk result (λ v. (i : ℕ) → slice_index v i ≡ times_chosen pool.now prices.now.items caps.now i) }
+    ensures few { IfOk result (λ v. (i : ℕ) → slice_index v i ≤ 200000) }
+{
+    let mut cover = zeros(alloc, prices.items.len())?;
+    let mut counts = zeros(alloc, caps.len())?;
+    for key in keys {
+        walk(pool, caps, *key, &mut cover, &mut counts);
+    }
+    Ok(cover)
+}
+
+/// The prices after a turn of a size, from 0 to 10,000,000,000,000. Chosen are, of each class, the first cap columns of the pool by value
+/// and then by place, of those whose value is below 0. Each item's price rises by the size times one less the number of chosen columns
+/// that have the item. All values are those before the turn. The pool has at most 200,000 columns, each of which rises, has items that
+/// there are, is worth at most 4,000,000,000 and is of a class that there is. `Memory` is the only error.
+pub fn turn(
+    alloc: Global,
+    pool: &[Column],
+    prices: &Prices,
+    caps: &[u32],
+    size: i64,
+) -> Result<Prices, Memory>
+    requires pool { length pool.now ≤ 200000 }
+    requires few { length prices.now.items ≤ 3000 }
+    requires moderate { AllWithin 10000000000000 prices.now.items }
+    requires classes { length caps.now ≤ 32 }
+    requires fit { AreFit (length prices.now.items) (length caps.now) pool.now }
+    requires size_low { pos 0 ≤ℤ size }
+    requires size_high { size ≤ℤ pos 10000000000000 }
+    ensures turned { IfOk result (λ new. new.items ≡ turned_prices pool.now prices.now.items caps.now size) }
+    ensures moderate { IfOk result (λ new. AllWithin 10000000000000 new.items) }
+{
+    let gains = gains(alloc, pool, prices)?;
+    let limits = limits(alloc, gains.as_slice(), caps)?;
+    let mut keys = candidates(alloc, gains.as_slice(), limits.as_slice())?;
+    sort(&mut keys)?;
+    let cover = cover(alloc, pool, prices, caps, keys.as_slice())?;
+    let items = moved_prices(alloc, prices, cover.as_slice(), size)?;
+    Ok(Prices { items })
+}
+
+/// The prices of all items after a turn, where cover tells how many chosen columns have each item.
+fn moved_prices(
+    alloc: Global,
+    prices: &Prices,
+    cover: &[u32],
+    size: i64,
+) -> Result<Seq<Price>, Memory>
+    requires moderate { AllWithin 10000000000000 prices.now.items }
+    requires len { length cover.now ≡ length prices.now.items }
+    requires few { (i : ℕ) → slice_index cover.now i ≤ 200000 }
+    requires size_low { pos 0 ≤ℤ size }
+    requires size_high { size ≤ℤ pos 10000000000000 }
+    ensures len { IfOk result (λ new. length new ≡ length prices.now.items) }
+    ensures moved { IfOk result (λ new. (item : ℕ) → item < length prices.now.items → price_at new item ≡ moved_price prices.now.items size cover.now item) }
+{
+    let mut new = Seq::new(alloc);
+    for (item, price) in prices.items.as_slice().iter().enumerate() {
+        new.push(Price(moved(price.0, size, cover[item])))?;
+    }
+    Ok(new)
+}
