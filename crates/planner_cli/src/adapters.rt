@@ -3,6 +3,7 @@
 ghost use Rattle.std.specs.Prelude.{◌≡◌, None};
 ghost use Rattle.std.specs.Io.{ReadsAtMost};
 
+use crate::transfer::zeros;
 use plan_core::{Bytes, Failed, Memory, Sink};
 use std::alloc::Global;
 use std::env::{Env, FillError};
@@ -119,11 +120,6 @@ impl<W: Write + Drop> Sink for Stream<W> {
             }
         }
     }
-}
-
-/// Bytes of that many zeros.
-fn zeros(alloc: Global, count: usize) -> Result<Vec<u8>, Memory> {
-    Ok(vec![in alloc; 0u8; count]?)
 }
 
 /// The word of a number, where 0 is the program's name, and none behind the last one.

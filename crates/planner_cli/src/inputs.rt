@@ -19,7 +19,7 @@ const MOST: u64 = 67_108_864;
 
 /// One file: how many bytes it has, and its tables.
 #[derive(Drop)]
-pub struct FileTables {
+struct FileTables {
     length: u64,
     tables: Vec<Table>,
 }

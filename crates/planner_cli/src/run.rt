@@ -53,6 +53,7 @@ pub fn run<R: Threads + Sync, F: Files, O: Sink, E: Sink, G: Gate + Sync>(
     ensures ok { result ≡ Status.Ok → IfSome (held_under (F.held files.old) (names_of words.now)) (λ contents. IfSome (O.taken out.old) (TakesAnswer contents (day_of words.now) (O.taken out.new))) }
     ensures front { result ≡ Status.WriteFault → IfSome (held_under (F.held files.old) (names_of words.now)) (λ contents. IfSome (O.taken out.old) (TakesFrontOfAnswer contents (day_of words.now) (O.taken out.new))) }
     ensures nothing { result ≢ Status.Ok → result ≢ Status.WriteFault → out.new ≡ out.old }
+    ensures silent { err.new ≡ err.old }
 
     // Where no count rises, what the files call for is answered, or want of memory.
     ensures refused { (status : RunStatus) → are_trips_words words.now ≡ true → IsSomeAnd (held_under (F.held files.old) (names_of words.now)) (λ contents. IsTripsRefusal contents (day_of words.now) status)

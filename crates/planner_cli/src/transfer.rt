@@ -28,7 +28,8 @@ impl From<AllocError> for ReadRefusal {
 /// How many bytes a read asks for.
 const PIECE: usize = 65_536;
 
-fn zeros(alloc: Global, count: usize) -> Result<Vec<u8>, AllocError>
+/// Bytes of that many zeros.
+pub fn zeros(alloc: Global, count: usize) -> Result<Vec<u8>, AllocError>
     ensures { IfOk result (λ zeros. vec_len zeros ≡ count) }
 {
     vec![in alloc; 0u8; count]
