@@ -1,7 +1,10 @@
 pub mod AnswerLemmas
 pub mod FileLemmas
 pub mod InputLemmas
+pub mod LineLemmas
 pub mod Outcomes
 pub mod PieceLemmas
+pub mod RequestLemmas
 pub mod RunLemmas
 pub mod TripLemmas
+pub mod WordLemmas

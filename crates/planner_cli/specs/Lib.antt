@@ -4,3 +4,4 @@ pub mod Run
 pub mod Taken
 pub mod Trips
 pub mod Words
+pub mod Lines

@@ -1,37 +1,52 @@
 -- What the top call answers, from the words, from what the files hold and from the counts of faults.
-use Rattle.std.specs.Prelude.{◌≡◌, ℕ, List, ◌++◌, Option, Some, IfSome}
+use Rattle.std.specs.Prelude.{◌≡◌, ℕ, ◌⊎◌, List, ◌++◌, Option, Some, IfSome}
 use Rattle.plan_core.specs.Outside.{Rose}
 use Rattle.vdv451_text.specs.declared.table.Table.{Table}
 use Rattle.planner_cli.specs.declared.status.Status.{Status}
 use Rattle.planner_cli.specs.declared.status.Status.TheVariants as statuses
 use Rattle.planner_cli.specs.declared.status.InputFault.TheVariants as inputs
-use Rattle.planner_cli.specs.Inputs.{HasTextFault, SpellTables, most_bytes}
+use Rattle.planner_cli.specs.Inputs.{HasTextFault, SpellTables, held_under, most_bytes}
 use Rattle.planner_cli.specs.Taken.{TakesFront}
 use Rattle.planner_cli.specs.Trips.{IsDayCause, IsTripsText}
+use Rattle.planner_cli.specs.declared.words.Command.{Command}
+use Rattle.planner_cli.specs.declared.words.Command.TheVariants.{Trips}
+use Rattle.planner_cli.specs.declared.words.Request.{Request}
 
--- the bytes are the text of the day's trips, from the tables that the files spell
-pub record IsTripsAnswer (contents : List (List ℕ)) (day : ℕ) (bytes : List ℕ) : Type 0 where
+-- the text that a command writes of the tables, for a day
+abbrev pub IsText : Command → List Table → ℕ → List ℕ → Type 0
+IsText Trips tables day bytes = IsTripsText tables day bytes
+
+-- why a command refuses the tables, for a day
+abbrev pub IsCause : Command → List Table → ℕ → Status → Type 0
+IsCause Trips tables day status = IsDayCause tables day status
+
+-- memory ran out, or the command refuses the tables for the day
+abbrev pub IsRefused : Command → List Table → ℕ → Status → Type 0
+IsRefused command tables day status = (status ≡ statuses.Memory) ⊎ IsCause command tables day status
+
+-- the bytes are the command's text, from the tables that the files spell
+pub record IsAnswer (command : Command) (contents : List (List ℕ)) (day : ℕ) (bytes : List ℕ) : Type 0 where
   pub tables : List Table
   pub spelled : SpellTables most_bytes contents tables
-  pub written : IsTripsText tables day bytes
+  pub written : IsText command tables day bytes
 
 -- the files spell tables that are refused for the day with this status
-pub record IsTablesRefusal (contents : List (List ℕ)) (day : ℕ) (status : Status) : Type 0 where
+pub record IsTablesRefusal (command : Command) (contents : List (List ℕ)) (day : ℕ) (status : Status) : Type 0 where
   pub tables : List Table
   pub spelled : SpellTables most_bytes contents tables
-  pub cause : IsDayCause tables day status
+  pub cause : IsCause command tables day status
 
--- what refuses `trips`, where the files hold these contents: the first fault of their texts, or else a cause in their tables
-abbrev pub IsTripsRefusal : List (List ℕ) → ℕ → Status → Type 0
-IsTripsRefusal contents day (statuses.Input (inputs.Text file fault)) = HasTextFault 1 most_bytes contents file fault.line fault.kind
-IsTripsRefusal contents day (statuses.Input (inputs.Table fault)) = IsTablesRefusal contents day (statuses.Input (inputs.Table fault))
-IsTripsRefusal contents day (statuses.Input (inputs.Trips count)) = IsTablesRefusal contents day (statuses.Input (inputs.Trips count))
-IsTripsRefusal contents day (statuses.Day fault) = IsTablesRefusal contents day (statuses.Day fault)
-IsTripsRefusal contents day statuses.Memory = ⊥
-IsTripsRefusal contents day statuses.Ok = ⊥
-IsTripsRefusal contents day statuses.Usage = ⊥
-IsTripsRefusal contents day (statuses.ReadFault file) = ⊥
-IsTripsRefusal contents day statuses.WriteFault = ⊥
+-- what refuses a command, where the files hold these contents: the first fault of their texts, or else a cause in their tables
+abbrev pub IsRefusal : Command → List (List ℕ) → ℕ → Status → Type 0
+IsRefusal command contents day (statuses.Input (inputs.Text file fault)) = HasTextFault 1 most_bytes contents file fault.line fault.kind
+IsRefusal command contents day (statuses.Input (inputs.Table fault)) = IsTablesRefusal command contents day (statuses.Input (inputs.Table fault))
+IsRefusal command contents day (statuses.Input (inputs.Trips count)) = IsTablesRefusal command contents day (statuses.Input (inputs.Trips count))
+IsRefusal command contents day (statuses.Day fault) = IsTablesRefusal command contents day (statuses.Day fault)
+IsRefusal command contents day statuses.Memory = ⊥
+IsRefusal command contents day statuses.Ok = ⊥
+IsRefusal command contents day statuses.Usage = ⊥
+IsRefusal command contents day (statuses.ReadFault file) = ⊥
+IsRefusal command contents day statuses.WriteFault = ⊥
 
 -- why there is no text: a refusal, or a count of faults that rose; want of memory needs no cause
 abbrev pub IsAnswerCause : (Status → Type 0) → (ℕ → Type 0) → Status → Type 0
@@ -44,15 +59,15 @@ IsAnswerCause refusal read_fault statuses.Usage = ⊥
 IsAnswerCause refusal read_fault statuses.WriteFault = ⊥
 
 -- the whole text was added to what was taken before
-pub record TakesAnswer (contents : List (List ℕ)) (day : ℕ) (taken : Option (List ℕ)) (old : List ℕ) : Type 0 where
+pub record TakesAnswer (command : Command) (contents : List (List ℕ)) (day : ℕ) (taken : Option (List ℕ)) (old : List ℕ) : Type 0 where
   pub bytes : List ℕ
-  pub answer : IsTripsAnswer contents day bytes
+  pub answer : IsAnswer command contents day bytes
   pub whole : taken ≡ Some (old ++ bytes)
 
 -- a front of the text was added
-pub record TakesFrontOfAnswer (contents : List (List ℕ)) (day : ℕ) (taken : Option (List ℕ)) (old : List ℕ) : Type 0 where
+pub record TakesFrontOfAnswer (command : Command) (contents : List (List ℕ)) (day : ℕ) (taken : Option (List ℕ)) (old : List ℕ) : Type 0 where
   pub bytes : List ℕ
-  pub answer : IsTripsAnswer contents day bytes
+  pub answer : IsAnswer command contents day bytes
   pub front : TakesFront old taken bytes
 
 -- a text is written whole, or a front of it and then the count of faults rose
@@ -64,3 +79,7 @@ IsWritten old new faults_before faults_now text statuses.Memory = ⊥
 IsWritten old new faults_before faults_now text (statuses.Input fault) = ⊥
 IsWritten old new faults_before faults_now text (statuses.Day fault) = ⊥
 IsWritten old new faults_before faults_now text (statuses.ReadFault file) = ⊥
+
+-- what the files named by a request hold, where all of them tell it
+abbrev pub told : (List ℕ → Option (List ℕ)) → Request → Option (List (List ℕ))
+told held request = held_under held request.names

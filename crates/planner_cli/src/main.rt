@@ -4,6 +4,7 @@
 mod adapters;
 mod answer;
 mod inputs;
+mod lines;
 mod run;
 mod status;
 #[cfg(test)]

@@ -9,7 +9,6 @@ use std::alloc::Global;
 use std::test::Fail;
 use std::thread::Threads;
 use vdv451_text::TextKind;
-use vdv452_tables::TableKind;
 
 const CALENDAR: &str =
     "mod; DD.MM.YYYY; HH:MM:SS; free\nsrc; \"demo\"; \"01.01.2000\"; \"00:00:00\"\nchs; \"ISO8859-1\"\nver; \"1.4\"\nifv; \"1.4\"\ndve; \"1.4\"\nfft; \"\"\ntbl; BASIS_VER_GUELTIGKEIT\natr; VER_GUELTIGKEIT; BASIS_VERSION\nfrm; num[10.0]; num[10.0]\nrec; 20260101; 1\nend; 1\ntbl; FIRMENKALENDER\natr; BASIS_VERSION; BETRIEBSTAG; TAGESART_NR\nfrm; num[10.0]; num[10.0]; num[10.0]\nrec; 1; 20260302; 1\nend; 1\n";
@@ -23,7 +22,20 @@ const FIRST_EMPTY: &str = "rec; 1; 1; 28800; 1; 1; 2; 1; \"H\"; NULL\n";
 
 const SECOND: &str = "rec; 1; 2; 33000; 1; 1; 1; 1; \"R\"; NULL\n";
 
+const SECOND_LATE: &str = "rec; 1; 2; 172801; 1; 1; 1; 1; \"R\"; NULL\n";
+
 const SECOND_TIMELESS: &str = "rec; 1; 2; ; 1; 1; 1; 1; \"R\"; NULL\n";
+
+/// The rows of two files, the first and the second table of the calendar.
+const VERSIONS_FILE: &str =
+    "tbl; BASIS_VER_GUELTIGKEIT\natr; VER_GUELTIGKEIT; BASIS_VERSION\nfrm; num[10.0]; num[10.0]\nrec;   20260101 ;\t1\nend; 1\neof; 1\n";
+
+const DAYS_FILE: &str =
+    "tbl; FIRMENKALENDER\natr; BASIS_VERSION; BETRIEBSTAG; TAGESART_NR\nfrm; num[10.0]; num[10.0]; num[10.0]\nrec; 1; 20260302; 1\nend; 1\neof; 1\n";
+
+const FIRST_BLANK: &str = "rec; 1; 1; 28800; 1; 1; 1; 1; \"H\"; \n";
+
+const SECOND_BLANK: &str = "rec;1;2 ; 33000;1;1;1;1;\"R\";\n";
 
 const WRITTEN_HEAD: &str =
     "mod; DD.MM.YYYY; HH:MM:SS; free\nsrc; \"planner\"; \"01.01.2000\"; \"00:00:00\"\nchs; \"ISO8859-1\"\nver; \"1.4\"\nifv; \"1.4\"\ndve; \"1.4\"\nfft; \"\"\n";
@@ -47,14 +59,28 @@ fn numbers(alloc: Global, list: &[u64]) -> Result<Seq<u64>, Fail> {
     Ok(Seq::from_vec(list.to_vec(alloc)?))
 }
 
-fn file(alloc: Global, bytes: Bytes) -> Result<MemFile, Fail>
+fn file(alloc: Global, name: &str, bytes: Bytes) -> Result<MemFile, Fail>
     ensures { IfOk result (λ file. file.faults ≡ 0) }
 {
     Ok(MemFile {
-        name: Bytes::from_vec(b"f".to_vec(alloc)?),
+        name: Bytes::from_vec(name.as_bytes().to_vec(alloc)?),
         bytes,
         faults: 0,
     })
+}
+
+fn sink(alloc: Global, most: u64, fails: &[u64]) -> Result<MemSink, Fail> {
+    let most = most.max(1);
+    Ok(MemSink::new(alloc, 10_000, most, numbers(alloc, fails)?).map_err(|_| "memory")?)
+}
+
+/// The words, each as its bytes.
+fn listed(alloc: Global, words: &[&str]) -> Result<Vec<Bytes>, Fail> {
+    let mut list = Vec::new(alloc);
+    for word in words {
+        list.push(Bytes::from_vec(word.as_bytes().to_vec(alloc)?))?;
+    }
+    Ok(list)
 }
 
 /// Runs the words over the one file `f`, whose reads of the listed numbers fail.
@@ -65,35 +91,23 @@ fn run_on<R: Threads + Sync>(
     bytes: Bytes,
     read_fails: &[u64],
     out: &mut MemSink,
+    err: &mut MemSink,
 ) -> Result<Status, Fail> {
-    let mut list = Vec::new(alloc);
-    for word in words {
-        list.push(Bytes::from_vec(word.as_bytes().to_vec(alloc)?))?;
-    }
+    let list = listed(alloc, words)?;
     let mut files = MemFiles::new(
-        Seq::from_vec(vec![in alloc; file(alloc, bytes)?]?),
+        Seq::from_vec(vec![in alloc; file(alloc, "f", bytes)?]?),
         numbers(alloc, read_fails)?,
     );
-    let mut err = MemSink::new(alloc, 1_000, 1_000, Seq::new(alloc)).map_err(|_| "memory")?;
-    Ok(run(
-        rt,
-        alloc,
-        list.as_slice(),
-        &mut files,
-        out,
-        &mut err,
-        &NoGate,
-    ))
-}
-
-fn sink(alloc: Global, most: u64, fails: &[u64]) -> Result<MemSink, Fail> {
-    let most = most.max(1);
-    Ok(MemSink::new(alloc, 10_000, most, numbers(alloc, fails)?).map_err(|_| "memory")?)
+    Ok(run(rt, alloc, list.as_slice(), &mut files, out, err, &NoGate))
 }
 
 const DAY: [&str; 3] = ["trips", "20260302", "f"];
 
-/// Whether a file of these texts is answered by these ones, written with CR LF.
+const BOTH: [&str; 5] = [CALENDAR, TRIPS_HEAD, FIRST, SECOND, "end; 2\neof; 3\n"];
+
+const BOTH_WRITTEN: [&str; 5] = [WRITTEN_HEAD, TRIPS_HEAD, FIRST, SECOND, "end; 2\neof; 1\n"];
+
+/// Whether a file of these texts is answered by these ones, written with CR LF, and nothing is said on standard error.
 fn is_listed<R: Threads + Sync>(
     rt: &R,
     alloc: Global,
@@ -102,22 +116,33 @@ fn is_listed<R: Threads + Sync>(
     written: &[&str],
 ) -> Result<bool, Fail> {
     let mut out = sink(alloc, 10_000, &[])?;
-    let status = run_on(
-        rt,
-        alloc,
-        &DAY,
-        joined(alloc, texts, line_end)?,
-        &[],
-        &mut out,
-    )?;
+    let mut err = sink(alloc, 10_000, &[])?;
+    let bytes = joined(alloc, texts, line_end)?;
+    let status = run_on(rt, alloc, &DAY, bytes, &[], &mut out, &mut err)?;
     let want = joined(alloc, written, b"\r\n")?;
-    Ok(status.code() == 0 && out.taken() == want.as_slice())
+    Ok(status.code() == 0 && (out.taken() == want.as_slice() && err.taken().is_empty()))
+}
+
+/// Whether a file of these texts is refused with this status number and this line, and nothing is written.
+fn is_refused<R: Threads + Sync>(
+    rt: &R,
+    alloc: Global,
+    words: &[&str],
+    texts: &[&str],
+    code: u8,
+    line: &str,
+) -> Result<bool, Fail> {
+    let mut out = sink(alloc, 10_000, &[])?;
+    let mut err = sink(alloc, 7, &[])?;
+    let bytes = joined(alloc, texts, b"\n")?;
+    let status = run_on(rt, alloc, words, bytes, &[], &mut out, &mut err)?;
+    let is_told = err.taken() == line.as_bytes();
+    Ok(status.code() == code && (is_told && out.taken().is_empty()))
 }
 
 #[test]
 fn the_rows_of_a_day_are_listed(rt: HostRuntime) -> Result<(), Fail> {
     let alloc = rt.alloc();
-    let both = [CALENDAR, TRIPS_HEAD, FIRST, SECOND, "end; 2\neof; 3\n"];
     let one = [
         CALENDAR,
         TRIPS_HEAD,
@@ -125,58 +150,122 @@ fn the_rows_of_a_day_are_listed(rt: HostRuntime) -> Result<(), Fail> {
         SECOND,
         "end; 2\neof; 3\n",
     ];
-    let both_written = [WRITTEN_HEAD, TRIPS_HEAD, FIRST, SECOND, "end; 2\neof; 1\n"];
     let one_written = [WRITTEN_HEAD, TRIPS_HEAD, SECOND, "end; 1\neof; 1\n"];
-    assert!(rt; is_listed(&rt, alloc, &both, b"\n", &both_written)?);
+    assert!(rt; is_listed(&rt, alloc, &BOTH, b"\n", &BOTH_WRITTEN)?);
     assert!(rt; is_listed(&rt, alloc, &one, b"\n", &one_written)?);
-    assert!(rt; is_listed(&rt, alloc, &both, b"\r\n", &both_written)?);
+    assert!(rt; is_listed(&rt, alloc, &BOTH, b"\r\n", &BOTH_WRITTEN)?);
     Ok(())
 }
 
 #[test]
-fn refusals_have_their_status(rt: HostRuntime) -> Result<(), Fail> {
+fn tables_may_lie_in_several_files(rt: HostRuntime) -> Result<(), Fail> {
     let alloc = rt.alloc();
-    let both = [CALENDAR, TRIPS_HEAD, FIRST, SECOND, "end; 2\neof; 3\n"];
-    let rows: [(&[&str], &[u64], &[u64], u8); 9] = [
-        (&["trips", "20260302"], &[], &[], 2),
-        (&["trips", "2026030a", "f"], &[], &[], 2),
-        (&["trips", "20260302", "-f"], &[], &[], 2),
-        (&["trips", "20260301", "f"], &[], &[], 4),
-        (&["trips", "20251231", "f"], &[], &[], 4),
-        (&["trips", "20260230", "f"], &[], &[], 4),
-        (&DAY, &[1], &[], 7),
-        (&["trips", "20260302", "g"], &[], &[], 7),
-        (&DAY, &[], &[1], 8),
+    let trips = [TRIPS_HEAD, FIRST_BLANK, SECOND_BLANK, "end; 2\neof; 1\n"];
+    let mut files = MemFiles::new(
+        Seq::from_vec(vec![in alloc;
+            file(alloc, "versions", joined(alloc, &[VERSIONS_FILE], b"\n")?)?,
+            file(alloc, "days", joined(alloc, &[DAYS_FILE], b"\r\n")?)?,
+            file(alloc, "trips", joined(alloc, &trips, b"\n")?)?,
+        ]?),
+        Seq::new(alloc),
+    );
+    let words = listed(
+        alloc,
+        &["trips", "20260302", "versions", "--", "days", "trips"],
+    )?;
+    let mut out = sink(alloc, 10_000, &[])?;
+    let mut err = sink(alloc, 10_000, &[])?;
+    let status = run(
+        &rt,
+        alloc,
+        words.as_slice(),
+        &mut files,
+        &mut out,
+        &mut err,
+        &NoGate,
+    );
+    let want = joined(alloc, &BOTH_WRITTEN, b"\r\n")?;
+    assert_eq!(rt; status.code(), 0);
+    assert!(rt; out.taken() == want.as_slice());
+    let twice = listed(
+        alloc,
+        &["trips", "20260302", "versions", "days", "trips", "trips"],
+    )?;
+    let status = run(
+        &rt,
+        alloc,
+        twice.as_slice(),
+        &mut files,
+        &mut out,
+        &mut err,
+        &NoGate,
+    );
+    assert_eq!(rt; status.code(), 3);
+    assert!(rt; err.taken() == b"table REC_FRT column  row 0: TableTwice\n".as_slice());
+    Ok(())
+}
+
+const USAGE: &str = "usage: planner trips|day|plan|certify|check|make\n";
+
+#[test]
+fn the_words_have_a_grammar(rt: HostRuntime) -> Result<(), Fail> {
+    let alloc = rt.alloc();
+    let rows: [(&[&str], u8, &str); 14] = [
+        (&["trips", "20260302"], 2, USAGE),
+        (&["trips", "2026030a", "f"], 2, USAGE),
+        (&["trips", "20260302", "-f"], 2, USAGE),
+        (&["trips", "20260302", "--rounds", "5", "f"], 2, USAGE),
+        (&["trips", "20260302", ""], 2, USAGE),
+        (&["trips", "20260302", "--"], 2, USAGE),
+        (&["--", "trips", "20260302", "f"], 2, USAGE),
+        (&[], 2, USAGE),
+        (&["trips", "20260302", "-"], 7, "read fault: file 1\n"),
+        (
+            &["trips", "20260302", "f", "--", "-f"],
+            7,
+            "read fault: file 2\n",
+        ),
+        (
+            &["trips", "20260302", "--", "--"],
+            7,
+            "read fault: file 1\n",
+        ),
+        (&["trips", "20260301", "f"], 4, "day 20260301: NoDay\n"),
+        (
+            &["trips", "--", "00251231", "f"],
+            4,
+            "day 00251231: NoVersion\n",
+        ),
+        (
+            &["trips", "20260230", "--", "f"],
+            4,
+            "day 20260230: NoDate\n",
+        ),
     ];
-    for (words, read_fails, write_fails, code) in rows {
-        let mut out = sink(alloc, 10_000, write_fails)?;
-        let status = run_on(
-            &rt,
-            alloc,
-            words,
-            joined(alloc, &both, b"\n")?,
-            read_fails,
-            &mut out,
-        )?;
-        assert_eq!(rt; status.code(), code, "{status:?}");
-        assert!(rt; out.taken().is_empty());
+    for (words, code, line) in rows {
+        assert!(rt; is_refused(&rt, alloc, words, &BOTH, code, line)?, "{line}");
     }
+    Ok(())
+}
+
+#[test]
+fn files_are_few(rt: HostRuntime) -> Result<(), Fail> {
+    let alloc = rt.alloc();
+    let mut words = vec![in alloc; "trips", "20260302"]?;
+    words.resize(66, "f")?;
+    let twice = "table BASIS_VER_GUELTIGKEIT column  row 0: TableTwice\n";
+    assert!(rt; is_refused(&rt, alloc, words.as_slice(), &BOTH, 3, twice)?);
+    words.push("f")?;
+    assert!(rt; is_refused(&rt, alloc, words.as_slice(), &BOTH, 2, USAGE)?);
     Ok(())
 }
 
 #[test]
 fn faults_of_the_input_are_named(rt: HostRuntime) -> Result<(), Fail> {
     let alloc = rt.alloc();
-    let mut out = sink(alloc, 10_000, &[])?;
-    let missing = joined(alloc, &[CALENDAR, "eof; 2\n"], b"\n")?;
-    match run_on(&rt, alloc, &DAY, missing, &[], &mut out)? {
-        Status::Input(InputFault::Table(fault)) => {
-            assert_eq!(rt; fault.kind, TableKind::NoTable);
-            assert_eq!(rt; fault.table.as_slice(), b"REC_FRT".as_slice());
-            assert_eq!(rt; fault.row, 0);
-        }
-        other => panic!(rt; "{other:?}"),
-    }
+    let missing = [CALENDAR, "eof; 2\n"];
+    let no_table = "table REC_FRT column  row 0: NoTable\n";
+    assert!(rt; is_refused(&rt, alloc, &DAY, &missing, 3, no_table)?);
     let timeless = [
         CALENDAR,
         TRIPS_HEAD,
@@ -184,58 +273,107 @@ fn faults_of_the_input_are_named(rt: HostRuntime) -> Result<(), Fail> {
         SECOND_TIMELESS,
         "end; 2\neof; 3\n",
     ];
-    match run_on(
-        &rt,
-        alloc,
-        &DAY,
-        joined(alloc, &timeless, b"\n")?,
-        &[],
-        &mut out,
-    )? {
-        Status::Input(InputFault::Table(fault)) => {
-            assert_eq!(rt; fault.kind, TableKind::NoValue);
-            assert_eq!(rt; fault.column.as_slice(), b"FRT_START".as_slice());
-            assert_eq!(rt; fault.row, 2);
-        }
-        other => panic!(rt; "{other:?}"),
-    }
+    let no_value = "table REC_FRT column FRT_START row 2: NoValue\n";
+    assert!(rt; is_refused(&rt, alloc, &DAY, &timeless, 3, no_value)?);
+    let late = [CALENDAR, TRIPS_HEAD, FIRST, SECOND_LATE, "end; 2\neof; 3\n"];
+    let range = "table REC_FRT column FRT_START row 2: Range\n";
+    assert!(rt; is_refused(&rt, alloc, &DAY, &late, 3, range)?);
     let wrong_end = [CALENDAR, TRIPS_HEAD, FIRST, SECOND, "end; 3\neof; 3\n"];
-    match run_on(
+    assert!(rt;
+        is_refused(
+            &rt,
+            alloc,
+            &DAY,
+            &wrong_end,
+            3,
+            "file 1 line 23: EndCount\n"
+        )?
+    );
+    Ok(())
+}
+
+/// The digits of a number below 10,000.
+fn digits(number: u32) -> [u8; 4] {
+    let place = |unit: u32| b'0' + (number / unit % 10) as u8;
+    [place(1_000), place(100), place(10), place(1)]
+}
+
+#[test]
+fn a_day_has_at_most_3000_trips(rt: HostRuntime) -> Result<(), Fail> {
+    let alloc = rt.alloc();
+    let mut text = joined(alloc, &[CALENDAR, TRIPS_HEAD], b"\n")?.into_vec();
+    for number in 1..3_002u32 {
+        text.extend_from_slice(b"rec; 1; ")?;
+        text.extend_from_slice(&digits(number))?;
+        text.extend_from_slice(b"; 28800; 1; 1; 1; 1; \"H\"; NULL\n")?;
+    }
+    text.extend_from_slice(b"end; 3001\neof; 3\n")?;
+    let mut out = sink(alloc, 10_000, &[])?;
+    let mut err = sink(alloc, 10_000, &[])?;
+    let status = run_on(
         &rt,
         alloc,
         &DAY,
-        joined(alloc, &wrong_end, b"\n")?,
+        Bytes::from_vec(text),
         &[],
         &mut out,
-    )? {
-        Status::Input(InputFault::Text { file, fault }) => {
-            assert_eq!(rt; file, 1);
-            assert_eq!(rt; fault.line, 23);
-            assert_eq!(rt; fault.kind, TextKind::EndCount);
-        }
-        other => panic!(rt; "{other:?}"),
-    }
+        &mut err,
+    )?;
+    assert_eq!(rt; status.code(), 3);
+    assert!(rt; err.taken() == b"trips: 3001\n".as_slice());
     assert!(rt; out.taken().is_empty());
+    Ok(())
+}
+
+#[test]
+fn reads_that_fail_are_answered(rt: HostRuntime) -> Result<(), Fail> {
+    let alloc = rt.alloc();
+    let rows: [(&[u64], u8); 3] = [(&[1], 7), (&[2], 7), (&[3], 0)];
+    for (fails, code) in rows {
+        let mut out = sink(alloc, 10_000, &[])?;
+        let mut err = sink(alloc, 10_000, &[])?;
+        let bytes = joined(alloc, &BOTH, b"\n")?;
+        let status = run_on(&rt, alloc, &DAY, bytes, fails, &mut out, &mut err)?;
+        assert_eq!(rt; status.code(), code);
+        assert!(rt; out.taken().is_empty() == (code == 7));
+    }
     Ok(())
 }
 
 #[test]
 fn a_write_that_fails_leaves_a_front(rt: HostRuntime) -> Result<(), Fail> {
     let alloc = rt.alloc();
-    let both = [CALENDAR, TRIPS_HEAD, FIRST, SECOND, "end; 2\neof; 3\n"];
-    let written = [WRITTEN_HEAD, TRIPS_HEAD, FIRST, SECOND, "end; 2\neof; 1\n"];
-    let whole = joined(alloc, &written, b"\r\n")?;
-    let mut out = sink(alloc, 100, &[3])?;
-    let status = run_on(
-        &rt,
-        alloc,
-        &DAY,
-        joined(alloc, &both, b"\n")?,
-        &[],
-        &mut out,
-    )?;
-    assert_eq!(rt; status.code(), 8);
-    assert_eq!(rt; out.taken().len(), 200);
-    assert!(rt; whole.as_slice().starts_with(out.taken()));
+    let whole = joined(alloc, &BOTH_WRITTEN, b"\r\n")?;
+    let calls = whole.len().div_ceil(100);
+    for call in 1..(calls + 1) as u64 {
+        let mut out = sink(alloc, 100, &[call])?;
+        let mut err = sink(alloc, 10_000, &[])?;
+        let bytes = joined(alloc, &BOTH, b"\n")?;
+        let status = run_on(&rt, alloc, &DAY, bytes, &[], &mut out, &mut err)?;
+        assert_eq!(rt; status.code(), 8);
+        assert!(rt; out.taken().len() as u64 + 100 == 100 * call);
+        assert!(rt; whole.as_slice().starts_with(out.taken()));
+        assert!(rt; err.taken() == b"write fault\n".as_slice());
+    }
+    Ok(())
+}
+
+#[test]
+fn a_line_that_fails_changes_no_status(rt: HostRuntime) -> Result<(), Fail> {
+    let alloc = rt.alloc();
+    let mut out = sink(alloc, 10_000, &[])?;
+    let mut err = sink(alloc, 10_000, &[1])?;
+    let unended = [CALENDAR, TRIPS_HEAD, FIRST, SECOND, "end; 2\n"];
+    let bytes = joined(alloc, &unended, b"\n")?;
+    let status = run_on(&rt, alloc, &DAY, bytes, &[], &mut out, &mut err)?;
+    match status {
+        Status::Input(InputFault::Text { file, fault }) => {
+            assert_eq!(rt; file, 1);
+            assert_eq!(rt; fault.line, 24);
+            assert_eq!(rt; fault.kind, TextKind::Unended);
+        }
+        other => panic!(rt; "{other:?}"),
+    }
+    assert!(rt; err.taken().is_empty());
     Ok(())
 }

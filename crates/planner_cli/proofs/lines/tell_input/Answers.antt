@@ -1,0 +1,7 @@
+use Rattle.planner_cli.proofs.lines.tell_input.Goals as goal
+
+pub returns-in-Text : goal.returns-in-Text
+returns-in-Text g c = λ day. rw c.in-Text.is (c.tell_text.ensures day)
+
+pub returns-in-Table : goal.returns-in-Table
+returns-in-Table g c = λ day. rw c.in-Table.is (c.tell_table.ensures day)

@@ -1,0 +1,14 @@
+use Rattle.std.proofs.Common.{◌≡◌}
+use Rattle.planner_cli.proofs.RequestLemmas.{one_request}
+use Rattle.planner_cli.proofs.run.answered.Goals as goal
+
+pub returns-in-Ok-clause-input : goal.returns-in-Ok-clause-input
+returns-in-Ok-clause-input g c = λ fault is. rw c.in-Ok.ensures.request (c.carry_out.ensures.input fault is)
+
+pub returns-in-Ok-clause-day : goal.returns-in-Ok-clause-day
+returns-in-Ok-clause-day g c = λ fault is. rw c.in-Ok.ensures.request (c.carry_out.ensures.day fault is)
+
+pub returns-in-Ok-clause-refused : goal.returns-in-Ok-clause-refused
+returns-in-Ok-clause-refused g c = λ status request asks.
+    let same : c.in-Ok.request ≡ request = one_request c.in-Ok.request request c.in-Ok.ensures.request asks in
+    rw (← same) (c.carry_out.ensures.refused status)

@@ -1,0 +1,73 @@
+-- The line on standard error that each refusal has.
+use Rattle.std.specs.Prelude.{◌≡◌, ℕ, ◌≤◌, Bool, true, false, ◌++◌, ◌⊎◌, List, [], ◌∷◌, Option, Some, IfSome, codes, decimal}
+use Rattle.plan_core.specs.Outside.{Rose}
+use Rattle.vdv451_text.specs.declared.fault.TextKind.{TextKind}
+use Rattle.vdv451_text.specs.declared.fault.TextKind.TheVariants as texts
+use Rattle.vdv452_tables.specs.declared.fault.TableKind.{TableKind}
+use Rattle.vdv452_tables.specs.declared.fault.TableKind.TheVariants as tables
+use Rattle.day_calendar.specs.declared.day.DayFault.{DayFault}
+use Rattle.day_calendar.specs.declared.day.DayFault.TheVariants as days
+use Rattle.planner_cli.specs.declared.status.Status.{Status}
+use Rattle.planner_cli.specs.declared.status.Status.TheVariants as statuses
+use Rattle.planner_cli.specs.declared.status.InputFault.TheVariants as inputs
+use Rattle.planner_cli.specs.Taken.{TakesFront}
+
+abbrev pub text_kind : TextKind → List ℕ
+text_kind texts.Keyword = codes "Keyword"
+text_kind texts.Order = codes "Order"
+text_kind texts.Field = codes "Field"
+text_kind texts.Count = codes "Count"
+text_kind texts.EndCount = codes "EndCount"
+text_kind texts.EofCount = codes "EofCount"
+text_kind texts.Unended = codes "Unended"
+text_kind texts.TooLarge = codes "TooLarge"
+text_kind texts.Memory = codes "Memory"
+
+abbrev pub table_kind : TableKind → List ℕ
+table_kind tables.TableTwice = codes "TableTwice"
+table_kind tables.NoTable = codes "NoTable"
+table_kind tables.NoColumn = codes "NoColumn"
+table_kind tables.NoValue = codes "NoValue"
+table_kind tables.Range = codes "Range"
+table_kind tables.KeyTwice = codes "KeyTwice"
+table_kind tables.Memory = codes "Memory"
+
+abbrev pub day_kind : DayFault → List ℕ
+day_kind days.NoVersion = codes "NoVersion"
+day_kind days.NoDay = codes "NoDay"
+day_kind days.NoDate = codes "NoDate"
+
+-- the parts of a line after one another
+abbrev pub joined : List (List ℕ) → List ℕ
+joined [] = []
+joined (part ∷ parts) = part ++ joined parts
+
+-- The line of a refusal, for a day as its word has it.
+abbrev pub line_of : List ℕ → Status → List ℕ
+line_of day statuses.Ok = []
+line_of day statuses.Usage = codes "usage: planner trips|day|plan|certify|check|make\n"
+line_of day (statuses.Input (inputs.Text file fault)) =
+    joined (codes "file " ∷ decimal file ∷ codes " line " ∷ decimal fault.line ∷ codes ": " ∷ text_kind fault.kind ∷ codes "\n" ∷ [])
+line_of day (statuses.Input (inputs.Table fault)) =
+    joined
+    (codes "table " ∷ fault.table ∷ codes " column " ∷ fault.column ∷ codes " row " ∷ decimal fault.row ∷ codes ": " ∷ table_kind fault.kind ∷ codes "\n" ∷ [])
+line_of day (statuses.Input (inputs.Trips count)) = joined (codes "trips: " ∷ decimal count ∷ codes "\n" ∷ [])
+line_of day (statuses.Day fault) = joined (codes "day " ∷ day ∷ codes ": " ∷ day_kind fault ∷ codes "\n" ∷ [])
+line_of day (statuses.ReadFault file) = joined (codes "read fault: file " ∷ decimal file ∷ codes "\n" ∷ [])
+line_of day statuses.WriteFault = codes "write fault\n"
+line_of day statuses.Memory = codes "out of memory\n"
+
+-- a line was written whole, or a front of it, and then the count of faults rose
+abbrev pub IsTold : Option (List ℕ) → Option (List ℕ) → ℕ → ℕ → List ℕ → Type 0
+IsTold old new before now line = IfSome old (λ bytes. TakesFront bytes new line) × (IfSome old (λ bytes. new ≡ Some (bytes ++ line)) ⊎ Rose before now)
+
+-- of a line all was written but this rest
+pub record IsLeft (old new : Option (List ℕ)) (line rest : List ℕ) : Type 0 where
+  pub done : List ℕ
+  pub all : done ++ rest ≡ line
+  pub taken : IfSome old (λ bytes. new ≡ Some (bytes ++ done))
+
+-- a line is being written: all but this rest is there, or a write failed before
+abbrev pub IsTelling : Option (List ℕ) → Option (List ℕ) → ℕ → ℕ → List ℕ → List ℕ → Bool → Type 0
+IsTelling old new before now line rest true = IsLeft old new line rest × (before ≤ now)
+IsTelling old new before now line rest false = IfSome old (λ bytes. TakesFront bytes new line) × Rose before now

@@ -1,0 +1,158 @@
+//! The lines on standard error.
+
+ghost use Rattle.std.specs.Prelude.{◌≡◌, ◌≢◌, ◌++◌, ◌∷◌, [], ℕ, List, Option, codes, decimal};
+ghost use Rattle.planner_cli.specs.Lines as spec;
+
+use crate::status::{InputFault, Status};
+use crate::transfer::write_whole;
+use day_calendar::DayFault;
+use itoa::Buffer;
+use plan_core::Sink;
+use vdv451_text::{TextFault, TextKind};
+use vdv452_tables::{TableFault, TableKind};
+
+/// The name of a kind of fault of a text.
+fn text_kind(kind: TextKind) -> &'static [u8]
+    ensures { result.now ≡ spec.text_kind kind }
+{
+    match kind {
+        TextKind::Keyword => b"Keyword",
+        TextKind::Order => b"Order",
+        TextKind::Field => b"Field",
+        TextKind::Count => b"Count",
+        TextKind::EndCount => b"EndCount",
+        TextKind::EofCount => b"EofCount",
+        TextKind::Unended => b"Unended",
+        TextKind::TooLarge => b"TooLarge",
+        TextKind::Memory => b"Memory",
+    }
+}
+
+/// The name of a kind of fault of the tables.
+fn table_kind(kind: TableKind) -> &'static [u8]
+    ensures { result.now ≡ spec.table_kind kind }
+{
+    match kind {
+        TableKind::TableTwice => b"TableTwice",
+        TableKind::NoTable => b"NoTable",
+        TableKind::NoColumn => b"NoColumn",
+        TableKind::NoValue => b"NoValue",
+        TableKind::Range => b"Range",
+        TableKind::KeyTwice => b"KeyTwice",
+        TableKind::Memory => b"Memory",
+    }
+}
+
+/// The name of a fault of a day.
+fn day_kind(fault: DayFault) -> &'static [u8]
+    ensures { result.now ≡ spec.day_kind fault }
+{
+    match fault {
+        DayFault::NoVersion => b"NoVersion",
+        DayFault::NoDay => b"NoDay",
+        DayFault::NoDate => b"NoDate",
+    }
+}
+
+/// Writes a further part of a line, unless a part before it failed. It tells whether all parts so far are there.
+fn write_part<E: Sink>(err: &mut E, is_whole: bool, part: &[u8]) -> bool
+    ensures { (old : Option (List ℕ)) (faults : ℕ) (line rest : List ℕ) → spec.IsTelling old (E.taken err.old) faults (E.faults err.old) line (part.now ++ rest) is_whole
+        → spec.IsTelling old (E.taken err.new) faults (E.faults err.new) line rest result }
+{
+    if !is_whole {
+        return false;
+    }
+    match write_whole(err, part) {
+        Ok(()) => true,
+        Err(_) => false,
+    }
+}
+
+/// Writes a further number of a line.
+fn write_number<E: Sink>(err: &mut E, is_whole: bool, number: u32) -> bool
+    ensures { (old : Option (List ℕ)) (faults : ℕ) (line rest : List ℕ) → spec.IsTelling old (E.taken err.old) faults (E.faults err.old) line (decimal number ++ rest) is_whole
+        → spec.IsTelling old (E.taken err.new) faults (E.faults err.new) line rest result }
+{
+    let mut digits = Buffer::new();
+    write_part(err, is_whole, digits.format(number).as_bytes())
+}
+
+fn tell_text<E: Sink>(err: &mut E, file: u32, fault: &TextFault)
+    ensures { (day : List ℕ) → spec.IsTold (E.taken err.old) (E.taken err.new) (E.faults err.old) (E.faults err.new) (spec.line_of day (Status.Input (InputFault.Text file fault.now))) }
+{
+    let is_whole = write_part(err, true, b"file ");
+    let is_whole = write_number(err, is_whole, file);
+    let is_whole = write_part(err, is_whole, b" line ");
+    let is_whole = write_number(err, is_whole, fault.line);
+    let is_whole = write_part(err, is_whole, b": ");
+    let is_whole = write_part(err, is_whole, text_kind(fault.kind));
+    let _ = write_part(err, is_whole, b"\n");
+}
+
+fn tell_table<E: Sink>(err: &mut E, fault: &TableFault)
+    ensures { (day : List ℕ) → spec.IsTold (E.taken err.old) (E.taken err.new) (E.faults err.old) (E.faults err.new) (spec.line_of day (Status.Input (InputFault.Table fault.now))) }
+{
+    let is_whole = write_part(err, true, b"table ");
+    let is_whole = write_part(err, is_whole, fault.table.as_slice());
+    let is_whole = write_part(err, is_whole, b" column ");
+    let is_whole = write_part(err, is_whole, fault.column.as_slice());
+    let is_whole = write_part(err, is_whole, b" row ");
+    let is_whole = write_number(err, is_whole, fault.row);
+    let is_whole = write_part(err, is_whole, b": ");
+    let is_whole = write_part(err, is_whole, table_kind(fault.kind));
+    let _ = write_part(err, is_whole, b"\n");
+}
+
+/// Writes some text, a number and the line end.
+fn tell_number<E: Sink>(err: &mut E, text: &[u8], number: u32)
+    ensures { spec.IsTold (E.taken err.old) (E.taken err.new) (E.faults err.old) (E.faults err.new) (spec.joined (text.now ∷ decimal number ∷ codes "\n" ∷ [])) }
+{
+    let is_whole = write_part(err, true, text);
+    let is_whole = write_number(err, is_whole, number);
+    let _ = write_part(err, is_whole, b"\n");
+}
+
+fn tell_day<E: Sink>(err: &mut E, day: &[u8], fault: DayFault)
+    ensures { spec.IsTold (E.taken err.old) (E.taken err.new) (E.faults err.old) (E.faults err.new) (spec.line_of day.now (Status.Day fault)) }
+{
+    let is_whole = write_part(err, true, b"day ");
+    let is_whole = write_part(err, is_whole, day);
+    let is_whole = write_part(err, is_whole, b": ");
+    let is_whole = write_part(err, is_whole, day_kind(fault));
+    let _ = write_part(err, is_whole, b"\n");
+}
+
+/// Writes a line of one part.
+fn tell_line<E: Sink>(err: &mut E, line: &[u8])
+    ensures { spec.IsTold (E.taken err.old) (E.taken err.new) (E.faults err.old) (E.faults err.new) line.now }
+{
+    let _ = write_whole(err, line);
+}
+
+fn tell_input<E: Sink>(err: &mut E, fault: &InputFault)
+    ensures { (day : List ℕ) → spec.IsTold (E.taken err.old) (E.taken err.new) (E.faults err.old) (E.faults err.new) (spec.line_of day (Status.Input fault.now)) }
+{
+    match fault {
+        InputFault::Text { file, fault } => tell_text(err, *file, fault),
+        InputFault::Table(fault) => tell_table(err, fault),
+        InputFault::Trips { count } => tell_number(err, b"trips: ", *count),
+    }
+}
+
+/// Writes the line of a refusal, for a day as its word has it. It takes no memory. Where a write fails, the rest of the line is left out.
+pub fn tell<E: Sink>(err: &mut E, day: &[u8], status: &Status)
+    requires { status.now ≢ Status.Ok }
+    ensures { spec.IsTold (E.taken err.old) (E.taken err.new) (E.faults err.old) (E.faults err.new) (spec.line_of day.now status.now) }
+{
+    match status {
+        Status::Ok => unreachable!(),
+        Status::Usage => {
+            tell_line(err, b"usage: planner trips|day|plan|certify|check|make\n");
+        }
+        Status::Input(fault) => tell_input(err, fault),
+        Status::Day(fault) => tell_day(err, day, *fault),
+        Status::ReadFault { file } => tell_number(err, b"read fault: file ", *file),
+        Status::WriteFault => tell_line(err, b"write fault\n"),
+        Status::Memory => tell_line(err, b"out of memory\n"),
+    }
+}
