@@ -1,0 +1,13 @@
+pub mod Insertions
+pub mod Extensions
+pub mod Helds
+pub mod Reached
+pub mod Bests
+pub mod Leasts
+pub mod Paths
+pub mod Sound
+pub mod Leveled
+pub mod Limits
+pub mod Pricing
+pub mod Losses
+pub mod Rising

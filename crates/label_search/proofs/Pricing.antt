@@ -1,0 +1,170 @@
+-- The first least of the lists that close is the best column.
+use Rattle.std.proofs.Common.{◌≡◌, ℕ, ℤ, pos, neg_ℤ, ◌+ℤ◌, ◌*◌, ◌≤ℤ◌, ◌<◌, ◌/◌, Bool, true, false, cond, List, [], ◌∷◌, length, refl, sym, ap, ◌∙◌, arith}
+use Rattle.std.proofs.lemmas.Int.{ints}
+use Rattle.std.proofs.lemmas.Bool.Decides.{nat_tests}
+use Rattle.std.specs.Prelude.{Option, Some, None, nat_eq, unwrap_or, Contains, Result, Ok, Err, IfOk}
+use Rattle.plan_core.specs.declared.Price.{Price}
+use Rattle.cover_core.specs.declared.Column.{Column}
+use Rattle.cover_core.specs.Cover.{Problem}
+use Rattle.cover_core.specs.Plans.{value_of, price_of}
+use Rattle.cover_core.specs.FirstLeast.{InGroup, IsFirstLeast, AllAbove, value}
+use Rattle.cover_core.specs.Labels.{Labelling, label_after, label_of, IsKept, IsValued, IsCover}
+use Rattle.cover_core.proofs.Labels.{covers}
+use Rattle.label_search.specs.Laws.{GoodAs, IsStepwise, IsSafe, HidesNone}
+use Rattle.label_search.specs.Answers.{IsLeastClosed, AllCloseAbove}
+use Rattle.label_search.specs.Pricing.{of_group, IsTied, IsTiedInGroup, CoverPays, worth_column}
+use Rattle.cover_core.specs.Best.{best_of, within}
+use Rattle.cover_core.specs.Laws.{WithinIsLimited}
+use Rattle.std.specs.Option.{option_map}
+
+pub start-parts : {L : Type 0} (t : Bool) (o : Option L) (b : L) → cond t o None ≡ Some b → (t ≡ true) × (o ≡ Some b)
+start-parts true o b e = (refl, e)
+start-parts false o b e = absurd (cc)
+
+-- the laws of labels stay in a group
+pub of_group-kept : {L : Type 0} (w : Labelling L) (good : L → L → Type 0) (group : ℕ) → IsKept w good → IsKept (of_group w group) good
+of_group-kept w good group k = record { same = k.same; through = k.through; extended = k.extended }
+
+pub of_group-valued : {L : Type 0} (w : Labelling L) (good : L → L → Type 0) (value_at : L → ℤ) (close : L → Option ℤ) (group : ℕ) →
+    IsValued w good value_at close → IsValued (of_group w group) good value_at close
+of_group-valued w good value_at close group v = record { at_most = v.at_most; apart = v.apart; closes = v.closes }
+
+pub of_group-stepwise : {L : Type 0} (w : Labelling L) (count : ℕ) (last : L → ℕ) (group : ℕ) → IsStepwise w count last → IsStepwise (of_group w group) count last
+of_group-stepwise w count last group s = record {
+  starts = λ item a e. let (test, e1) = start-parts _ _ a e in s.starts item a e1;
+  steps = s.steps;
+}
+
+pub of_group-safe : {L : Type 0} (w : Labelling L) (sound : L → Type 0) (group : ℕ) → IsSafe w sound → IsSafe (of_group w group) sound
+of_group-safe w sound group s = record {
+  starts = λ item a e. let (test, e1) = start-parts _ _ a e in s.starts item a e1;
+  steps = s.steps;
+}
+
+pub of_group-hides : {L : Type 0} (w : Labelling L) (good : L → L → Bool) (close : L → Option ℤ) (sound : L → Type 0) (may_close : ℤ → L → Bool) (group : ℕ) →
+    HidesNone w good close sound may_close → HidesNone (of_group w group) good close sound may_close
+of_group-hides w good close sound may_close group h = record { closes = h.closes; steps = h.steps; ordered = h.ordered }
+
+group-test : (x group : ℕ) → nat_eq (x / 16) group ≡ true → x / 16 ≡ group
+group-test x group h = grind (arith, nat_tests)
+
+test-group : (x group : ℕ) → x / 16 ≡ group → nat_eq (x / 16) group ≡ true
+test-group x group h = grind (arith, nat_tests)
+
+after-group : {L : Type 0} (w : Labelling L) (group : ℕ) (o : Option L) (xs : List ℕ) → label_after (of_group w group) o xs ≡ label_after w o xs
+after-group w group None [] = refl
+after-group w group None (x ∷ xs) = refl
+after-group w group (Some a) [] = refl
+after-group w group (Some a) (x ∷ xs) = after-group w group (w.extend a x) xs
+
+none-after : {L : Type 0} (w : Labelling L) (xs : List ℕ) (b : L) → label_after w None xs ≡ Some b → ⊥
+none-after w [] b e = cc
+none-after w (x ∷ xs) b e = cc
+
+pub from-group : {L : Type 0} (w : Labelling L) (group : ℕ) (xs : List ℕ) (b : L) → label_of (of_group w group) xs ≡ Some b → (label_of w xs ≡ Some b) × InGroup group xs
+from-group w group [] b e = absurd (cc)
+from-group {L = L} w group (x ∷ xs) b e =
+    let e' : label_after w (cond (nat_eq (x / 16) group) (w.start x) None) xs ≡ Some b = sym (after-group w group (cond (nat_eq (x / 16) group) (w.start x) None) xs) ∙ e in
+    elim (nat_eq (x / 16) group) as (λ t. nat_eq (x / 16) group ≡ t → label_after w (cond t (w.start x) None) xs ≡ Some b → (label_after w (w.start x) xs ≡ Some b) × (x / 16 ≡ group)) [
+      | true ↦ λ is f. (f, group-test x group is)
+      | false ↦ λ is f. absurd (none-after w xs b f)
+    ] refl e'
+
+pub onto-group : {L : Type 0} (w : Labelling L) (group : ℕ) (xs : List ℕ) → InGroup group xs → label_of (of_group w group) xs ≡ label_of w xs
+onto-group w group [] inside = absurd inside
+onto-group {L = L} w group (x ∷ xs) inside =
+    ap (λ t. label_after (of_group w group) (cond t (w.start x) None) xs) (test-group x group inside) ∙ after-group w group (w.start x) xs
+
+-- the tie of all lists is one of each group
+pub of_group-tied : {L : Type 0} (w : Labelling L) (close : L → Option ℤ) (prices : List Price) (group : ℕ) (worth_of : List ℕ → Option ℕ) →
+    IsTied w close prices worth_of → IsTiedInGroup (of_group w group) close prices group worth_of
+of_group-tied w close prices group worth_of tied = record {
+  onto = λ list worth e inside. let (a, has, closes) = tied.onto list worth e in (a, onto-group w group list inside ∙ has, closes);
+  from = λ list a v e c. let (has, inside) = from-group w group list a e in let (worth, worth_is, value_is) = tied.from list a v has c in (inside, worth, worth_is, value_is);
+}
+
+-- the first least of the lists that close is a first least column
+pub first_least : {L : Type 0} (w : Labelling L) (close : L → Option ℤ) (p : Problem) (prices : List Price) (class group : ℕ) →
+    IsTiedInGroup w close prices group (p.worth class) → class < length p.caps →
+    (column : Column) (least : ℤ) → column.class ≡ class → p.worth class column.items ≡ Some column.worth →
+    IsLeastClosed w close column.items least → IsFirstLeast p prices class group column × (value prices column ≡ least)
+first_least w close p prices class group tied there column least of_class worth_is answer =
+    let (inside, worth, is_worth, value_is) = tied.from column.items answer.label least answer.label_is answer.closes in
+    let same : worth ≡ column.worth = let g : Option ℕ → ℕ = λ o. unwrap_or o 0 in ap g (sym is_worth ∙ worth_is) in
+    let total : least ≡ value prices column = value_is ∙ ap (λ n. value_of prices n column.items) same in (
+      record {
+        listed = (rw of_class there, rw of_class worth_is);
+        of_class = of_class;
+        of_group = inside;
+        least = λ list n e g.
+            let (a, has, closes) = tied.onto list n e g in
+            let bound = answer.first.at_least list a (value_of prices n list) has closes in
+            omega (arith, ints);
+        first = λ list n e g equal.
+            let (a, has, closes) = tied.onto list n e g in
+            let same_value : value_of prices n list ≡ least = equal ∙ sym total in
+            answer.first.first list a has (closes ∙ ap Some same_value);
+      },
+      sym total,
+    )
+
+-- where all lists close above the limit, all values are above it
+pub all_above : {L : Type 0} (w : Labelling L) (close : L → Option ℤ) (p : Problem) (prices : List Price) (class group : ℕ) (limit : ℤ) →
+    IsTiedInGroup w close prices group (p.worth class) → AllCloseAbove w close limit → AllAbove p prices class group limit
+all_above w close p prices class group limit tied above = λ list n e g.
+    let (a, has, closes) = tied.onto list n e g in above list a (value_of prices n list) has closes
+
+-- a test that says the same as a relation
+pub kept-by : {L : Type 0} (w : Labelling L) (good : L → L → Type 0) (test : L → L → Bool) → ((a b : L) → good a b → test a b ≡ true) → ((a b : L) → test a b ≡ true → good a b) →
+    IsKept w good → IsKept w (GoodAs test)
+kept-by w good test onto from k = record {
+  same = λ a. onto a a (k.same a);
+  through = λ a b c h i. onto a c (k.through a b c (from a b h) (from b c i));
+  extended = λ a b b' item h e. let (a', is, better) = k.extended a b b' item (from a b h) e in (a', is, onto a' b' better);
+}
+
+pub valued-by : {L : Type 0} (w : Labelling L) (good : L → L → Type 0) (test : L → L → Bool) (value_at : L → ℤ) (close : L → Option ℤ) → ((a b : L) → test a b ≡ true → good a b) →
+    IsValued w good value_at close → IsValued w (GoodAs test) value_at close
+valued-by w good test value_at close from v = record {
+  at_most = λ a b h. v.at_most a b (from a b h);
+  apart = λ a b a' b' item h. v.apart a b a' b' item (from a b h);
+  closes = λ a b z h. v.closes a b z (from a b h);
+}
+
+-- where the kept labels are a cover and none closes below minus the class price, the prices of each list are paid
+pub cover-pays : {L : Type 0} (w : Labelling L) (good : L → L → Type 0) (value_at : L → ℤ) (close : L → Option ℤ) (kept : L → Type 0) (prices : List Price) (worth_of : List ℕ → Option ℕ) (class_price : ℤ) →
+    IsKept w good → IsValued w good value_at close → IsTied w close prices worth_of → IsCover w good kept →
+    ((a : L) (u : ℤ) → kept a → close a ≡ Some u → neg_ℤ class_price ≤ℤ u) →
+    (list : List ℕ) (worth : ℕ) → worth_of list ≡ Some worth → price_of prices list ≤ℤ (pos (1000 * worth) +ℤ class_price)
+cover-pays w good value_at close kept prices worth_of class_price k v tied cover low list worth e =
+    let (b, has, closed) = tied.onto list worth e in
+    let (a, is_kept, better) = covers w good kept k cover list b has in
+    let (u, closes, below, strict) = v.closes a b (value_of prices worth list) better closed in
+    let least = low a u is_kept closes in
+    omega (arith, ints)
+
+pub labels-pay : {L : Type 0} (w : Labelling L) (good : L → L → Type 0) (value_at : L → ℤ) (close : L → Option ℤ) → IsKept w good → IsValued w good value_at close → CoverPays w good close
+labels-pay w good value_at close k v kept prices worth_of class_price = cover-pays w good value_at close (Contains kept) prices worth_of class_price k v
+
+-- the first least list as a column is the best column within a limit
+pub found-best : {L : Type 0} (w : Labelling L) (close : L → Option ℤ) (p : Problem) (prices : List Price) (class group : ℕ) (limit : ℤ) →
+    WithinIsLimited p → class < length p.caps → IsTiedInGroup w close prices group (p.worth class) → (list : List ℕ) (least : ℤ) →
+    IsLeastClosed w close list least → least ≤ℤ limit → worth_column p class list ≡ within limit prices (best_of p prices class group)
+found-best w close p prices class group limit limited there tied list least answer low =
+    let (inside, worth, is_worth, value_is) = tied.from list answer.label least answer.label_is answer.closes in
+    let column : Column = record { class = class; worth = worth; items = list } in
+    let (first, total) = first_least w close p prices class group tied there column least refl is_worth answer in
+    let f : ℕ → Column = λ n. record { class = class; worth = n; items = list } in
+    ap (option_map f) is_worth ∙ sym ((limited prices class group limit there).onto column first (omega (arith, ints, total)))
+
+-- where all lists close above the limit there is none
+pub none-best : {L : Type 0} (w : Labelling L) (close : L → Option ℤ) (p : Problem) (prices : List Price) (class group : ℕ) (limit : ℤ) →
+    WithinIsLimited p → class < length p.caps → IsTiedInGroup w close prices group (p.worth class) → AllCloseAbove w close limit →
+    None ≡ within limit prices (best_of p prices class group)
+none-best w close p prices class group limit limited there tied above =
+    sym ((limited prices class group limit there).none (all_above w close p prices class group limit tied above))
+
+-- a fact of an answer that follows from another one
+pub if-ok : {T E : Type 0} (r : Result T E) (P Q : T → Type 0) → ((x : T) → P x → Q x) → IfOk r P → IfOk r Q
+if-ok (Ok x) P Q f h = f x h
+if-ok (Err e) P Q f h = h

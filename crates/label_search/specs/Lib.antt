@@ -1,0 +1,9 @@
+pub mod Laws
+pub mod Limits
+pub mod Nodes
+pub mod Levels
+pub mod Lists
+pub mod Answers
+pub mod Pricing
+pub mod Rests
+pub mod Samples
