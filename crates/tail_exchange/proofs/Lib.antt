@@ -1,0 +1,6 @@
+pub mod Leasts
+pub mod Goods
+pub mod Steps
+pub mod Lists
+pub mod Folds
+pub mod Moderate

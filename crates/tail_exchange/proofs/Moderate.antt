@@ -1,0 +1,46 @@
+-- Worths stay moderate where a step is made.
+use Rattle.std.proofs.Common.{◌≡◌, ◌==◌, ℕ, ◌+◌, ◌<◌, ◌≤◌, true, false, cond, zero, suc, List, [], ◌∷◌, ◌++◌, length, get_or, take, Option, Some, None, IfSome, refl, sym, ap, ◌∙◌, subst, arith}
+use Rattle.std.proofs.Math.ListN.{set}
+use Rattle.std.proofs.lemmas.List.{take_more}
+use Rattle.cover_core.specs.declared.Column.{Column}
+use Rattle.cover_core.specs.Plans.{times, all_classes}
+use Rattle.cover_core.specs.FirstLeast.{AreCheap}
+use Rattle.cover_core.proofs.Parts.{placed-push}
+use Rattle.tail_exchange.specs.Exchange.{has_any, without_empty}
+
+pub AreCheap-set : (cs : List Column) (k : ℕ) (c : Column) → AreCheap cs → c.worth ≤ 4000000000 → AreCheap (set cs k c)
+AreCheap-set [] k c h new = tt
+AreCheap-set (d ∷ ds) zero c h new = (new, h.1)
+AreCheap-set (d ∷ ds) (suc k) c h new = (h.0, AreCheap-set ds k c h.1 new)
+
+pub AreCheap-push : (cs : List Column) (c : Column) → AreCheap cs → c.worth ≤ 4000000000 → AreCheap (cs ++ c ∷ [])
+AreCheap-push [] c h new = (new, tt)
+AreCheap-push (d ∷ ds) c h new = (h.0, AreCheap-push ds c h.1 new)
+
+pub AreCheap-without : (cs : List Column) → AreCheap cs → AreCheap (without_empty cs)
+AreCheap-without [] h = tt
+AreCheap-without (c ∷ cs) h =
+    elim (has_any c.items) as (λ t. AreCheap (cond t (c ∷ without_empty cs) (without_empty cs))) [ true ↦ (h.0, AreCheap-without cs h.1) | false ↦ AreCheap-without cs h.1 ]
+
+-- a column put in before another is put behind
+pub set-push : (cs : List Column) (k : ℕ) (c d : Column) → k < length cs → set (cs ++ d ∷ []) k c ≡ set cs k c ++ d ∷ []
+set-push [] k c d h = absurd (omega arith)
+set-push (x ∷ xs) zero c d h = refl
+set-push (x ∷ xs) (suc k) c d h = ap (λ l. x ∷ l) (set-push xs k c d (omega arith))
+
+-- one more worth is known to be moderate
+pub AreCheap-more : (plan : List Column) (k : ℕ) (c : Column) → k < length plan → c ≡ get_or plan k c → c.worth ≤ 4000000000 → AreCheap (take k plan) → AreCheap (take (k + 1) plan)
+AreCheap-more plan k c h is cheap so_far =
+    let P : Column → Type 0 = λ d. d.worth ≤ 4000000000 in
+    subst AreCheap (sym (take_more plan k c h)) (AreCheap-push (take k plan) (get_or plan k c) so_far (subst P is cheap))
+
+pub some-moderate : (o : Option ℕ) (worth : ℕ) → o ≡ Some worth → IfSome o (λ w. w ≤ 4000000000) → worth ≤ 4000000000
+some-moderate None worth e h = cc
+some-moderate (Some w) worth e h = let same : w ≡ worth = cc in omega arith
+
+-- one more column is counted
+pub counted-more : (class : ℕ) (plan : List Column) (k : ℕ) (c : Column) → k < length plan → c ≡ get_or plan k c →
+    times class (all_classes (take (k + 1) plan)) ≡ times class (all_classes (take k plan)) + cond (class == c.class) 1 0
+counted-more class plan k c h is =
+    ap (λ l. times class (all_classes l)) (take_more plan k c h) ∙ placed-push class (take k plan) (get_or plan k c) ∙
+    ap (λ (d : Column). times class (all_classes (take k plan)) + cond (class == d.class) 1 0) (sym is)

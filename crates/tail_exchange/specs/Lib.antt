@@ -1,0 +1,5 @@
+pub mod Order
+pub mod Exchange
+pub mod Leasts
+pub mod Searches
+pub mod Example

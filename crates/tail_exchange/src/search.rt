@@ -1,0 +1,66 @@
+//! The least of all steps, found by threads.
+
+ghost use Rattle.std.specs.Prelude.{◌≡◌, ◌<◌, length};
+ghost use Rattle.rayon.specs.Lists.{IsLeast};
+ghost use Rattle.tail_exchange.specs.Order.{candidate_cmp};
+ghost use Rattle.tail_exchange.specs.Exchange.{steps_of, all_steps};
+ghost use Rattle.tail_exchange.specs.Searches.{IsSearchable, ShowsRooms};
+
+use crate::candidate::Candidate;
+use crate::cuts::cuts_of;
+use crate::joins::columns_of;
+use crate::swaps::all_swaps_of;
+use arrayvec::ArrayVec;
+use cover_core::{Column, Columns};
+use rayon::prelude::*;
+use std::cmp::Ordering;
+use std::thread::Threads;
+
+/// The least step whose first column is this one.
+fn least_of<C: Columns>(
+    columns: &C,
+    plan: &[Column],
+    rooms: &[bool],
+    place: usize,
+) -> Option<Candidate>
+    requires ready { IsSearchable (C.problem columns.now) plan.now }
+    requires rooms { ShowsRooms (C.problem columns.now) plan.now rooms.now }
+    requires below { place < length plan.now }
+    ensures { IsLeast candidate_cmp (steps_of (C.problem columns.now) plan.now place) result }
+{
+    let _few = columns_of(columns, plan);
+    let a = place as u32;
+    let mut list = ArrayVec::new();
+    let swap = all_swaps_of(columns, plan, a, &mut list, None);
+    cuts_of(columns, plan, rooms, a, swap)
+}
+
+/// The least of all steps. Each first column is looked at by itself, so that threads can share the work.
+pub fn cheapest<R: Threads + Sync, C: Columns + Sync>(
+    rt: &R,
+    columns: &C,
+    plan: &[Column],
+    rooms: &[bool],
+) -> Option<Candidate>
+    requires ready { IsSearchable (C.problem columns.now) plan.now }
+    requires rooms { ShowsRooms (C.problem columns.now) plan.now rooms.now }
+    ensures { IsLeast candidate_cmp (all_steps (C.problem columns.now) plan.now) result }
+{
+    (0..plan.len())
+        .into_par_iter()
+        .with_min_len(1)
+        .filter_map(
+            |place: usize| -> Option<Candidate>
+                requires ready { IsSearchable (C.problem columns.now) plan.now }
+                requires rooms { ShowsRooms (C.problem columns.now) plan.now rooms.now }
+                requires below { place < length plan.now }
+                ensures { IsLeast candidate_cmp (steps_of (C.problem columns.entry.now) plan.entry.now place) result }
+            { least_of(columns, plan, rooms, place) },
+        )
+        .min_by(
+            rt,
+            |x: &Candidate, y: &Candidate| -> Ordering
+                ensures { result ≡ candidate_cmp x.now y.now }
+            { x.compare(y) },
+        )
+}

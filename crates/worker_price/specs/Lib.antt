@@ -1,0 +1,6 @@
+pub mod Priced
+pub mod Work
+pub mod Gathered
+pub mod Runs
+pub mod Order
+pub mod Singles
