@@ -1,6 +1,7 @@
 -- The version, the kind and the weekday of a day.
 use Rattle.std.specs.Prelude.{◌≡◌, ℕ, Some}
-use Rattle.vdv452_tables.specs.Calendar.{Net, kind_on, version_on}
+use Rattle.vdv452_tables.specs.declared.net.Net.{Net}
+use Rattle.vdv452_tables.specs.Calendar.{kind_on, version_on}
 use Rattle.day_calendar.specs.declared.day.DayKind.{DayKind}
 use Rattle.day_calendar.specs.Days.{HasWeekday, IsCivilDay}
 

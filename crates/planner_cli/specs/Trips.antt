@@ -9,7 +9,8 @@ use Rattle.vdv452_tables.specs.declared.fault.TableKind.{TableKind}
 use Rattle.vdv452_tables.specs.declared.fault.TableKind.TheVariants as kinds
 use Rattle.vdv452_tables.specs.declared.reading.Needs.TheVariants as needs
 use Rattle.vdv452_tables.specs.Schema as schema
-use Rattle.vdv452_tables.specs.Calendar.{Net, kind_on, net_of, schemas_of, version_on}
+use Rattle.vdv452_tables.specs.declared.net.Net.{Net}
+use Rattle.vdv452_tables.specs.Calendar.{kind_on, net_of, schemas_of, version_on}
 use Rattle.vdv452_tables.specs.Rows.{first_fault, table_of}
 use Rattle.day_calendar.specs.declared.day.DayKind.{DayKind}
 use Rattle.day_calendar.specs.declared.day.DayFault.{DayFault}
@@ -101,3 +102,13 @@ abbrev pub IsCrowdRefusal : List TripRow → ℕ → ℕ → Status → Type 0
 IsCrowdRefusal trips version kind status =
     (status ≡ statuses.Memory)
     ⊎ ((places : List ℕ) × AreDayRows trips version kind places × (most_trips < length places) × (status ≡ statuses.Input (inputs.Trips (length places))))
+
+-- the day's kind in a network, and the places of its trips, which are not too many
+pub record IsDayIn (net : Net) (day : ℕ) (kind : DayKind) (places : List ℕ) : Type 0 where
+  pub kind_is : IsKindOf net day kind
+  pub rows : AreDayRows net.trips kind.version kind.kind places
+  pub few : length places ≤ most_trips
+
+-- why a network is refused for a day
+abbrev pub IsRefusalIn : Net → ℕ → Status → Type 0
+IsRefusalIn net day status = IsDayRefusal net day status ⊎ ((kind : DayKind) × IsKindOf net day kind × IsCrowdRefusal net.trips kind.version kind.kind status)

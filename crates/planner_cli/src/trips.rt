@@ -8,7 +8,7 @@ ghost use Rattle.vdv452_tables.specs.Calendar.{net_of, schemas_of};
 ghost use Rattle.vdv452_tables.specs.Rows.{first_fault, table_of};
 ghost use Rattle.vdv451_text.specs.declared.table.Table.{Table as TextTable};
 ghost use Rattle.planner_cli.specs.Trips.{IsDayCause, IsTripsText, most_trips, picked_table, rows_at};
-ghost use Rattle.planner_cli.specs.Trips.{IsCrowdRefusal, IsDayRefusal, IsRefused, refused_tables};
+ghost use Rattle.planner_cli.specs.Trips.{IsCrowdRefusal, IsDayIn, IsDayRefusal, IsRefusalIn, IsRefused, refused_tables};
 ghost use Rattle.day_calendar.specs.Kinds.{IsKindOf};
 ghost use Rattle.day_calendar.specs.DayTrips.{AreDayRows};
 ghost use Rattle.vdv451_text.specs.Plain.{is_plain_table};
@@ -150,6 +150,37 @@ fn day_places(alloc: Global, net: &Network, kind: &DayKind) -> Result<Seq<u32>, 
     Ok(places)
 }
 
+/// A day's kind, and the places of its trips among the rows of REC_FRT, by departure and number.
+#[derive(Drop)]
+struct DayPlaces {
+    kind: DayKind,
+    places: Seq<u32>,
+}
+
+/// The day in a network, or why it has none.
+fn day_in(alloc: Global, net: &Network, day: u32) -> Result<DayPlaces, Status>
+    requires { length net.now.trips < 2 ^ 32 }
+    ensures day { IfOk result (λ found. IsDayIn net.now day found.kind found.places) }
+    ensures within { IfOk result (λ found. All (λ place. place < length net.now.trips) found.places) }
+    ensures cause { IfErr result (IsRefusalIn net.now day) }
+{
+    let kind = day_kind(net, day)?;
+    let places = day_places(alloc, net, &kind)?;
+    Ok(DayPlaces { kind, places })
+}
+
+/// The day in the tables of all files, or why there is none.
+fn day_of(alloc: Global, tables: &[Table], day: u32) -> Result<DayPlaces, Status>
+    requires { All (λ table. length table.rows < 2 ^ 32) tables.now }
+    ensures faultless { OnOk result (first_fault (schemas_of needs.Calendar) tables.now ≡ None) }
+    ensures day { IfOk result (λ found. IsDayIn (net_of needs.Calendar tables.now) day found.kind found.places) }
+    ensures within { IfOk result (λ found. All (λ place. place < length (net_of needs.Calendar tables.now).trips) found.places) }
+    ensures cause { IfErr result (IsRefused tables.now day) }
+{
+    let net = network(alloc, tables)?;
+    day_in(alloc, &net, day)
+}
+
 /// The text of the day's trips, from the tables of all files: REC_FRT with their rows, unchanged, by departure and number.
 ///
 /// # Errors
@@ -162,9 +193,7 @@ pub fn trips_text(alloc: Global, tables: &[Table], day: u32) -> Result<Bytes, St
     ensures written { IfOk result (IsTripsText tables.now day) }
     ensures cause { IfErr result (IsRefused tables.now day) }
 {
-    let net = network(alloc, tables)?;
-    let kind = day_kind(&net, day)?;
-    let places = day_places(alloc, &net, &kind)?;
+    let found = day_of(alloc, tables, day)?;
     let table = &tables[trips_place(tables)];
-    Ok(rows_text(alloc, table, places.as_slice())?)
+    Ok(rows_text(alloc, table, found.places.as_slice())?)
 }

@@ -11,7 +11,7 @@ use Rattle.vdv452_tables.specs.declared.schema.Column.{Column}
 use Rattle.vdv452_tables.specs.declared.schema.Schema.{Schema}
 use Rattle.vdv452_tables.specs.declared.table.Found.{Found}
 use Rattle.vdv452_tables.specs.Found.{found_cell, found_cells, found_columns, found_faults, found_key, found_one, found_row_faults}
-use Rattle.vdv452_tables.specs.Rows.{cell_fault, cell_in, fault, cells, field_at, key_fault, key_of, missing_column, missing_columns, place_of, row_faults, when}
+use Rattle.vdv452_tables.specs.Rows.{cell_fault, cell_in, fault, cells, field_at, key_fault, key_of, missing_column, missing_columns, own_key, place_of, row_faults, when}
 
 module _ (heads : List Head) (row : List Field) where
   named : Column → Cell
@@ -70,8 +70,8 @@ module _ (s : Schema) (table : Table) (none : flat_map (missing_column s.name ta
   row_faults_found before number [] = refl
   row_faults_found before number (row ∷ rows) =
       let same_key : found_key (found_columns table.columns s.columns) row ≡ key_of s table row = key_found table.columns row s.name s.columns none in
-      let rest : found_row_faults s.name (found_columns table.columns s.columns) (before ++ found_key (found_columns table.columns s.columns) row ∷ []) (number + 1) rows ≡ row_faults s table (before ++ key_of s table row ∷ []) (number + 1) rows =
-      ap (λ key. found_row_faults s.name (found_columns table.columns s.columns) (before ++ key ∷ []) (number + 1) rows) same_key ∙ row_faults_found (before ++ key_of s table row ∷ []) (number + 1) rows in
+      let rest : found_row_faults s.name (found_columns table.columns s.columns) (before ++ own_key (found_key (found_columns table.columns s.columns) row)) (number + 1) rows ≡ row_faults s table (before ++ own_key (key_of s table row)) (number + 1) rows =
+      ap (λ key. found_row_faults s.name (found_columns table.columns s.columns) (before ++ own_key key) (number + 1) rows) same_key ∙ row_faults_found (before ++ own_key (key_of s table row)) (number + 1) rows in
       λ i. (faults_found table.columns row s.name number s.columns i ++ key_fault s.name number before (same_key i)) ++ rest i
 
 module _ (s : Schema) (table : Table) (name : List ℕ) (columns : List Column) (heads : List Head) (found : List Found) (rows : List (List Field))

@@ -1,15 +1,15 @@
 -- Where nothing is wrong, no two rows have one key.
-use Rattle.std.proofs.Common.{◌≡◌, ℕ, ◌+◌, ◌<◌, ◌||◌, Option, Some, None, Bool, true, false, List, [], ◌∷◌, ◌++◌, All, AllPairs, get_or, length, map, refl, sym, subst, append_assoc, arith, suc, zero}
+use Rattle.std.proofs.Common.{◌≡◌, ℕ, ◌+◌, ◌<◌, ◌||◌, Option, Some, None, Bool, true, false, List, [], ◌∷◌, ◌++◌, All, AllPairs, get_or, length, refl, sym, subst, append_assoc, arith, suc, zero}
 use Rattle.std.proofs.lemmas.List.{append-nil}
 use Rattle.std.proofs.lemmas.List.Elements.{All-cons, All-nil}
 use Rattle.std.proofs.lemmas.List.Quantifiers.{all_pairs_push}
-use Rattle.std.specs.List.{list_any}
+use Rattle.std.specs.List.{flat_map, list_any}
 use Rattle.vdv451_text.specs.declared.table.Field.{Field}
 use Rattle.vdv451_text.specs.declared.table.Table.{Table}
 use Rattle.vdv452_tables.specs.declared.cell.Cell.{Cell}
 use Rattle.vdv452_tables.specs.declared.schema.Schema.{Schema}
 use Rattle.vdv452_tables.specs.Cells.{same_cells}
-use Rattle.vdv452_tables.specs.Rows.{HasOwnKeys, faults_in, faults_of, key_fault, key_of, keys_in, missing_columns, row_fault, row_faults, table_faults, table_of, when}
+use Rattle.vdv452_tables.specs.Rows.{HasOwnKeys, faults_in, faults_of, is_twice, key_fault, key_of, keys_in, missing_columns, own_key, row_fault, row_faults, table_faults, table_of, when}
 
 front_empty : {A : Type 0} (xs ys : List A) → xs ++ ys ≡ [] → xs ≡ []
 front_empty [] ys none = refl
@@ -39,15 +39,20 @@ none_passes test (x ∷ xs) none (suc k) d within = none_passes test xs (second_
 abbrev Differs : List Cell → List Cell → Type 0
 Differs earlier later = same_cells later earlier ≡ false
 
+-- a key that is not there twice joins the others
+keyed : (before : List (List Cell)) (key : List Cell) → is_twice before key ≡ false → AllPairs Differs before → AllPairs Differs (before ++ own_key key)
+keyed before [] new own = subst (AllPairs Differs) (sym (append-nil before)) own
+keyed before (cell ∷ cells) new own = all_pairs_push Differs before (cell ∷ cells) own (λ k d within. none_passes (same_cells (cell ∷ cells)) before new k d within)
+
 module _ (s : Schema) (table : Table) where
-  own_keys : (before : List (List Cell)) (place : ℕ) (rows : List (List Field)) → row_faults s table before place rows ≡ [] → AllPairs Differs before → AllPairs Differs (before ++ map (key_of s table) rows)
+  own_keys : (before : List (List Cell)) (place : ℕ) (rows : List (List Field)) → row_faults s table before place rows ≡ [] → AllPairs Differs before → AllPairs Differs (before ++ flat_map (λ row. own_key (key_of s table row)) rows)
   own_keys before place [] none own = subst (AllPairs Differs) (sym (append-nil before)) own
   own_keys before place (row ∷ rows) none own =
       let key : List Cell = key_of s table row in
       let here : row_fault s table before place row ≡ [] = front_empty (row_fault s table before place row) _ none in
-      let new : list_any (same_cells key) before ≡ false = not_when _ _ (rest_empty _ (key_fault s.name place before key) here) in
-      let later : AllPairs Differs (before ++ key ∷ []) = all_pairs_push Differs before key own (λ k d within. none_passes (same_cells key) before new k d within) in
-      subst (AllPairs Differs) (append_assoc before (key ∷ []) (map (key_of s table) rows)) (own_keys (before ++ key ∷ []) (place + 1) rows (rest_empty (row_fault s table before place row) _ none) later)
+      let new : is_twice before key ≡ false = not_when _ _ (rest_empty _ (key_fault s.name place before key) here) in
+      let later : AllPairs Differs (before ++ own_key key) = keyed before key new own in
+      subst (AllPairs Differs) (append_assoc before (own_key key) (flat_map (λ r. own_key (key_of s table r)) rows)) (own_keys (before ++ own_key key) (place + 1) rows (rest_empty (row_fault s table before place row) _ none) later)
 
 own_in : (s : Schema) (tables : List Table) (found : Option Table) → faults_in s found ≡ [] → AllPairs Differs (keys_in s found)
 own_in s tables None none = λ i j d below within. absurd (omega arith)

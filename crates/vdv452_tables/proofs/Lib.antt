@@ -3,3 +3,9 @@ pub mod RowSteps
 pub mod FoundLemmas
 pub mod VersionLemmas
 pub mod KeyLemmas
+pub mod PartLemmas
+pub mod RangeLemmas
+pub mod OrderLemmas
+pub mod CourseLemmas
+pub mod LookUpLemmas
+pub mod CourseSizes

@@ -1,16 +1,14 @@
 -- One column or one row more.
 use Rattle.std.proofs.Common.{◌≡◌, ℕ, ◌+◌, ◌<◌, Bool, true, false, if◌then◌else◌, List, [], ◌∷◌, ◌++◌, length, get_or, drop, map, filter, sym, ap, subst, ◌∙◌, append_assoc, add-one, drop-cons, slice_get, suc}
-use Rattle.std.specs.List.{list_any}
 use Rattle.vdv451_text.specs.declared.table.Field.{Field}
 use Rattle.vdv452_tables.specs.declared.cell.Cell.{Cell}
 use Rattle.vdv452_tables.specs.declared.fault.TableFault.{TableFault}
 use Rattle.vdv452_tables.specs.declared.fault.Refusal.{Refusal}
 use Rattle.vdv452_tables.specs.declared.table.Found.{Found}
 use Rattle.vdv452_tables.specs.Answers.{IsRefusal}
-use Rattle.vdv452_tables.specs.Calendar.{typed}
+use Rattle.vdv452_tables.specs.TypedRows.{typed}
 use Rattle.vdv452_tables.specs.Found.{found_cell, found_cells, found_key, found_faults, found_row_fault, found_row_faults}
-use Rattle.vdv452_tables.specs.Cells.{same_cells}
-use Rattle.vdv452_tables.specs.Rows.{cell_fault, fault, key_fault, when}
+use Rattle.vdv452_tables.specs.Rows.{cell_fault, fault, is_twice, key_fault, own_key, when}
 use Rattle.vdv452_tables.specs.declared.fault.TableKind.TheVariants.{KeyTwice}
 use Rattle.vdv452_tables.proofs.Refusals.{refusal_front, refusal_same, refusal_after}
 
@@ -66,22 +64,22 @@ module _ (found : List Found) (rows : List (List Field)) (i : ℕ) (row : List F
       ∙ so_far
 
   module _ (table : List ℕ) (before : List (List Cell)) (number : ℕ) (whole : List TableFault) (so_far : found_row_faults table found before number (drop i rows) ≡ whole) where
-    parts : found_row_fault table found before number row ++ found_row_faults table found (before ++ found_key found row ∷ []) (number + 1) (drop (i + 1) rows) ≡ whole
+    parts : found_row_fault table found before number row ++ found_row_faults table found (before ++ own_key (found_key found row)) (number + 1) (drop (i + 1) rows) ≡ whole
     parts = ap (found_row_faults table found before number) (sym at) ∙ so_far
 
     pub row_refused : (refusal : Refusal) → IsRefusal (found_row_fault table found before number row) refusal → IsRefusal whole refusal
-    row_refused refusal given = refusal_same _ whole refusal parts (refusal_front _ (found_row_faults table found (before ++ found_key found row ∷ []) (number + 1) (drop (i + 1) rows)) refusal given)
+    row_refused refusal given = refusal_same _ whole refusal parts (refusal_front _ (found_row_faults table found (before ++ own_key (found_key found row)) (number + 1) (drop (i + 1) rows)) refusal given)
 
-    pub row_step : (after : List (List Cell)) → found_row_fault table found before number row ≡ [] → after ≡ before ++ found_key found row ∷ [] → found_row_faults table found after (number + 1) (drop (i + 1) rows) ≡ whole
+    pub row_step : (after : List (List Cell)) → found_row_fault table found before number row ≡ [] → after ≡ before ++ own_key (found_key found row) → found_row_faults table found after (number + 1) (drop (i + 1) rows) ≡ whole
     row_step after right is =
         ap (λ keys. found_row_faults table found keys (number + 1) (drop (i + 1) rows)) is
-        ∙ ap (λ fs. fs ++ found_row_faults table found (before ++ found_key found row ∷ []) (number + 1) (drop (i + 1) rows)) (sym right)
+        ∙ ap (λ fs. fs ++ found_row_faults table found (before ++ own_key (found_key found row)) (number + 1) (drop (i + 1) rows)) (sym right)
         ∙ parts
 
 module _ (table : List ℕ) (found : List Found) (before : List (List Cell)) (number : ℕ) (row : List Field) (right : found_faults table number row found ≡ []) where
-  pub keyed_right : list_any (same_cells (found_key found row)) before ≡ false → found_row_fault table found before number row ≡ []
+  pub keyed_right : is_twice before (found_key found row) ≡ false → found_row_fault table found before number row ≡ []
   keyed_right new = ap (λ fs. fs ++ key_fault table number before (found_key found row)) right ∙ ap (λ b. when b (fault KeyTwice table [] number)) new
 
-  pub key_refused : (refusal : Refusal) → list_any (same_cells (found_key found row)) before ≡ true → IsRefusal (fault KeyTwice table [] number ∷ []) refusal → IsRefusal (found_row_fault table found before number row) refusal
+  pub key_refused : (refusal : Refusal) → is_twice before (found_key found row) ≡ true → IsRefusal (fault KeyTwice table [] number ∷ []) refusal → IsRefusal (found_row_fault table found before number row) refusal
   key_refused refusal twice given =
       refusal_after (found_faults table number row found) (key_fault table number before (found_key found row)) refusal right (subst (λ b. IsRefusal (when b (fault KeyTwice table [] number)) refusal) (sym twice) given)

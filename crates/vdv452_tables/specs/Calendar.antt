@@ -1,93 +1,77 @@
--- The typed rows of a network, and the version and the kind of a day.
-use Rattle.std.specs.Prelude.{◌≡◌, ◌≤◌, ℕ, ◌+◌, All, Contains, ◌==◌, ◌&&◌, nat_le, nat_lt, List, [], ◌∷◌, Option, Some, None, if◌then◌else◌, filter, slice_get}
+-- The rows of a network, and the version and the kind of a day.
+use Rattle.std.specs.Prelude.{◌≡◌, ◌≤◌, ℕ, All, Contains, ◌==◌, ◌&&◌, nat_le, nat_lt, List, [], ◌∷◌, Option, Some, None, if◌then◌else◌, filter}
 use Rattle.std.specs.Option.{option_map}
 use Rattle.std.specs.List.{find}
 use Rattle.vdv451_text.specs.declared.table.Table.{Table}
 use Rattle.vdv452_tables.specs.declared.cell.Cell.{Cell}
-use Rattle.vdv452_tables.specs.declared.cell.Cell.TheVariants.{Nothing, Number, Long, Word}
 use Rattle.vdv452_tables.specs.declared.rows.VersionRow.{VersionRow}
 use Rattle.vdv452_tables.specs.declared.rows.CalendarRow.{CalendarRow}
-use Rattle.vdv452_tables.specs.declared.rows.TripRow.{TripRow}
 use Rattle.vdv452_tables.specs.declared.schema.Schema.{Schema}
 use Rattle.vdv452_tables.specs.declared.reading.Needs.{Needs}
 use Rattle.vdv452_tables.specs.declared.reading.Needs.TheVariants as needs
 use Rattle.vdv452_tables.specs.Schema as schema
 use Rattle.vdv452_tables.specs.Rows.{rows_of}
-
--- the rows of a network, each table in the order of its rows
-pub record Net : Type 0 where
-  pub versions : List VersionRow
-  pub days : List CalendarRow
-  pub trips : List TripRow
-
--- the value of a number column, by its place in the schema
-abbrev pub number_in : Option Cell → ℕ
-number_in None = 0
-number_in (Some Nothing) = 0
-number_in (Some (Number n)) = n
-number_in (Some (Long n)) = 0
-number_in (Some (Word w)) = 0
-
-abbrev pub number_at : List Cell → ℕ → ℕ
-number_at row place = number_in (slice_get row place)
-
-abbrev pub long_in : Option Cell → ℕ
-long_in None = 0
-long_in (Some Nothing) = 0
-long_in (Some (Number n)) = 0
-long_in (Some (Long n)) = n
-long_in (Some (Word w)) = 0
-
-abbrev pub long_at : List Cell → ℕ → ℕ
-long_at row place = long_in (slice_get row place)
-
-abbrev pub word_in : Option Cell → List ℕ
-word_in None = []
-word_in (Some Nothing) = []
-word_in (Some (Number n)) = []
-word_in (Some (Long n)) = []
-word_in (Some (Word w)) = w
-
-abbrev pub word_at : List Cell → ℕ → List ℕ
-word_at row place = word_in (slice_get row place)
-
--- VER_GUELTIGKEIT, BASIS_VERSION
-abbrev pub version_row : List Cell → ℕ → VersionRow
-version_row row place = record { day = number_at row 0; version = number_at row 1 }
-
--- BASIS_VERSION, BETRIEBSTAG, TAGESART_NR
-abbrev pub calendar_row : List Cell → ℕ → CalendarRow
-calendar_row row place = record { version = number_at row 0; day = number_at row 1; kind = number_at row 2 }
-
--- BASIS_VERSION, FRT_FID, FRT_START, LI_NR, TAGESART_NR, FAHRTART_NR, FGR_NR, STR_LI_VAR, and the row's place
-abbrev pub trip_row : List Cell → ℕ → TripRow
-trip_row row place = record {
-  version = number_at row 0;
-  fid = long_at row 1;
-  start = number_at row 2;
-  line = number_at row 3;
-  kind = number_at row 4;
-  mode = number_at row 5;
-  group = number_at row 6;
-  variant = word_at row 7;
-  row = place;
-}
-
--- each row with its place, counted on from the first one
-abbrev pub typed : {A : Type 0} → (List Cell → ℕ → A) → ℕ → List (List Cell) → List A
-typed row_of place [] = []
-typed row_of place (row ∷ rows) = row_of row place ∷ typed row_of (place + 1) rows
+use Rattle.vdv452_tables.specs.TypedRows.{version_row, calendar_row, trip_row, point_row, type_row, line_row, stop_row, section_row, run_row, group_dwell_row, trip_dwell_row, dead_row, number_row}
+pub use Rattle.vdv452_tables.specs.TypedRows.{typed}
+pub use Rattle.vdv452_tables.specs.declared.net.Net.{Net}
 
 -- the tables that are looked at, in the order of their faults
 abbrev pub schemas_of : Needs → List Schema
 schemas_of needs.Calendar = schema.versions ∷ schema.days ∷ schema.trips ∷ []
+schemas_of needs.All =
+    schema.versions ∷ schema.days ∷ schema.points ∷ schema.sections ∷ schema.runs ∷ schema.group_dwells ∷ schema.trip_dwells ∷ schema.lines ∷ schema.stops
+    ∷ schema.trips ∷ schema.deads ∷ schema.types ∷ schema.plan ∷ schema.depots ∷ schema.line_types ∷ schema.reliefs ∷ schema.ways ∷ schema.drivers ∷ []
 
--- the rows of the tables, by their schemas
+-- the typed rows of a table
+abbrev pub rows_as : {A : Type 0} → (List Cell → ℕ → A) → Schema → List Table → List A
+rows_as row_of s tables = typed row_of 0 (rows_of s tables)
+
+-- no rows
+abbrev pub empty : Net
+empty = record {
+  versions = [];
+  days = [];
+  points = [];
+  sections = [];
+  runs = [];
+  group_dwells = [];
+  trip_dwells = [];
+  lines = [];
+  stops = [];
+  trips = [];
+  deads = [];
+  types = [];
+  plan = [];
+  depots = [];
+  line_types = [];
+  reliefs = [];
+  ways = [];
+  drivers = [];
+}
+
+-- the rows of the tables, by their schemas; none of a table that is not looked at
 abbrev pub net_of : Needs → List Table → Net
-net_of needs.Calendar tables = record {
-  versions = typed version_row 0 (rows_of schema.versions tables);
-  days = typed calendar_row 0 (rows_of schema.days tables);
-  trips = typed trip_row 0 (rows_of schema.trips tables);
+net_of needs.Calendar tables =
+    record empty { versions = rows_as version_row schema.versions tables; days = rows_as calendar_row schema.days tables; trips = rows_as trip_row schema.trips tables }
+net_of needs.All tables = record {
+  versions = rows_as version_row schema.versions tables;
+  days = rows_as calendar_row schema.days tables;
+  points = rows_as point_row schema.points tables;
+  sections = rows_as section_row schema.sections tables;
+  runs = rows_as run_row schema.runs tables;
+  group_dwells = rows_as group_dwell_row schema.group_dwells tables;
+  trip_dwells = rows_as trip_dwell_row schema.trip_dwells tables;
+  lines = rows_as line_row schema.lines tables;
+  stops = rows_as stop_row schema.stops tables;
+  trips = rows_as trip_row schema.trips tables;
+  deads = rows_as dead_row schema.deads tables;
+  types = rows_as type_row schema.types tables;
+  plan = rows_as number_row schema.plan tables;
+  depots = rows_as number_row schema.depots tables;
+  line_types = rows_as number_row schema.line_types tables;
+  reliefs = rows_as number_row schema.reliefs tables;
+  ways = rows_as number_row schema.ways tables;
+  drivers = rows_as number_row schema.drivers tables;
 }
 
 -- the row of the later day; of two with one day the first

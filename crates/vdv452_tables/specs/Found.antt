@@ -6,7 +6,7 @@ use Rattle.vdv452_tables.specs.declared.cell.Cell.{Cell}
 use Rattle.vdv452_tables.specs.declared.fault.TableFault.{TableFault}
 use Rattle.vdv452_tables.specs.declared.schema.Column.{Column}
 use Rattle.vdv452_tables.specs.declared.table.Found.{Found}
-use Rattle.vdv452_tables.specs.Rows.{place_of, cell_in, cell_fault, key_fault}
+use Rattle.vdv452_tables.specs.Rows.{place_of, cell_in, cell_fault, key_fault, own_key}
 
 abbrev pub found_one : Column → Option ℕ → List Found
 found_one column None = []
@@ -38,4 +38,4 @@ found_row_fault table found before place row = found_faults table place row foun
 abbrev pub found_row_faults : List ℕ → List Found → List (List Cell) → ℕ → List (List Field) → List TableFault
 found_row_faults table found before place [] = []
 found_row_faults table found before place (row ∷ rows) =
-    found_row_fault table found before place row ++ found_row_faults table found (before ++ found_key found row ∷ []) (place + 1) rows
+    found_row_fault table found before place row ++ found_row_faults table found (before ++ own_key (found_key found row)) (place + 1) rows

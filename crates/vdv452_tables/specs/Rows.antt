@@ -54,10 +54,15 @@ rows_in s (Some table) = map (cells s table) table.rows
 abbrev pub rows_of : Schema → List Table → List (List Cell)
 rows_of s tables = rows_in s (table_of s tables)
 
--- the keys of a table's rows
+-- the key of a row, where its table has a key
+abbrev pub own_key : List Cell → List (List Cell)
+own_key [] = []
+own_key (cell ∷ cells) = (cell ∷ cells) ∷ []
+
+-- the keys of a table's rows; none of a table without a key
 abbrev pub keys_in : Schema → Option Table → List (List Cell)
 keys_in s None = []
-keys_in s (Some table) = map (key_of s table) table.rows
+keys_in s (Some table) = flat_map (λ row. own_key (key_of s table row)) table.rows
 
 -- no two rows of a table have one key
 abbrev pub HasOwnKeys : List Table → Schema → Type 0
@@ -89,9 +94,14 @@ cell_fault table row column field = unwrap_or (option_map (field_fault table row
 abbrev pub cell_faults : Schema → Table → ℕ → List Field → List TableFault
 cell_faults s table place row = flat_map (λ column. cell_fault s.name place column (field_at table.columns row column.name)) s.columns
 
+-- one of the keys before is this key; a row without a key has none twice
+abbrev pub is_twice : List (List Cell) → List Cell → Bool
+is_twice before [] = false
+is_twice before (cell ∷ cells) = list_any (same_cells (cell ∷ cells)) before
+
 -- a row whose key a row before has
 abbrev pub key_fault : List ℕ → ℕ → List (List Cell) → List Cell → List TableFault
-key_fault table place before key = when (list_any (same_cells key) before) (fault kinds.KeyTwice table [] place)
+key_fault table place before key = when (is_twice before key) (fault kinds.KeyTwice table [] place)
 
 -- of a row first the values, then the key; `before` are the keys of the rows before
 abbrev pub row_fault : Schema → Table → List (List Cell) → ℕ → List Field → List TableFault
@@ -100,7 +110,7 @@ row_fault s table before place row = cell_faults s table place row ++ key_fault 
 -- row by row, counted from `place`
 abbrev pub row_faults : Schema → Table → List (List Cell) → ℕ → List (List Field) → List TableFault
 row_faults s table before place [] = []
-row_faults s table before place (row ∷ rows) = row_fault s table before place row ++ row_faults s table (before ++ key_of s table row ∷ []) (place + 1) rows
+row_faults s table before place (row ∷ rows) = row_fault s table before place row ++ row_faults s table (before ++ own_key (key_of s table row)) (place + 1) rows
 
 -- A table that must be there is there, it has all columns, and its rows are right.
 abbrev pub faults_in : Schema → Option Table → List TableFault

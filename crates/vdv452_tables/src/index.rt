@@ -2,7 +2,7 @@
 
 ghost use Rattle.std.specs.Prelude.{◌≡◌, IfOk, vec_len};
 ghost use Rattle.indexmap.specs.IndexMap.{get};
-ghost use Rattle.vdv452_tables.specs.Keys.{value_at};
+ghost use Rattle.vdv452_tables.specs.Keys.{IsIndex};
 
 use indexmap::IndexMap;
 use plan_core::Memory;
@@ -17,11 +17,8 @@ pub(crate) trait KeyedRow<K, V> {
     /// What is told of the row.
     ghost value_of: { Self → V };
 
-    fn key(&self) -> K
-        ensures { result ≡ key_of self.now };
-
-    fn value(&self) -> V
-        ensures { result ≡ value_of self.now };
+    fn entry(&self, alloc: Global) -> Result<(K, V), Memory>
+        ensures { IfOk result (λ entry. entry ≡ (key_of self.now, value_of self.now)) };
 }
 
 /// The values of rows by their keys, from the last row to the first, so that the first row of a key
@@ -30,14 +27,15 @@ pub(crate) fn index_of<K: Eq + Hash + Drop, V: Drop, R: KeyedRow<K, V>>(
     alloc: Global,
     rows: &[R],
 ) -> Result<IndexMap<K, V>, Memory>
-    ensures { IfOk result (λ index. (key : K) → get K.eq index key ≡ value_at K.eq R.key_of R.value_of rows.now key) }
+    ensures { IfOk result (λ index. IsIndex K.eq R.key_of R.value_of rows.now index) }
 {
-    let mut index = IndexMap::new(alloc);
+    let mut index = IndexMap::with_capacity(alloc, rows.len())?;
     let mut left = rows.len();
     while left > 0 {
         left -= 1;
         let row = &rows[left];
-        index.insert(row.key(), row.value())?;
+        let (key, value) = row.entry(alloc)?;
+        index.insert(key, value)?;
     }
     Ok(index)
 }

@@ -8,8 +8,13 @@
 #![tactic(auto)]
 
 mod cell;
+mod course;
 mod fault;
 mod index;
+mod indexes;
+mod indexing;
+mod keys;
+mod net;
 mod network;
 mod reading;
 mod rows;
@@ -17,8 +22,12 @@ mod schema;
 mod table;
 
 pub use fault::{TableFault, TableKind};
+pub use net::Net;
 pub use network::Network;
 pub use reading::{Needs, read_tables};
+pub use rows::lines::{LineRow, StopRow};
+pub use rows::places::{PointRow, TypeRow};
+pub use rows::times::{DeadRow, GroupDwellRow, RunRow, SectionRow, TripDwellRow};
 pub use rows::{CalendarRow, TripRow, VersionRow};
 
 #[cfg(test)]

@@ -1,11 +1,17 @@
 //! Typed rows.
 
 ghost use Rattle.std.specs.Prelude.{◌≡◌, ℕ, List, IfOk};
-ghost use Rattle.vdv452_tables.specs.Calendar as calendar;
+ghost use Rattle.vdv452_tables.specs.TypedRows as typed_rows;
+ghost use Rattle.vdv452_tables.specs.Values as values;
 ghost use Rattle.vdv452_tables.specs.declared.cell.Cell.{Cell};
 
+pub mod lines;
+pub mod numbers;
+pub mod places;
+pub mod times;
+
 use crate::cell::{Cell, bytes_of};
-use plan_core::{Bytes, Memory};
+use plan_core::{Bytes, Memory, Point};
 use std::alloc::Global;
 
 /// A version and the first day on which it may be in force (BASIS_VER_GUELTIGKEIT).
@@ -60,8 +66,8 @@ pub(crate) trait TypedRow: Drop {
         ensures { IfOk result (λ row. row ≡ row_of cells.now place) };
 }
 
-fn number_at(cells: &[Cell], place: usize) -> u32
-    ensures { result ≡ calendar.number_at cells.now place }
+pub(crate) fn number_at(cells: &[Cell], place: usize) -> u32
+    ensures { result ≡ values.number_at cells.now place }
 {
     match cells.get(place) {
         Some(Cell::Number(number)) => *number,
@@ -69,8 +75,28 @@ fn number_at(cells: &[Cell], place: usize) -> u32
     }
 }
 
-fn long_at(cells: &[Cell], place: usize) -> u64
-    ensures { result ≡ calendar.long_at cells.now place }
+/// The number of a column that may be empty.
+pub(crate) fn some_number_at(cells: &[Cell], place: usize) -> Option<u32>
+    ensures { result ≡ values.some_number_at cells.now place }
+{
+    match cells.get(place) {
+        Some(Cell::Number(number)) => Some(*number),
+        _ => None,
+    }
+}
+
+/// The point whose type and number stand at these places.
+pub(crate) fn point_at(cells: &[Cell], typ: usize, nr: usize) -> Point
+    ensures { result ≡ typed_rows.point_at cells.now typ nr }
+{
+    Point {
+        typ: number_at(cells, typ),
+        nr: number_at(cells, nr),
+    }
+}
+
+pub(crate) fn long_at(cells: &[Cell], place: usize) -> u64
+    ensures { result ≡ values.long_at cells.now place }
 {
     match cells.get(place) {
         Some(Cell::Long(number)) => *number,
@@ -78,8 +104,8 @@ fn long_at(cells: &[Cell], place: usize) -> u64
     }
 }
 
-fn word_at(alloc: Global, cells: &[Cell], place: usize) -> Result<Bytes, Memory>
-    ensures { IfOk result (λ word. word ≡ calendar.word_at cells.now place) }
+pub(crate) fn word_at(alloc: Global, cells: &[Cell], place: usize) -> Result<Bytes, Memory>
+    ensures { IfOk result (λ word. word ≡ values.word_at cells.now place) }
 {
     match cells.get(place) {
         Some(Cell::Word(word)) => bytes_of(alloc, word.as_slice()),
@@ -88,7 +114,7 @@ fn word_at(alloc: Global, cells: &[Cell], place: usize) -> Result<Bytes, Memory>
 }
 
 impl TypedRow for VersionRow {
-    ghost row_of = { calendar.version_row };
+    ghost row_of = { typed_rows.version_row };
 
     fn from_cells(_alloc: Global, cells: &[Cell], _place: u32) -> Result<VersionRow, Memory> {
         Ok(VersionRow {
@@ -99,7 +125,7 @@ impl TypedRow for VersionRow {
 }
 
 impl TypedRow for CalendarRow {
-    ghost row_of = { calendar.calendar_row };
+    ghost row_of = { typed_rows.calendar_row };
 
     fn from_cells(_alloc: Global, cells: &[Cell], _place: u32) -> Result<CalendarRow, Memory> {
         Ok(CalendarRow {
@@ -111,7 +137,7 @@ impl TypedRow for CalendarRow {
 }
 
 impl TypedRow for TripRow {
-    ghost row_of = { calendar.trip_row };
+    ghost row_of = { typed_rows.trip_row };
 
     fn from_cells(alloc: Global, cells: &[Cell], place: u32) -> Result<TripRow, Memory> {
         Ok(TripRow {

@@ -1,7 +1,11 @@
 //! The tables and columns that are read, as data.
 
-ghost use Rattle.std.specs.Prelude.{◌≡◌, IfOk};
+ghost use Rattle.std.specs.Prelude.{◌≡◌, IfOk, map};
+ghost use Rattle.vdv452_tables.specs.Outlines.{column_of};
 ghost use Rattle.vdv452_tables.specs.Schema as schema;
+
+pub mod own;
+pub mod standard;
 
 use crate::cell::bytes_of;
 use plan_core::{Bytes, Memory, Seq};
@@ -12,6 +16,18 @@ const GREATEST: u32 = 4_294_967_295;
 
 /// The greatest number of seconds in a table: two days.
 const GREATEST_SECONDS: u32 = 172_800;
+
+/// The greatest length of a section in metres.
+const GREATEST_LENGTH: u32 = 1_000_000;
+
+/// The greatest number of vehicles or drivers of a kind.
+const GREATEST_COUNT: u32 = 10_000;
+
+/// The greatest costs of a vehicle or a driver.
+const GREATEST_COSTS: u32 = 100_000_000;
+
+/// The greatest rate.
+const GREATEST_RATE: u32 = 10_000;
 
 /// The greatest number of a trip.
 const GREATEST_TRIP: u64 = 1_000_000_000_000_000_000;
@@ -46,65 +62,148 @@ pub struct Schema {
     pub columns: Seq<Column>,
 }
 
-fn key(alloc: Global, name: &[u8]) -> Result<Column, Memory>
-    ensures { IfOk result (λ column. column ≡ schema.key name.now) }
+/// A column that is read, with its name where it stands.
+#[derive(Clone, Copy)]
+pub(crate) struct Outline<'a> {
+    pub name: &'a [u8],
+    pub domain: Domain,
+    pub is_key: bool,
+    pub may_be_empty: bool,
+}
+
+/// A number of 32 bits in the key.
+fn key(name: &[u8]) -> Outline<'_>
+    ensures { column_of result ≡ schema.key name.now }
 {
-    Ok(Column {
-        name: bytes_of(alloc, name)?,
+    Outline {
+        name,
         domain: Domain::UpTo(GREATEST),
         is_key: true,
         may_be_empty: false,
-    })
+    }
 }
 
-fn plain(alloc: Global, name: &[u8], domain: Domain) -> Result<Column, Memory>
-    ensures { IfOk result (λ column. column ≡ schema.plain name.now domain) }
+/// The number of a trip in the key.
+fn trip_key(name: &[u8]) -> Outline<'_>
+    ensures { column_of result ≡ schema.trip_key name.now }
 {
-    Ok(Column {
-        name: bytes_of(alloc, name)?,
-        domain,
-        is_key: false,
-        may_be_empty: false,
-    })
-}
-
-fn number(alloc: Global, name: &[u8]) -> Result<Column, Memory>
-    ensures { IfOk result (λ column. column ≡ schema.number name.now) }
-{
-    plain(alloc, name, Domain::UpTo(GREATEST))
-}
-
-fn seconds(alloc: Global, name: &[u8]) -> Result<Column, Memory>
-    ensures { IfOk result (λ column. column ≡ schema.seconds name.now) }
-{
-    plain(alloc, name, Domain::UpTo(GREATEST_SECONDS))
-}
-
-fn trip_key(alloc: Global, name: &[u8]) -> Result<Column, Memory>
-    ensures { IfOk result (λ column. column ≡ schema.trip_key name.now) }
-{
-    Ok(Column {
-        name: bytes_of(alloc, name)?,
+    Outline {
+        name,
         domain: Domain::LongUpTo(GREATEST_TRIP),
         is_key: true,
         may_be_empty: false,
-    })
+    }
 }
 
-fn unseen(alloc: Global, name: &[u8]) -> Result<Column, Memory>
-    ensures { IfOk result (λ column. column ≡ schema.unseen name.now) }
+/// A name in the key.
+fn word_key(name: &[u8]) -> Outline<'_>
+    ensures { column_of result ≡ schema.word_key name.now }
 {
-    Ok(Column {
-        name: bytes_of(alloc, name)?,
+    Outline {
+        name,
+        domain: Domain::AnyWord,
+        is_key: true,
+        may_be_empty: false,
+    }
+}
+
+/// A column beside the key.
+fn plain(name: &[u8], domain: Domain) -> Outline<'_>
+    ensures { column_of result ≡ schema.plain name.now domain }
+{
+    Outline {
+        name,
+        domain: domain,
+        is_key: false,
+        may_be_empty: false,
+    }
+}
+
+/// A number of 32 bits.
+fn number(name: &[u8]) -> Outline<'_>
+    ensures { column_of result ≡ schema.number name.now }
+{
+    plain(name, Domain::UpTo(GREATEST))
+}
+
+/// Seconds of the operating day.
+fn seconds(name: &[u8]) -> Outline<'_>
+    ensures { column_of result ≡ schema.seconds name.now }
+{
+    plain(name, Domain::UpTo(GREATEST_SECONDS))
+}
+
+/// How many there are.
+fn count(name: &[u8]) -> Outline<'_>
+    ensures { column_of result ≡ schema.count name.now }
+{
+    plain(name, Domain::UpTo(GREATEST_COUNT))
+}
+
+/// Cost units for each.
+fn fixed_costs(name: &[u8]) -> Outline<'_>
+    ensures { column_of result ≡ schema.fixed_costs name.now }
+{
+    plain(name, Domain::UpTo(GREATEST_COSTS))
+}
+
+/// Cost units by distance or time.
+fn rate(name: &[u8]) -> Outline<'_>
+    ensures { column_of result ≡ schema.rate name.now }
+{
+    plain(name, Domain::UpTo(GREATEST_RATE))
+}
+
+/// Metres, or nothing where they are not known.
+fn some_metres(name: &[u8]) -> Outline<'_>
+    ensures { column_of result ≡ schema.some_metres name.now }
+{
+    Outline {
+        name,
+        domain: Domain::UpTo(GREATEST_LENGTH),
+        is_key: false,
+        may_be_empty: true,
+    }
+}
+
+/// A column that must be there; its values may be anything.
+fn unseen(name: &[u8]) -> Outline<'_>
+    ensures { column_of result ≡ schema.unseen name.now }
+{
+    Outline {
+        name,
         domain: Domain::Unseen,
         is_key: false,
         may_be_empty: true,
+    }
+}
+
+fn copied(alloc: Global, outline: &Outline<'_>) -> Result<Column, Memory>
+    ensures { IfOk result (λ column. column ≡ column_of outline.now) }
+{
+    Ok(Column {
+        name: bytes_of(alloc, outline.name)?,
+        domain: outline.domain,
+        is_key: outline.is_key,
+        may_be_empty: outline.may_be_empty,
     })
 }
 
-fn needed(alloc: Global, name: &[u8], columns: Vec<Column>) -> Result<Schema, Memory>
-    ensures { IfOk result (λ found. found ≡ schema.needed name.now columns.items) }
+fn all_copied(alloc: Global, outlines: &[Outline<'_>]) -> Result<Vec<Column>, Memory>
+    ensures { IfOk result (λ columns. columns.items ≡ map column_of outlines.now) }
 {
+    let mut columns = Vec::with_capacity(alloc, outlines.len())?;
+    for outline in outlines {
+        columns.push(copied(alloc, outline)?)?;
+    }
+    Ok(columns)
+}
+
+/// A table that must be there.
+fn needed(alloc: Global, name: &[u8], outlines: &[Outline<'_>]) -> Result<Schema, Memory>
+    ensures { IfOk result (λ made. made ≡ schema.needed name.now (map column_of outlines.now)) }
+{
+    let columns = all_copied(alloc, outlines)?;
     Ok(Schema {
         name: bytes_of(alloc, name)?,
         is_optional: false,
@@ -112,43 +211,14 @@ fn needed(alloc: Global, name: &[u8], columns: Vec<Column>) -> Result<Schema, Me
     })
 }
 
-/// BASIS_VER_GUELTIGKEIT: from which day on which version is in force.
-pub(crate) fn versions(alloc: Global) -> Result<Schema, Memory>
-    ensures { IfOk result (λ found. found ≡ schema.versions) }
+/// A table that may be absent.
+fn optional(alloc: Global, name: &[u8], outlines: &[Outline<'_>]) -> Result<Schema, Memory>
+    ensures { IfOk result (λ made. made ≡ schema.optional name.now (map column_of outlines.now)) }
 {
-    let columns = vec![in alloc;
-        key(alloc, b"VER_GUELTIGKEIT")?,
-        number(alloc, b"BASIS_VERSION")?,
-    ]?;
-    needed(alloc, b"BASIS_VER_GUELTIGKEIT", columns)
-}
-
-/// FIRMENKALENDER: the kind of each day.
-pub(crate) fn days(alloc: Global) -> Result<Schema, Memory>
-    ensures { IfOk result (λ found. found ≡ schema.days) }
-{
-    let columns = vec![in alloc;
-        key(alloc, b"BASIS_VERSION")?,
-        key(alloc, b"BETRIEBSTAG")?,
-        number(alloc, b"TAGESART_NR")?,
-    ]?;
-    needed(alloc, b"FIRMENKALENDER", columns)
-}
-
-/// REC_FRT: the trips.
-pub(crate) fn trips(alloc: Global) -> Result<Schema, Memory>
-    ensures { IfOk result (λ found. found ≡ schema.trips) }
-{
-    let columns = vec![in alloc;
-        key(alloc, b"BASIS_VERSION")?,
-        trip_key(alloc, b"FRT_FID")?,
-        seconds(alloc, b"FRT_START")?,
-        number(alloc, b"LI_NR")?,
-        number(alloc, b"TAGESART_NR")?,
-        number(alloc, b"FAHRTART_NR")?,
-        number(alloc, b"FGR_NR")?,
-        plain(alloc, b"STR_LI_VAR", Domain::AnyWord)?,
-        unseen(alloc, b"UM_UID")?,
-    ]?;
-    needed(alloc, b"REC_FRT", columns)
+    let columns = all_copied(alloc, outlines)?;
+    Ok(Schema {
+        name: bytes_of(alloc, name)?,
+        is_optional: true,
+        columns: Seq::from_vec(columns),
+    })
 }

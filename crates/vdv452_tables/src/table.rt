@@ -4,10 +4,10 @@ ghost use Rattle.std.specs.Prelude.{◌≡◌, ◌<◌, ◌^◌, true, not, [], 
 ghost use Rattle.std.specs.List.{find, flat_map, list_any};
 ghost use Rattle.std.specs.Option.{option_copied};
 ghost use Rattle.vdv452_tables.specs.Answers.{IsRefusal};
-ghost use Rattle.vdv452_tables.specs.Calendar.{typed};
+ghost use Rattle.vdv452_tables.specs.TypedRows.{typed};
 ghost use Rattle.vdv452_tables.specs.Cells.{cell_of as value_of, same_cells};
 ghost use Rattle.vdv452_tables.specs.Found.{found_columns, found_cells, found_key, found_faults, found_row_fault, found_row_faults};
-ghost use Rattle.vdv452_tables.specs.Rows.{cell_in, cell_fault, field_fault, has_name, missing_column, place_of as first_place, rows_of, table_faults, rows_in, faults_in};
+ghost use Rattle.vdv452_tables.specs.Rows.{cell_in, cell_fault, field_fault, has_name, missing_column, is_twice, own_key, place_of as first_place, rows_of, table_faults, rows_in, faults_in};
 
 use crate::cell::{Cell, bytes_of, cell_of, copy_of, is_empty_field};
 use crate::fault::{Refusal, TableKind, refusal_of};
@@ -166,13 +166,27 @@ fn read_row(
     })
 }
 
-/// Notes a key among those of the rows before. Answers whether none of these is the same.
-fn note_key(keys: &mut IndexSet<Seq<Cell>>, key: Seq<Cell>) -> Result<bool, Refusal>
+/// Puts a key among others. Answers whether none of these is the same.
+fn insert_key(keys: &mut IndexSet<Seq<Cell>>, key: Seq<Cell>) -> Result<bool, Refusal>
     ensures new { IfOk result (λ is_new. is_new ≡ not (list_any (same_cells key) keys.old.keys)) }
     ensures noted { IfOk result (λ is_new. is_new ≡ true → keys.new.keys ≡ keys.old.keys ++ key ∷ []) }
     ensures memory { IfErr result (λ refusal. refusal ≡ Refusal.Memory) }
 {
     Ok(keys.insert(key)?)
+}
+
+/// Notes a row's key among those of the rows before. Answers whether none of these is the same. A
+/// row of a table without a key has nothing to note.
+fn note_key(keys: &mut IndexSet<Seq<Cell>>, key: Seq<Cell>) -> Result<bool, Refusal>
+    ensures new { IfOk result (λ is_new. is_new ≡ not (is_twice keys.old.keys key)) }
+    ensures noted { IfOk result (λ is_new. is_new ≡ true → keys.new.keys ≡ keys.old.keys ++ own_key key) }
+    ensures memory { IfErr result (λ refusal. refusal ≡ Refusal.Memory) }
+{
+    if key.is_empty() {
+        Ok(true)
+    } else {
+        insert_key(keys, key)
+    }
 }
 
 /// A row's values, or its first fault. Its key is noted among those of the rows before.
@@ -185,7 +199,7 @@ fn read_keyed(
     keys: &mut IndexSet<Seq<Cell>>,
 ) -> Result<Seq<Cell>, Refusal>
     ensures cells { IfOk result (λ cells. cells ≡ found_cells found.now row.now) }
-    ensures key { OnOk result (keys.new.keys ≡ keys.old.keys ++ found_key found.now row.now ∷ []) }
+    ensures key { OnOk result (keys.new.keys ≡ keys.old.keys ++ own_key (found_key found.now row.now)) }
     ensures right { OnOk result (found_row_fault table.now found.now keys.old.keys number row.now ≡ []) }
     ensures wrong { IfErr result (IsRefusal (found_row_fault table.now found.now keys.old.keys number row.now)) }
 {

@@ -1,109 +1,77 @@
-//! A day's tables, right and with one fault.
+//! A day's tables and a small network, right and with one fault.
 
 ghost use Rattle.std.specs.Prelude.{◌<◌, ◌↔◌, ◌^◌, All, IsTrue, length};
 
-use crate::{Needs, TableFault, TableKind, read_tables};
-use plan_core::{Bytes, Memory, Seq};
+use crate::{Needs, Network, TableFault, TableKind, read_tables};
+use plan_core::{Bytes, Memory, Point, Seq};
 use std::alloc::Global;
-use vdv451_text::{Field, Head, Table};
+use vdv451_text::{Table, read_file};
 
-/// The value at the start of the second trip.
-#[derive(Clone, Copy)]
-enum Start {
-    Num(i64),
-    Text(&'static [u8]),
-    Empty,
-}
+/// A version and a day, whose columns stand in an order of their own; a second TAGESART_NR does not count.
+const DAYS: &[u8] =
+    b"tbl; BASIS_VER_GUELTIGKEIT\natr; VER_GUELTIGKEIT; BASIS_VERSION\nfrm; num[10.0]; num[10.0]\nrec; 20260101; 1\nend; 1\ntbl; FIRMENKALENDER\natr; TAGESART_NR; BETRIEBSTAG; TAGESART_NR; BASIS_VERSION\nfrm; num[10.0]; num[10.0]; num[10.0]; num[10.0]\nrec; 1; 20260302; 7; 1\nend; 1\n";
 
-fn bytes(alloc: Global, text: &[u8]) -> Result<Bytes, Memory> {
-    Ok(Bytes::from_vec(Vec::from_slice(alloc, text)?))
-}
+/// Trip 1, without the end of its table.
+const TRIPS: &[u8] =
+    b"tbl; REC_FRT\natr; BASIS_VERSION; FRT_FID; FRT_START; LI_NR; TAGESART_NR; FAHRTART_NR; FGR_NR; STR_LI_VAR; UM_UID\nfrm; num[9.0]; num[9.0]; num[9.0]; num[9.0]; num[9.0]; num[9.0]; num[9.0]; num[9.0]; num[9.0]\nrec; 1; 1; 28800; 1; 1; 1; 1; \"H\";\n";
 
-fn head(alloc: Global, name: &[u8]) -> Result<Head, Memory> {
-    Ok(Head {
-        name: bytes(alloc, name)?,
-        format: bytes(alloc, b"num[10.0]")?,
-    })
-}
+const SECOND: &[u8] = b"rec; 1; 2; 33000; 1; 1; 1; 1; -7;\n";
 
-fn numbers(alloc: Global, values: &[i64]) -> Result<Vec<Field>, Memory> {
-    let mut row = Vec::new(alloc);
-    for value in values {
-        row.push(Field::Num(*value))?;
+const END: &[u8] = b"end; 2\neof; 3\n";
+
+const TWICE: &[u8] = b"end; 2\ntbl; REC_FRT\natr; BASIS_VERSION\nfrm; num[9.0]\nend; 0\neof; 4\n";
+
+/// Points, and times between them. The second point follows.
+const TIMES: &[u8] =
+    b"end; 2\ntbl; REC_SEL\natr; BASIS_VERSION; BEREICH_NR; ONR_TYP_NR; ORT_NR; SEL_ZIEL; SEL_ZIEL_TYP; SEL_LAENGE\nfrm; num[9.0]; num[9.0]; num[9.0]; num[9.0]; num[9.0]; num[9.0]; num[9.0]\nrec; 1; 5; 1; 10; 20; 2; 400\nrec; 1; 5; 2; 20; 10; 1;\nend; 2\ntbl; SEL_FZT_FELD\natr; BASIS_VERSION; BEREICH_NR; FGR_NR; ONR_TYP_NR; ORT_NR; SEL_ZIEL; SEL_ZIEL_TYP; SEL_FZT\nfrm; num[9.0]; num[9.0]; num[9.0]; num[9.0]; num[9.0]; num[9.0]; num[9.0]; num[9.0]\nrec; 1; 5; 3; 1; 10; 20; 2; 90\nend; 1\ntbl; ORT_HZTF\natr; BASIS_VERSION; FGR_NR; ONR_TYP_NR; ORT_NR; HP_HZT\nfrm; num[9.0]; num[9.0]; num[9.0]; num[9.0]; num[9.0]\nrec; 1; 3; 2; 20; 15\nend; 1\ntbl; REC_FRT_HZT\natr; BASIS_VERSION; FRT_FID; ONR_TYP_NR; ORT_NR; FRT_HZT_ZEIT\nfrm; num[9.0]; num[9.0]; num[9.0]; num[9.0]; num[9.0]\nrec; 1; 2; 2; 20; 40\nend; 1\ntbl; UEB_FZT\natr; BASIS_VERSION; BEREICH_NR; FGR_NR; ONR_TYP_NR; ORT_NR; UEB_ZIEL_TYP; UEB_ZIEL; UEB_FAHRZEIT\nfrm; num[9.0]; num[9.0]; num[9.0]; num[9.0]; num[9.0]; num[9.0]; num[9.0]; num[9.0]\nrec; 1; 5; 3; 1; 10; 2; 20; 300\nrec; 1; 5; 3; 2; 20; 1; 10; 310\nend; 2\ntbl; MENGE_FZG_TYP\natr; BASIS_VERSION; FZG_TYP_NR\nfrm; num[9.0]; num[9.0]\nrec; 1; 2\nend; 1\n";
+
+const POINTS: &[u8] =
+    b"tbl; REC_ORT\natr; BASIS_VERSION; ONR_TYP_NR; ORT_NR\nfrm; num[9.0]; num[9.0]; num[9.0]\nrec; 1; 1; 10\n";
+
+/// Two variants of a line, whose courses stand in another order.
+const LINES: &[u8] =
+    b"tbl; REC_LID\natr; BASIS_VERSION; LI_NR; STR_LI_VAR; BEREICH_NR\nfrm; num[9.0]; num[9.0]; char[6]; num[9.0]\nrec; 1; 7; \"H\"; 5\nrec; 1; 7; \"R\"; 6\nend; 2\ntbl; LID_VERLAUF\natr; BASIS_VERSION; LI_LFD_NR; LI_NR; STR_LI_VAR; ONR_TYP_NR; ORT_NR\nfrm; num[9.0]; num[9.0]; num[9.0]; char[6]; num[9.0]; num[9.0]\nrec; 1; 2; 7; \"H\"; 2; 20\nrec; 1; 1; 7; \"R\"; 1; 10\nrec; 1; 1; 7; \"H\"; 1; 10\nend; 3\n";
+
+/// The tables of this project: X_ABLOESE is absent, and X_PLAN has two rows that are the same.
+const SETTINGS: &[u8] =
+    b"tbl; X_PLAN\natr; UEB_BEREICH_NR; UEB_FGR_NR; WENDE_SEK; MAX_WARTE_SEK; UEBERGABE_SEK\nfrm; num[9.0]; num[9.0]; num[9.0]; num[9.0]; num[9.0]\nrec; 5; 3; 60; 3600; 300\nrec; 5; 3; 60; 3600; 300\nend; 2\ntbl; X_HOF\natr; HOF_NR; ONR_TYP_NR; ORT_NR; FZG_TYP_NR; ANZAHL; FIX_KOSTEN; LEER_SATZ; STAND_SATZ\nfrm; num[9.0]; num[9.0]; num[9.0]; num[9.0]; num[9.0]; num[9.0]; num[9.0]; num[9.0]\nrec; 1; 2; 20; 2; 4; 100; 1; 3\nend; 1\ntbl; X_LINIE_FZG\natr; LI_NR; FZG_TYP_NR\nfrm; num[9.0]; num[9.0]\nrec; 7; 2\nend; 1\ntbl; X_WEG\natr; ONR_TYP_NR; ORT_NR; ZIEL_TYP; ZIEL_NR; WEG_SEK\nfrm; num[9.0]; num[9.0]; num[9.0]; num[9.0]; num[9.0]\nrec; 1; 10; 2; 20; 120\nend; 1\ntbl; X_FAHRER\natr; GRUPPE_NR; ONR_TYP_NR; ORT_NR; ANZAHL; FIX_KOSTEN; SATZ; ANMELDE_SEK; ABMELDE_SEK\nfrm; num[9.0]; num[9.0]; num[9.0]; num[9.0]; num[9.0]; num[9.0]; num[9.0]; num[9.0]\nrec; 1; 1; 10; 9; 50; 3; 300; 200\nend; 1\n";
+
+const HERE: Point = Point { typ: 1, nr: 10 };
+
+const THERE: Point = Point { typ: 2, nr: 20 };
+
+/// The tables that these parts spell together; none where they spell none.
+fn tables_in(alloc: Global, parts: &[&[u8]]) -> Result<Seq<Table>, Memory> {
+    let mut text = Vec::new(alloc);
+    for part in parts {
+        text.extend_from_slice(part)?;
     }
-    Ok(row)
-}
-
-fn versions(alloc: Global) -> Result<Table, Memory> {
-    let columns = vec![in alloc;
-        head(alloc, b"VER_GUELTIGKEIT")?,
-        head(alloc, b"BASIS_VERSION")?,
-    ]?;
-    let rows = vec![in alloc; Seq::from_vec(numbers(alloc, &[20_260_101, 1])?)]?;
-    Ok(Table {
-        name: bytes(alloc, b"BASIS_VER_GUELTIGKEIT")?,
-        columns: Seq::from_vec(columns),
-        rows: Seq::from_vec(rows),
-    })
-}
-
-/// The columns stand in an order of their own, and a second TAGESART_NR does not count.
-fn days(alloc: Global) -> Result<Table, Memory> {
-    let columns = vec![in alloc;
-        head(alloc, b"TAGESART_NR")?,
-        head(alloc, b"BETRIEBSTAG")?,
-        head(alloc, b"TAGESART_NR")?,
-        head(alloc, b"BASIS_VERSION")?,
-    ]?;
-    let rows = vec![in alloc; Seq::from_vec(numbers(alloc, &[1, 20_260_302, 7, 1])?)]?;
-    Ok(Table {
-        name: bytes(alloc, b"FIRMENKALENDER")?,
-        columns: Seq::from_vec(columns),
-        rows: Seq::from_vec(rows),
-    })
-}
-
-fn trip(alloc: Global, fid: i64, start: Field, variant: Field) -> Result<Seq<Field>, Memory> {
-    let mut row = numbers(alloc, &[1, fid])?;
-    row.push(start)?;
-    row.push(Field::Num(1))?;
-    row.push(Field::Num(1))?;
-    row.push(Field::Num(1))?;
-    row.push(Field::Num(1))?;
-    row.push(variant)?;
-    row.push(Field::Empty)?;
-    Ok(Seq::from_vec(row))
-}
-
-/// Trip 1 from 28,800 on, and a second one.
-fn trips(alloc: Global, fid: i64, start: Start) -> Result<Table, Memory> {
-    let mut columns = vec![in alloc; head(alloc, b"BASIS_VERSION")?, head(alloc, b"FRT_FID")?]?;
-    columns.push(head(alloc, b"FRT_START")?)?;
-    columns.push(head(alloc, b"LI_NR")?)?;
-    columns.push(head(alloc, b"TAGESART_NR")?)?;
-    columns.push(head(alloc, b"FAHRTART_NR")?)?;
-    columns.push(head(alloc, b"FGR_NR")?)?;
-    columns.push(head(alloc, b"STR_LI_VAR")?)?;
-    columns.push(head(alloc, b"UM_UID")?)?;
-    let start = match start {
-        Start::Num(seconds) => Field::Num(seconds),
-        Start::Text(text) => Field::Text(bytes(alloc, text)?),
-        Start::Empty => Field::Empty,
-    };
-    let variant = Field::Text(bytes(alloc, b"H")?);
-    let first = trip(alloc, 1, Field::Num(28_800), variant)?;
-    let second = trip(alloc, fid, start, Field::Num(-7))?;
-    Ok(Table {
-        name: bytes(alloc, b"REC_FRT")?,
-        columns: Seq::from_vec(columns),
-        rows: Seq::from_vec(vec![in alloc; first, second]?),
-    })
+    match read_file(alloc, text.as_slice(), 10_000) {
+        Ok(tables) => Ok(tables),
+        Err(_) => Ok(Seq::new(alloc)),
+    }
 }
 
 fn have_few_rows(tables: &[Table]) -> bool
     ensures { IsTrue result ↔ All (λ table. length table.rows < 2 ^ 32) tables.now }
 {
     tables.iter().all(|table| table.rows.len() < 4_294_967_296)
+}
+
+fn has_day(net: &Network) -> bool {
+    net.version_at(20_260_302) == Some(1)
+        && net.version_at(20_251_231).is_none()
+        && net.kind_at(1, 20_260_302) == Some(1)
+        && net.kind_at(1, 20_260_301).is_none()
+}
+
+fn has_trips(net: &Network) -> bool {
+    match net.trip_rows() {
+        [_, second] => {
+            second.fid == 2 && second.row == 1 && second.variant.as_slice() == b"-7".as_slice()
+        }
+        _ => false,
+    }
 }
 
 fn kind_and_row(fault: &TableFault) -> (TableKind, bool, u32) {
@@ -114,66 +82,125 @@ fn kind_and_row(fault: &TableFault) -> (TableKind, bool, u32) {
 #[test]
 fn reads_a_day_or_names_its_first_fault(rt: HostRuntime) -> Result<(), Memory> {
     let alloc = rt.alloc();
-    let rows = [
-        (2, Start::Num(33_000), false, None),
-        (2, Start::Text(b"+033000"), false, None),
-        (2, Start::Num(172_800), false, None),
+    let cases: [([&[u8]; 2], Option<(TableKind, bool, u32)>); 9] = [
+        ([SECOND, END], None),
+        ([b"rec; 1; 2; \"+033000\"; 1; 1; 1; 1; -7;\n", END], None),
+        ([b"rec; 1; 2; 172800; 1; 1; 1; 1; -7;\n", END], None),
+        ([SECOND, TWICE], Some((TableKind::TableTwice, false, 0))),
         (
-            2,
-            Start::Num(33_000),
-            true,
-            Some((TableKind::TableTwice, false, 0)),
+            [b"rec; 1; 2; ; 1; 1; 1; 1; -7;\n", END],
+            Some((TableKind::NoValue, true, 2)),
         ),
-        (2, Start::Empty, false, Some((TableKind::NoValue, true, 2))),
         (
-            2,
-            Start::Text(b""),
-            false,
+            [b"rec; 1; 2; \"\"; 1; 1; 1; 1; -7;\n", END],
             Some((TableKind::Range, true, 2)),
         ),
         (
-            2,
-            Start::Num(172_801),
-            false,
+            [b"rec; 1; 2; 172801; 1; 1; 1; 1; -7;\n", END],
             Some((TableKind::Range, true, 2)),
         ),
         (
-            1,
-            Start::Num(172_801),
-            false,
+            [b"rec; 1; 1; 172801; 1; 1; 1; 1; -7;\n", END],
             Some((TableKind::Range, true, 2)),
         ),
         (
-            1,
-            Start::Num(33_000),
-            false,
+            [b"rec; 1; 1; 33000; 1; 1; 1; 1; -7;\n", END],
             Some((TableKind::KeyTwice, false, 2)),
         ),
     ];
-    for (fid, start, twice, fault) in rows {
-        let mut tables = vec![in alloc; versions(alloc)?, days(alloc)?, trips(alloc, fid, start)?]?;
-        if twice {
-            tables.push(trips(alloc, 3, start)?)?;
-        }
+    for (rest, fault) in cases {
+        let tables = tables_in(alloc, &[DAYS, TRIPS, rest[0], rest[1]])?;
         assert!(rt; have_few_rows(tables.as_slice()));
         match read_tables(alloc, tables.as_slice(), Needs::Calendar) {
-            Ok(net) => {
-                assert!(rt; fault.is_none());
-                assert_eq!(rt; net.version_at(20_260_302), Some(1));
-                assert_eq!(rt; net.version_at(20_251_231), None);
-                assert_eq!(rt; net.kind_at(1, 20_260_302), Some(1));
-                assert_eq!(rt; net.kind_at(1, 20_260_301), None);
-                match net.trip_rows() {
-                    [_, second] => {
-                        assert_eq!(rt; second.fid, 2);
-                        assert_eq!(rt; second.row, 1);
-                        assert!(rt; second.variant.as_slice() == b"-7".as_slice());
-                    }
-                    _ => assert!(rt; false),
-                }
-            }
+            Ok(net) => assert!(rt; fault.is_none() && has_day(&net) && has_trips(&net)),
             Err(refused) => assert!(rt; fault == Some(kind_and_row(&refused))),
         }
+    }
+    Ok(())
+}
+
+/// A network whose REC_ORT has this second row.
+fn network_tables(alloc: Global, point: &[u8]) -> Result<Seq<Table>, Memory> {
+    let parts = [
+        DAYS,
+        TRIPS,
+        SECOND,
+        b"end; 2\n",
+        LINES,
+        SETTINGS,
+        POINTS,
+        point,
+        TIMES,
+        b"eof; 17\n",
+    ];
+    tables_in(alloc, &parts)
+}
+
+fn has_times(net: &Network) -> bool {
+    net.run_time(1, 5, 3, HERE, THERE) == Some(90)
+        && net.run_time(1, 5, 3, HERE, HERE).is_none()
+        && net.trip_dwell(1, 2, THERE) == Some(40)
+        && net.group_dwell(1, 3, THERE) == Some(15)
+        && net.dead_time(1, 5, 3, THERE, HERE) == Some(310)
+}
+
+fn has_places(net: &Network) -> bool {
+    net.length(1, 5, HERE, THERE) == Some(400)
+        && net.length(1, 5, THERE, HERE).is_none()
+        && net.dead_rows().len() == 2
+        && net.has_point(1, HERE)
+        && !net.has_point(1, THERE)
+        && net.has_type(1, 2)
+        && !net.has_type(2, 2)
+}
+
+fn has_lines(net: &Network, variant: &Bytes) -> bool {
+    net.area(1, 7, variant) == Some(5)
+        && net.area(1, 8, variant).is_none()
+        && net.course(1, 7, variant) == [HERE, THERE].as_slice()
+        && net.course(2, 7, variant).is_empty()
+}
+
+fn has_settings(net: &Network) -> bool {
+    let [way] = net.extra("X_WEG") else {
+        return false;
+    };
+    way.as_slice() == [1, 10, 2, 20, 120].as_slice()
+        && net.extra("X_PLAN").len() == 2
+        && net.extra("X_ABLOESE").is_empty()
+        && net.extra("REC_ORT").is_empty()
+}
+
+#[test]
+fn looks_up_what_the_rows_say(rt: HostRuntime) -> Result<(), Memory> {
+    let alloc = rt.alloc();
+    let tables = network_tables(alloc, b"rec; 1; 1; 20\n")?;
+    let variant = Bytes::from_vec(Vec::from_slice(alloc, b"H")?);
+    assert!(rt; have_few_rows(tables.as_slice()));
+    match read_tables(alloc, tables.as_slice(), Needs::All) {
+        Ok(net) => {
+            assert!(rt; has_times(&net) && has_places(&net));
+            assert!(rt; has_lines(&net, &variant) && has_settings(&net));
+        }
+        Err(_) => assert!(rt; false),
+    }
+    Ok(())
+}
+
+fn is_second_point(refused: &TableFault) -> bool {
+    refused.kind == TableKind::KeyTwice
+        && refused.row == 2
+        && refused.table.as_slice() == b"REC_ORT".as_slice()
+}
+
+#[test]
+fn a_point_may_not_stand_twice(rt: HostRuntime) -> Result<(), Memory> {
+    let alloc = rt.alloc();
+    let tables = network_tables(alloc, b"rec; 1; 1; 10\n")?;
+    assert!(rt; have_few_rows(tables.as_slice()));
+    match read_tables(alloc, tables.as_slice(), Needs::All) {
+        Ok(_) => assert!(rt; false),
+        Err(refused) => assert!(rt; is_second_point(&refused)),
     }
     Ok(())
 }

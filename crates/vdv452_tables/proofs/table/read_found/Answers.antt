@@ -1,7 +1,7 @@
 use Rattle.std.proofs.Common.{◌≡◌, [], subst, ◌∙◌}
 use Rattle.std.proofs.lemmas.Result.{IfErr-weaker, on_ok_weaker}
 use Rattle.std.specs.Result.{IfOk}
-use Rattle.vdv452_tables.specs.Calendar.{typed}
+use Rattle.vdv452_tables.specs.TypedRows.{typed}
 use Rattle.vdv452_tables.specs.Rows.{missing_columns, row_faults}
 use Rattle.vdv452_tables.proofs.FoundLemmas.{faults_by_name, none_missing, rows_by_name}
 use Rattle.vdv452_tables.proofs.Refusals.{refusal_after, refusal_same}

@@ -1,5 +1,5 @@
 use Rattle.std.proofs.Common.{◌≡◌, ◌+◌, ◌++◌, [], drop, map, vec_len}
-use Rattle.vdv452_tables.specs.Calendar.{typed}
+use Rattle.vdv452_tables.specs.TypedRows.{typed}
 use Rattle.vdv452_tables.specs.Found.{found_cells, found_row_faults}
 use Rattle.vdv452_tables.proofs.table.read_rows.Given as goal
 

@@ -8,7 +8,7 @@ pub returns-clause-in_force : goal.returns-clause-in_force
 returns-clause-in_force c =
     let rows = c.as_slice.result.now in
     let day = c.args.day in
-    let rows_are : rows ≡ c.args.self.now.versions = cc (c.as_slice.ensures.value, ap (λ (n : Net). n.versions) c.self.view_is) in
+    let rows_are : rows ≡ c.args.self.now.versions = cc (c.as_slice.ensures, ap (λ (n : Net). n.versions) c.self.view_is) in
     let told : IfSome c.version_in.result (IsInForce rows day) = rw c.version_in.ensures (in_force rows day (latest (begun rows day)) (latest_tells rows day)) in
     subst (λ (rs : List VersionRow). IfSome c.version_in.result (IsInForce rs c.args.day)) rows_are told
 
@@ -16,6 +16,6 @@ pub returns-clause-none : goal.returns-clause-none
 returns-clause-none c =
     let rows = c.as_slice.result.now in
     let day = c.args.day in
-    let rows_are : rows ≡ c.args.self.now.versions = cc (c.as_slice.ensures.value, ap (λ (n : Net). n.versions) c.self.view_is) in
+    let rows_are : rows ≡ c.args.self.now.versions = cc (c.as_slice.ensures, ap (λ (n : Net). n.versions) c.self.view_is) in
     let told : IsNone c.version_in.result ↔ All (λ row. day < row.day) rows = rw c.version_in.ensures (none_in_force rows day (latest (begun rows day)) (latest_tells rows day)) in
     subst (λ (rs : List VersionRow). IsNone c.version_in.result ↔ All (λ row. c.args.day < row.day) rs) rows_are told
