@@ -1,0 +1,5 @@
+pub mod FaultLemmas
+pub mod IndexLemmas
+pub mod ListSteps
+pub mod OrderLemmas
+pub mod RangeLemmas

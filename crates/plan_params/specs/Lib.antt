@@ -1,0 +1,6 @@
+pub mod Faults
+pub mod Indexes
+pub mod Limits
+pub mod LookUps
+pub mod Rules
+pub mod Settings

@@ -1,0 +1,72 @@
+//! Why settings are refused.
+
+ghost use Rattle.std.specs.Prelude.{◌≡◌, IfOk, Some};
+ghost use Rattle.plan_params.specs.Faults.{IsRefusal, fault, fault_of, memory_fault};
+
+use crate::testing::Found;
+use plan_core::{Bytes, Memory};
+use std::alloc::Global;
+use thiserror::Error;
+
+/// What is wrong with the settings.
+#[derive(Clone, Copy, Debug, PartialEq, Eq, Error)]
+pub enum ParamKind {
+    /// X_PLAN has not one row.
+    #[error("the plan has not one row")]
+    NotOne,
+    /// X_HOF or X_FAHRER has more than 32 rows.
+    #[error("too many rows")]
+    TooMany,
+    /// A point has no row in REC_ORT of the version.
+    #[error("an unknown point")]
+    UnknownPoint,
+    /// A type of vehicles has no row in MENGE_FZG_TYP of the version.
+    #[error("an unknown type of vehicles")]
+    UnknownType,
+    /// Want of memory.
+    #[error("out of memory")]
+    Memory,
+}
+
+/// The first fault of the settings. Rows count from 1, and those past 4,294,967,295 count as that one.
+/// The row is 0 where the fault is about the table as a whole. For want of memory the table is empty
+/// and the row is 0.
+#[derive(Debug, Drop)]
+pub struct ParamFault {
+    pub kind: ParamKind,
+    pub table: Bytes,
+    pub row: u32,
+}
+
+impl ParamFault {
+    /// Want of memory. It takes no memory.
+    pub(crate) fn memory(alloc: Global) -> ParamFault
+        ensures { result ≡ memory_fault }
+    {
+        ParamFault {
+            kind: ParamKind::Memory,
+            table: Bytes::new(alloc),
+            row: 0,
+        }
+    }
+}
+
+fn copied_name(alloc: Global, name: &str) -> Result<Bytes, Memory>
+    ensures { IfOk result (λ copy. copy ≡ name.now) }
+{
+    Ok(Bytes::from_vec(Vec::from_slice(alloc, name.as_bytes())?))
+}
+
+/// The fault that is found, or want of memory.
+pub(crate) fn refusal_of(alloc: Global, found: &Found<'_>) -> ParamFault
+    ensures { IsRefusal (Some (fault_of found.now)) result }
+{
+    match copied_name(alloc, found.table) {
+        Ok(table) => ParamFault {
+            kind: found.kind,
+            table,
+            row: found.row,
+        },
+        Err(_) => ParamFault::memory(alloc),
+    }
+}
