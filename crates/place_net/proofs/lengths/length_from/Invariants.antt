@@ -1,0 +1,11 @@
+use Rattle.std.proofs.Common.{◌≡◌, ◌*◌, ◌≤◌, drop}
+use Rattle.place_net.specs.Routes.{length_over, links_from, section_length}
+use Rattle.place_net.proofs.LengthLemmas.{length_on_top}
+use Rattle.place_net.proofs.lengths.length_from.Given as goal
+
+-- the metres so far and what is left make the whole
+abbrev pub invariant-loop-to : goal.invariant-loop-to
+invariant-loop-to l = record {
+  bounded : l.metres ≤ 1000000 * l.to-index;
+  whole : length_on_top (section_length l.net l.version l.area) l.metres (links_from l.from (drop l.to-index l.points)) ≡ length_over (section_length l.net l.version l.area) (links_from l.fn.first l.points);
+}

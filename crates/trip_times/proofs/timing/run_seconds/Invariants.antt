@@ -1,0 +1,12 @@
+use Rattle.std.proofs.Common.{◌≡◌, ◌≤◌, drop}
+use Rattle.trip_times.specs.Courses.{links_from}
+use Rattle.trip_times.specs.Timing.{run_time_of}
+use Rattle.trip_times.proofs.TimingLemmas.{runs_on}
+use Rattle.trip_times.proofs.timing.run_seconds.Given as goal
+
+-- what is left decides as the whole does
+abbrev pub invariant-loop-to : goal.invariant-loop-to
+invariant-loop-to l = record {
+  within : l.seconds ≤ 172801;
+  whole : runs_on (run_time_of l.net l.version l.area l.group) l.seconds (links_from l.from (drop l.to-index l.points)) ≡ runs_on (run_time_of l.net l.version l.area l.group) 0 (links_from l.fn.first l.points);
+}
