@@ -41,7 +41,7 @@ count name = plain name (UpTo 10000)
 abbrev pub fixed_costs : List ℕ → Column
 fixed_costs name = plain name (UpTo 100000000)
 
--- cost units by distance or time
+-- cost units a second
 abbrev pub rate : List ℕ → Column
 rate name = plain name (UpTo 10000)
 

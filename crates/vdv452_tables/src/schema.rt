@@ -147,7 +147,7 @@ fn fixed_costs(name: &[u8]) -> Outline<'_>
     plain(name, Domain::UpTo(GREATEST_COSTS))
 }
 
-/// Cost units by distance or time.
+/// Cost units a second.
 fn rate(name: &[u8]) -> Outline<'_>
     ensures { column_of result ≡ schema.rate name.now }
 {
