@@ -1,0 +1,5 @@
+pub mod OneBlock
+pub mod Ownership
+pub mod Places
+pub mod Rows
+pub mod Shelf
