@@ -52,3 +52,8 @@ places_few trips version kind places rows =
 pub answer_few : {E : Type 0} (trips : List TripRow) (version kind : ℕ) (answer : Result (List ℕ) E) → IfOk answer (AreDayRows trips version kind) → IfOk answer (λ places. length places ≤ length trips)
 answer_few trips version kind (Ok places) rows = places_few trips version kind places rows
 answer_few trips version kind (Err e) rows = tt
+
+-- fewer than so many where so few rows are there
+pub answer_below : {E : Type 0} (trips : List TripRow) (version kind n : ℕ) (answer : Result (List ℕ) E) → length trips < n → IfOk answer (AreDayRows trips version kind) → IfOk answer (λ places. length places < n)
+answer_below trips version kind n (Ok places) few rows = omega (arith, few, places_few trips version kind places rows)
+answer_below trips version kind n (Err e) few rows = tt

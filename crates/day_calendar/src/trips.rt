@@ -1,6 +1,6 @@
 //! The trips of a day, in order.
 
-ghost use Rattle.std.specs.Prelude.{◌≡◌, ◌<◌, ◌≤◌, ◌^◌, All, IfOk, OnOk, length, map, IsPermutation, IsSorted};
+ghost use Rattle.std.specs.Prelude.{◌≡◌, ◌<◌, ◌≤◌, ◌^◌, ℕ, List, All, IfOk, OnOk, length, map, IsPermutation, IsSorted};
 ghost use Rattle.day_calendar.specs.DayTrips.{AreDayRows, day_trips, is_of_day, trip_order};
 
 use crate::day::DayKind;
@@ -84,8 +84,10 @@ fn ordered_places(
 /// passed over.
 pub fn day_rows(alloc: Global, net: &Network, kind: &DayKind) -> Result<Seq<u32>, Memory>
     ensures rows { IfOk result (λ places. AreDayRows net.now.trips kind.now.version kind.now.kind places) }
+    ensures only { (others : List ℕ) → AreDayRows net.now.trips kind.now.version kind.now.kind others → IfOk result (λ places. places ≡ others) }
     ensures within { IfOk result (λ places. All (λ place. place < length net.now.trips) places) }
     ensures count { IfOk result (λ places. length places ≤ length net.now.trips) }
+    ensures few { IfOk result (λ places. length places < 2 ^ 32) }
 {
     ordered_places(alloc, net.trip_rows(), kind.version, kind.kind)
 }

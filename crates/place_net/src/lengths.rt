@@ -1,6 +1,6 @@
 //! The lengths of courses.
 
-ghost use Rattle.std.specs.Prelude.{◌≡◌, ◌<◌, ◌^◌, length};
+ghost use Rattle.std.specs.Prelude.{◌≡◌, ◌<◌, ◌≤◌, ◌*◌, ◌^◌, IfSome, length};
 ghost use Rattle.place_net.specs.Routes.{length_over, links_from, links_of, route_metres, section_length};
 
 use plan_core::Point;
@@ -15,7 +15,8 @@ fn length_from(
     points: &[Point],
 ) -> Option<u64>
     requires { length points.now < 2 ^ 32 }
-    ensures { result ≡ length_over (section_length net.now version area) (links_from first points.now) }
+    ensures value { result ≡ length_over (section_length net.now version area) (links_from first points.now) }
+    ensures range { IfSome result (λ metres. metres ≤ 1000000 * 2 ^ 32) }
 {
     let mut metres: u64 = 0;
     let mut from = first;
@@ -34,7 +35,8 @@ fn length_from(
 /// The length of a course in metres; None where a link has no length.
 fn course_length(net: &Network, version: u32, area: u32, course: &[Point]) -> Option<u64>
     requires { length course.now < 2 ^ 32 }
-    ensures { result ≡ length_over (section_length net.now version area) (links_of course.now) }
+    ensures value { result ≡ length_over (section_length net.now version area) (links_of course.now) }
+    ensures range { IfSome result (λ metres. metres ≤ 1000000 * 2 ^ 32) }
 {
     match course.split_first() {
         None => Some(0),
@@ -47,7 +49,10 @@ fn course_length(net: &Network, version: u32, area: u32, course: &[Point]) -> Op
 /// than two points has length 0. None exactly where REC_LID has no row of the trip's line and
 /// variant, or a link of its course has no length. It takes no memory.
 pub fn route_length(net: &Network, version: u32, row: &TripRow) -> Option<u64>
-    ensures { result ≡ route_metres net.now version row.now }
+    ensures value { result ≡ route_metres net.now version row.now }
+
+    // A course has fewer than 2^32 links of at most 1,000,000 metres.
+    ensures range { IfSome result (λ metres. metres ≤ 1000000 * 2 ^ 32) }
 {
     match net.area(version, row.line, &row.variant) {
         None => None,

@@ -42,7 +42,7 @@ mod writing;
 
 pub use fault::{TextFault, TextKind};
 pub use number::spelled_number;
-pub use plain::is_plain;
+pub use plain::{is_number_format, is_plain};
 pub use reading::read_file;
-pub use table::{Field, Head, Table};
+pub use table::{Field, FieldBytes, Head, Table};
 pub use writing::write_tables;

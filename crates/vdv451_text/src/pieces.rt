@@ -11,7 +11,7 @@ use crate::fault::TextKind;
 use crate::fields::{field_end, past_blanks};
 use crate::number::spelled_number;
 use crate::plain::{begins_with_quote, is_blank, is_null, is_number_format};
-use crate::table::Field;
+use crate::table::{Field, FieldBytes};
 use plan_core::Bytes;
 use std::alloc::Global;
 
@@ -94,6 +94,18 @@ pub fn make_piece(alloc: Global, bytes: &[u8]) -> Result<Piece, TextKind>
     }
 }
 
+fn text_field(alloc: Global, text: Bytes) -> Result<Field, TextKind>
+    ensures { AnswersAs result (Ok (Field.Text text)) }
+{
+    Ok(Field::Text(FieldBytes::new(alloc, text)?))
+}
+
+fn raw_field(alloc: Global, bytes: Bytes) -> Result<Field, TextKind>
+    ensures { AnswersAs result (Ok (Field.Raw bytes)) }
+{
+    Ok(Field::Raw(FieldBytes::new(alloc, bytes)?))
+}
+
 /// The value of bare bytes.
 fn bare_value(alloc: Global, format: &[u8], bytes: &[u8]) -> Result<Field, TextKind>
     ensures { AnswersAs result (Ok (value_of_bare format.now bytes.now)) }
@@ -106,7 +118,7 @@ fn bare_value(alloc: Global, format: &[u8], bytes: &[u8]) -> Result<Field, TextK
     {
         return Ok(Field::Num(number));
     }
-    Ok(Field::Raw(copied(alloc, bytes)?))
+    raw_field(alloc, copied(alloc, bytes)?)
 }
 
 /// The value of the field between separators, without the blanks round it, in a column of this format.
@@ -114,7 +126,7 @@ pub fn value(alloc: Global, format: &[u8], bytes: &[u8]) -> Result<Field, TextKi
     ensures { AnswersAs result (field_or_fault (option_map (value_of format.now) (piece_of bytes.now))) }
 {
     if begins_with_quote(bytes) {
-        Ok(Field::Text(closed_text(alloc, &bytes[1..])?))
+        text_field(alloc, closed_text(alloc, &bytes[1..])?)
     } else {
         bare_value(alloc, format, bytes)
     }

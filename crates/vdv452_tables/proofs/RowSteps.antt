@@ -1,5 +1,6 @@
 -- One column or one row more.
-use Rattle.std.proofs.Common.{◌≡◌, ℕ, ◌+◌, ◌<◌, Bool, true, false, if◌then◌else◌, List, [], ◌∷◌, ◌++◌, length, get_or, drop, map, filter, sym, ap, subst, ◌∙◌, append_assoc, add-one, drop-cons, slice_get, suc}
+use Rattle.std.proofs.Common.{◌≡◌, ℕ, ◌+◌, ◌<◌, Bool, true, false, if◌then◌else◌, List, [], ◌∷◌, ◌++◌, length, get_or, drop, map, filter, refl, sym, ap, subst, ◌∙◌, append_assoc, add-one, drop-cons, slice_get, suc}
+use Rattle.std.proofs.lemmas.List.{append-nil}
 use Rattle.vdv451_text.specs.declared.table.Field.{Field}
 use Rattle.vdv452_tables.specs.declared.cell.Cell.{Cell}
 use Rattle.vdv452_tables.specs.declared.fault.TableFault.{TableFault}
@@ -30,7 +31,7 @@ module _ (row : List Field) (found : List Found) (i : ℕ) (entry : Found) (at :
   picked : Bool → List Cell
   picked b = map (found_cell row) (if b then entry ∷ filter (λ (f : Found). f.column.is_key) (drop (i + 1) found) else filter (λ (f : Found). f.column.is_key) (drop (i + 1) found))
 
-  pub key_step : (key whole : List Cell) (cell : Cell) → cell ≡ found_cell row entry → entry.column.is_key ≡ true → key ++ found_key (drop i found) row ≡ whole → (key ++ cell ∷ []) ++ found_key (drop (i + 1) found) row ≡ whole
+  key_step : (key whole : List Cell) (cell : Cell) → cell ≡ found_cell row entry → entry.column.is_key ≡ true → key ++ found_key (drop i found) row ≡ whole → (key ++ cell ∷ []) ++ found_key (drop (i + 1) found) row ≡ whole
   unfolding picked
   key_step key whole cell is in_key so_far =
       append_assoc key (cell ∷ []) (found_key (drop (i + 1) found) row)
@@ -39,9 +40,16 @@ module _ (row : List Field) (found : List Found) (i : ℕ) (entry : Found) (at :
       ∙ ap (λ rest. key ++ found_key rest row) (sym at)
       ∙ so_far
 
-  pub other_step : (key whole : List Cell) → entry.column.is_key ≡ false → key ++ found_key (drop i found) row ≡ whole → key ++ found_key (drop (i + 1) found) row ≡ whole
+  other_step : (key whole : List Cell) → entry.column.is_key ≡ false → key ++ found_key (drop i found) row ≡ whole → key ++ found_key (drop (i + 1) found) row ≡ whole
   unfolding picked
   other_step key whole beside so_far = ap (λ b. key ++ picked b) (sym beside) ∙ ap (λ rest. key ++ found_key rest row) (sym at) ∙ so_far
+
+  pub kept_step : (key whole : List Cell) (cell : Cell) → cell ≡ found_cell row entry → key ++ found_key (drop i found) row ≡ whole → (key ++ when entry.column.is_key cell) ++ found_key (drop (i + 1) found) row ≡ whole
+  kept_step key whole cell is so_far = by entry.column.is_key refl
+    where
+      by : (b : Bool) → entry.column.is_key ≡ b → (key ++ when b cell) ++ found_key (drop (i + 1) found) row ≡ whole
+      by true in_key = key_step key whole cell is in_key so_far
+      by false beside = ap (λ k. k ++ found_key (drop (i + 1) found) row) (append-nil key) ∙ other_step key whole beside so_far
 
   module _ (table : List ℕ) (number : ℕ) (whole : List TableFault) (so_far : found_faults table number row (drop i found) ≡ whole) where
     split : cell_fault table number entry.column (slice_get row entry.place) ++ found_faults table number row (drop (i + 1) found) ≡ whole

@@ -8,6 +8,7 @@ pub mod Values
 pub mod TypedRows
 pub mod Calendar
 pub mod Keys
+pub mod RowKeys
 pub mod LookUps
 pub mod Ranges
 pub mod Indexes

@@ -25,18 +25,6 @@ pub(crate) fn bytes_of(alloc: Global, bytes: &[u8]) -> Result<Bytes, Memory>
     Ok(Bytes::from_vec(Vec::from_slice(alloc, bytes)?))
 }
 
-/// A copy of a cell.
-pub(crate) fn copy_of(alloc: Global, cell: &Cell) -> Result<Cell, Memory>
-    ensures { IfOk result (λ copy. copy ≡ cell.now) }
-{
-    match cell {
-        Cell::Nothing => Ok(Cell::Nothing),
-        Cell::Number(number) => Ok(Cell::Number(*number)),
-        Cell::Long(number) => Ok(Cell::Long(*number)),
-        Cell::Word(word) => Ok(Cell::Word(bytes_of(alloc, word.as_slice())?)),
-    }
-}
-
 fn whole_number(field: &Field) -> Option<i64>
     ensures { result ≡ cells.whole_number field.now }
 {

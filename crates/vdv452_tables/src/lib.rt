@@ -17,6 +17,7 @@ mod keys;
 mod net;
 mod network;
 mod reading;
+mod row_key;
 mod rows;
 mod schema;
 mod table;

@@ -7,13 +7,13 @@ ghost use Rattle.vdv452_tables.specs.Answers.{IsRefusal};
 ghost use Rattle.vdv452_tables.specs.TypedRows.{typed};
 ghost use Rattle.vdv452_tables.specs.Cells.{cell_of as value_of, same_cells};
 ghost use Rattle.vdv452_tables.specs.Found.{found_columns, found_cells, found_key, found_faults, found_row_fault, found_row_faults};
-ghost use Rattle.vdv452_tables.specs.Rows.{cell_in, cell_fault, field_fault, has_name, missing_column, is_twice, own_key, place_of as first_place, rows_of, table_faults, rows_in, faults_in};
+ghost use Rattle.vdv452_tables.specs.Rows.{cell_in, cell_fault, field_fault, has_name, missing_column, is_twice, own_key, place_of as first_place, rows_of, table_faults, rows_in, faults_in, when};
 
-use crate::cell::{Cell, bytes_of, cell_of, copy_of, is_empty_field};
+use crate::cell::{Cell, bytes_of, cell_of, is_empty_field};
 use crate::fault::{Refusal, TableKind, refusal_of};
+use crate::row_key::KeySet;
 use crate::rows::TypedRow;
 use crate::schema::{Column, Schema};
-use indexmap::IndexSet;
 use plan_core::{Memory, Seq};
 use std::alloc::Global;
 use vdv451_text::{Field, Head, Table};
@@ -23,13 +23,6 @@ use vdv451_text::{Field, Head, Table};
 pub(crate) struct Found {
     pub column: Column,
     pub place: usize,
-}
-
-/// What a row has in the columns that are read, and of these in the key.
-#[derive(Drop)]
-pub(crate) struct ReadRow {
-    pub cells: Seq<Cell>,
-    pub key: Seq<Cell>,
 }
 
 /// Where the first column of a name stands.
@@ -137,80 +130,135 @@ fn key_count(found: &[Found]) -> usize {
     found.iter().filter(|entry| entry.column.is_key).count()
 }
 
-/// A row's values, or the first that is wrong.
-fn read_row(
+/// Puts a value behind those of a key, where its column is in the key.
+fn keep_in_key(key: &mut Vec<Cell>, is_in_key: bool, cell: Cell) -> Result<(), Memory>
+    ensures { OnOk result (key.new.items ≡ key.old.items ++ when is_in_key cell) }
+{
+    if is_in_key {
+        key.push(cell)?;
+    }
+    Ok(())
+}
+
+/// A row's key, or the first value of the row that is wrong.
+fn read_key(
     alloc: Global,
     table: &[u8],
     number: u32,
     found: &[Found],
     row: &[Field],
-) -> Result<ReadRow, Refusal>
-    ensures cells { IfOk result (λ read. read.cells ≡ found_cells found.now row.now) }
-    ensures key { IfOk result (λ read. read.key ≡ found_key found.now row.now) }
+) -> Result<Seq<Cell>, Refusal>
+    ensures key { IfOk result (λ key. key ≡ found_key found.now row.now) }
     ensures right { OnOk result (found_faults table.now number row.now found.now ≡ []) }
     ensures wrong { IfErr result (IsRefusal (found_faults table.now number row.now found.now)) }
 {
-    let mut cells = Vec::with_capacity(alloc, found.len())?;
     let mut key = Vec::with_capacity(alloc, key_count(found))?;
     for entry in found {
         let field = field_at(row, entry.place);
         let cell = read_cell(alloc, table, number, &entry.column, field)?;
-        if entry.column.is_key {
-            key.push(copy_of(alloc, &cell)?)?;
-        }
-        cells.push(cell)?;
+        keep_in_key(&mut key, entry.column.is_key, cell)?;
     }
-    Ok(ReadRow {
-        cells: Seq::from_vec(cells),
-        key: Seq::from_vec(key),
-    })
-}
-
-/// Puts a key among others. Answers whether none of these is the same.
-fn insert_key(keys: &mut IndexSet<Seq<Cell>>, key: Seq<Cell>) -> Result<bool, Refusal>
-    ensures new { IfOk result (λ is_new. is_new ≡ not (list_any (same_cells key) keys.old.keys)) }
-    ensures noted { IfOk result (λ is_new. is_new ≡ true → keys.new.keys ≡ keys.old.keys ++ key ∷ []) }
-    ensures memory { IfErr result (λ refusal. refusal ≡ Refusal.Memory) }
-{
-    Ok(keys.insert(key)?)
+    Ok(Seq::from_vec(key))
 }
 
 /// Notes a row's key among those of the rows before. Answers whether none of these is the same. A
 /// row of a table without a key has nothing to note.
-fn note_key(keys: &mut IndexSet<Seq<Cell>>, key: Seq<Cell>) -> Result<bool, Refusal>
-    ensures new { IfOk result (λ is_new. is_new ≡ not (is_twice keys.old.keys key)) }
-    ensures noted { IfOk result (λ is_new. is_new ≡ true → keys.new.keys ≡ keys.old.keys ++ own_key key) }
+fn note_key(keys: &mut KeySet, key: Seq<Cell>) -> Result<bool, Refusal>
+    ensures new { IfOk result (λ is_new. is_new ≡ not (is_twice keys.old key)) }
+    ensures noted { IfOk result (λ is_new. is_new ≡ true → keys.new ≡ keys.old ++ own_key key) }
     ensures memory { IfErr result (λ refusal. refusal ≡ Refusal.Memory) }
 {
     if key.is_empty() {
         Ok(true)
     } else {
-        insert_key(keys, key)
+        keys.insert(key)
     }
 }
 
-/// A row's values, or its first fault. Its key is noted among those of the rows before.
-fn read_keyed(
+/// Looks a row over, and notes its key among those of the rows before. Its first fault is an error.
+fn check_row(
     alloc: Global,
     table: &[u8],
     number: u32,
     found: &[Found],
     row: &[Field],
-    keys: &mut IndexSet<Seq<Cell>>,
-) -> Result<Seq<Cell>, Refusal>
-    ensures cells { IfOk result (λ cells. cells ≡ found_cells found.now row.now) }
-    ensures key { OnOk result (keys.new.keys ≡ keys.old.keys ++ own_key (found_key found.now row.now)) }
-    ensures right { OnOk result (found_row_fault table.now found.now keys.old.keys number row.now ≡ []) }
-    ensures wrong { IfErr result (IsRefusal (found_row_fault table.now found.now keys.old.keys number row.now)) }
+    keys: &mut KeySet,
+) -> Result<(), Refusal>
+    ensures key { OnOk result (keys.new ≡ keys.old ++ own_key (found_key found.now row.now)) }
+    ensures right { OnOk result (found_row_fault table.now found.now keys.old number row.now ≡ []) }
+    ensures wrong { IfErr result (IsRefusal (found_row_fault table.now found.now keys.old number row.now)) }
 {
-    let ReadRow { cells, key } = read_row(alloc, table, number, found, row)?;
+    let key = read_key(alloc, table, number, found, row)?;
     if !note_key(keys, key)? {
         return Err(refusal_of(alloc, TableKind::KeyTwice, table, b"", number));
     }
-    Ok(cells)
+    Ok(())
 }
 
-/// The rows of a table, typed, or the first fault of a value or a key.
+/// Looks all rows over. The first fault of a value or a key is an error.
+fn check_rows(
+    alloc: Global,
+    table: &[u8],
+    found: &[Found],
+    rows: &[Seq<Field>],
+) -> Result<(), Refusal>
+    requires { length rows.now < 2 ^ 32 }
+    ensures right { OnOk result (found_row_faults table.now found.now [] 1 rows.now ≡ []) }
+    ensures wrong { IfErr result (IsRefusal (found_row_faults table.now found.now [] 1 rows.now)) }
+{
+    let mut keys = KeySet::with_capacity(alloc, rows.len())?;
+    for (place, row) in rows.iter().enumerate() {
+        let number = place as u32 + 1;
+        check_row(alloc, table, number, found, row.as_slice(), &mut keys)?;
+    }
+    Ok(())
+}
+
+/// The value of a row in a column, where it is right there, else nothing.
+fn right_cell(alloc: Global, column: &Column, field: Option<&Field>) -> Result<Cell, Memory>
+    ensures { IfOk result (λ cell. cell ≡ cell_in column.now (option_copied field.entry)) }
+{
+    match field {
+        Some(field) => match cell_of(alloc, column, field)? {
+            Some(cell) => Ok(cell),
+            None => Ok(Cell::Nothing),
+        },
+        None => Ok(Cell::Nothing),
+    }
+}
+
+/// A row's values.
+fn row_cells(alloc: Global, found: &[Found], row: &[Field]) -> Result<Seq<Cell>, Memory>
+    ensures { IfOk result (λ cells. cells ≡ found_cells found.now row.now) }
+{
+    let mut cells = Vec::with_capacity(alloc, found.len())?;
+    for entry in found {
+        let field = field_at(row, entry.place);
+        cells.push(right_cell(alloc, &entry.column, field)?)?;
+    }
+    Ok(Seq::from_vec(cells))
+}
+
+/// The rows of a table, typed.
+fn typed_rows<R: TypedRow>(
+    alloc: Global,
+    found: &[Found],
+    rows: &[Seq<Field>],
+) -> Result<Vec<R>, Memory>
+    requires { length rows.now < 2 ^ 32 }
+    ensures value { IfOk result (λ made. made.items ≡ typed R.row_of 0 (map (found_cells found.now) rows.now)) }
+    ensures few { IfOk result (λ made. vec_len made < 2 ^ 32) }
+{
+    let mut made = Vec::with_capacity(alloc, rows.len())?;
+    for (place, row) in rows.iter().enumerate() {
+        let cells = row_cells(alloc, found, row.as_slice())?;
+        made.push(R::from_cells(alloc, cells.as_slice(), place as u32)?)?;
+    }
+    Ok(made)
+}
+
+/// The rows of a table, typed, or the first fault of a value or a key. The keys are let go before
+/// the typed rows are made, so that the two never take memory together.
 fn read_rows<R: TypedRow>(
     alloc: Global,
     table: &[u8],
@@ -223,14 +271,8 @@ fn read_rows<R: TypedRow>(
     ensures right { OnOk result (found_row_faults table.now found.now [] 1 rows.now ≡ []) }
     ensures wrong { IfErr result (IsRefusal (found_row_faults table.now found.now [] 1 rows.now)) }
 {
-    let mut keys = IndexSet::new(alloc);
-    let mut read = Vec::new(alloc);
-    for (place, row) in rows.iter().enumerate() {
-        let place = place as u32;
-        let cells = read_keyed(alloc, table, place + 1, found, row.as_slice(), &mut keys)?;
-        read.push(R::from_cells(alloc, cells.as_slice(), place)?)?;
-    }
-    Ok(read)
+    check_rows(alloc, table, found, rows)?;
+    Ok(typed_rows(alloc, found, rows)?)
 }
 
 /// How many tables have a name.

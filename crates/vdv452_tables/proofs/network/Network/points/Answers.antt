@@ -1,4 +1,4 @@
-use Rattle.std.proofs.Common.{◌≡◌, ap, ◌∙◌}
+use Rattle.std.proofs.Common.{ap, ◌∙◌}
 use Rattle.vdv452_tables.specs.Calendar.{Net}
 use Rattle.vdv452_tables.specs.Keys.{named}
 use Rattle.vdv452_tables.specs.LookUps.{course_on}
