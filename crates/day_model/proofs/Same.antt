@@ -1,0 +1,55 @@
+-- Two days with the same trips, settings and times of deadheads have the same blocks.
+use Rattle.std.proofs.Common.{◌≡◌, ℕ, ◌+◌, ◌*◌, ◌&&◌, Bool, cond, List, [], ◌∷◌, Option, Some, refl, ap, ◌∙◌, slice_get}
+use Rattle.std.proofs.Math.Path.{fun_ext}
+use Rattle.std.specs.Prelude.{option_and_then}
+use Rattle.plan_core.specs.declared.types.Point.{Point}
+use Rattle.trip_times.specs.declared.trip.Trip.{Trip}
+use Rattle.deadheads.specs.declared.moves.Ends.{Ends}
+use Rattle.deadheads.specs.DeadTimes.{dead_on}
+use Rattle.plan_params.specs.declared.rows.ParamRows.{ParamRows}
+use Rattle.plan_params.specs.declared.rows.pool.Pool.{Pool}
+use Rattle.day_model.specs.declared.link.Link.{Link}
+use Rattle.day_model.specs.Facts.{DayFacts, admits, dead}
+use Rattle.day_model.specs.Links.{depot_over, direct_over, first_of, given, link, pull_out, pull_out_over}
+use Rattle.day_model.specs.Blocks.{all_admitted, block_cost, block_worth, cost_from, link_cost, rises, trips_at}
+
+module _ (a : DayFacts) (d : List (Ends × ℕ)) (same : (x y : Point) → dead a x y ≡ dead_on d x y) where
+  abbrev other : DayFacts
+  other = record a { deads = d }
+
+  link_same : (pool : Pool) (t u : Trip) → link a pool t u ≡ link other pool t u
+  link_same pool t u =
+      ap (λ o. first_of (direct_over a.params.settings t u o) (depot_over t u (dead a t.to pool.depot) (dead a pool.depot u.from))) (same t.to u.from)
+      ∙ ap (λ o. first_of (direct_over a.params.settings t u (dead_on d t.to u.from)) (depot_over t u o (dead a pool.depot u.from))) (same t.to pool.depot)
+      ∙ ap (λ o. first_of (direct_over a.params.settings t u (dead_on d t.to u.from)) (depot_over t u (dead_on d t.to pool.depot) o)) (same pool.depot u.from)
+
+  cost_same : (pool : Pool) (t : Trip) (ts : List Trip) → cost_from a pool t ts ≡ cost_from other pool t ts
+  cost_same pool t [] = ap (λ o. option_and_then (λ (inward : ℕ). Some (pool.dead_rate * inward)) o) (same t.to pool.depot)
+  cost_same pool t (u ∷ us) =
+      ap (λ o. option_and_then (λ (l : Link). option_and_then (λ (rest : ℕ). Some (link_cost pool u l + rest)) (cost_from a pool u us)) o) (link_same pool t u)
+      ∙ ap (λ c. option_and_then (λ (l : Link). option_and_then (λ (rest : ℕ). Some (link_cost pool u l + rest)) c) (link other pool t u)) (cost_same pool u us)
+
+  admitted_same : (pool : Pool) (ts : List Trip) → all_admitted a pool ts ≡ all_admitted other pool ts
+  admitted_same pool [] = refl
+  admitted_same pool (t ∷ ts) = ap (λ b. admits a t.line pool.typ && b) (admitted_same pool ts)
+
+  block_same : (pool : Pool) (ts : List Trip) → block_cost a pool ts ≡ block_cost other pool ts
+  block_same pool [] = refl
+  block_same pool (t ∷ ts) =
+      ap (λ b. given (admits a t.line pool.typ && b) (option_and_then (λ (out : ℕ). option_and_then (λ (rest : ℕ). Some (pool.fixed + pool.dead_rate * out + rest)) (cost_from a pool t ts)) (pull_out a pool t))) (admitted_same pool ts)
+      ∙ ap (λ c. given (all_admitted other pool (t ∷ ts)) (option_and_then (λ (out : ℕ). option_and_then (λ (rest : ℕ). Some (pool.fixed + pool.dead_rate * out + rest)) c) (pull_out a pool t))) (cost_same pool t ts)
+      ∙ ap (λ o. given (all_admitted other pool (t ∷ ts)) (option_and_then (λ (out : ℕ). option_and_then (λ (rest : ℕ). Some (pool.fixed + pool.dead_rate * out + rest)) (cost_from other pool t ts)) (pull_out_over t o))) (same pool.depot t.from)
+
+  deads_same : (counts : Bool) → block_worth a counts ≡ block_worth other counts
+  deads_same counts =
+      let costs : block_cost a ≡ block_cost other = fun_ext (λ pool. fun_ext (λ ts. block_same pool ts)) in
+      let worth : (Pool → List Trip → Option ℕ) → ℕ → List ℕ → Option ℕ = λ cost class list.
+      given (rises list)
+      (option_and_then (λ (pool : Pool). option_and_then (λ (ts : List Trip). option_and_then (λ (c : ℕ). Some (cond counts 1 c)) (cost pool ts)) (trips_at a.trips list)) (slice_get a.params.pools class)) in
+      ap worth costs
+
+-- the worth of lists hangs on the trips, the settings and the times of deadheads alone
+pub same_worth : (a b : DayFacts) (counts : Bool) → a.trips ≡ b.trips → a.params ≡ b.params → ((x y : Point) → dead a x y ≡ dead b x y) → block_worth a counts ≡ block_worth b counts
+same_worth a b counts trips params same =
+    let with : List Trip → ParamRows → DayFacts = λ t p. record { kind = a.kind; rows = a.rows; trips = t; params = p; deads = b.deads } in
+    deads_same a b.deads same counts ∙ ap (λ t. block_worth (with t a.params) counts) trips ∙ ap (λ p. block_worth (with b.trips p) counts) params

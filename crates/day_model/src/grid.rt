@@ -1,0 +1,79 @@
+//! The times of deadheads between points by their numbers.
+
+ghost use Rattle.std.specs.Prelude.{◌≡◌, ◌+◌, ◌*◌, ◌<◌, ◌++◌, IfOk, IfSome, OnOk, length, map, slice_index};
+ghost use Rattle.vdv452_tables.specs.Ranges.{IsTime};
+ghost use Rattle.deadheads.specs.DeadTimes.{dead_on};
+ghost use Rattle.day_model.specs.Layout.{IsGrid, told};
+
+use deadheads::Deadheads;
+use plan_core::{Memory, Point, Seq};
+use std::alloc::Global;
+
+/// The times from each of some points to each of others.
+#[derive(Drop)]
+pub struct Grid {
+    /// How many points there are to go to.
+    pub columns: usize,
+    /// The times, row by row; a number above all times where there is no deadhead.
+    pub cells: Seq<u32>,
+}
+
+/// What tells of no deadhead.
+const NONE: u32 = 4_294_967_295;
+
+/// The greatest time.
+const LAST: u32 = 172_800;
+
+fn coded(time: Option<u32>) -> u32
+    requires { IfSome time IsTime }
+    ensures { told result ≡ time }
+{
+    match time {
+        Some(seconds) => seconds,
+        None => NONE,
+    }
+}
+
+/// Puts the times from a point behind those that are there.
+fn add_row(
+    cells: &mut Seq<u32>,
+    deads: &Deadheads,
+    from: Point,
+    columns: &[Point],
+) -> Result<(), Memory>
+    ensures { OnOk result (map told cells.new ≡ map told cells.old ++ map (λ to. dead_on deads.now from to) columns.now) }
+{
+    for to in columns {
+        cells.push(coded(deads.dead(from, *to)))?;
+    }
+    Ok(())
+}
+
+/// The times from each of the points of the rows to each of those of the columns.
+pub(crate) fn grid_of(
+    alloc: Global,
+    deads: &Deadheads,
+    rows: &[Point],
+    columns: &[Point],
+) -> Result<Grid, Memory>
+    ensures { IfOk result (IsGrid deads.now rows.now columns.now) }
+{
+    let mut cells = Seq::new(alloc);
+    for from in rows {
+        add_row(&mut cells, deads, *from, columns)?;
+    }
+    Ok(Grid {
+        columns: columns.len(),
+        cells,
+    })
+}
+
+/// The time of a row and a column.
+pub(crate) fn time_at(grid: &Grid, row: usize, column: usize) -> Option<u32>
+    requires { row * grid.now.columns + column < length grid.now.cells }
+    ensures value { result ≡ told (slice_index grid.now.cells (row * grid.now.columns + column)) }
+    ensures range { IfSome result IsTime }
+{
+    let seconds = grid.cells.as_slice()[row * grid.columns + column];
+    if seconds <= LAST { Some(seconds) } else { None }
+}

@@ -1,0 +1,106 @@
+//! What is asked of a day's trips and pools, laid out flat.
+
+ghost use Rattle.std.specs.Prelude.{◌≡◌, ◌≤◌, ◌++◌, IfOk, OnOk, length, map};
+ghost use Rattle.plan_params.specs.LookUps.{admits_in};
+ghost use Rattle.day_model.specs.Building.{most_trips};
+ghost use Rattle.day_model.specs.Layout.{AreLaidOut, admissions_of};
+
+use crate::grid::{Grid, grid_of};
+use crate::numbering::numbering_of;
+use deadheads::Deadheads;
+use plan_core::{Memory, Point, Seq};
+use plan_params::{Params, Pool};
+use std::alloc::Global;
+use trip_times::Trip;
+
+/// The times of deadheads by the numbers of trips and pools, and which pools admit which trips.
+#[derive(Drop)]
+pub struct Layout {
+    /// For each trip the number of its first point.
+    pub begins: Seq<u32>,
+    /// For each trip the number of its last point.
+    pub ends: Seq<u32>,
+    /// From last points to first points.
+    pub between: Grid,
+    /// From depots to first points.
+    pub outward: Grid,
+    /// From last points to depots.
+    pub inward: Grid,
+    /// Whether pools admit trips, pool by pool.
+    pub admitted: Seq<bool>,
+}
+
+fn first_points(alloc: Global, trips: &[Trip]) -> Result<Vec<Point>, Memory>
+    ensures { IfOk result (λ points. points.items ≡ map (λ trip. trip.from) trips.now) }
+{
+    Ok(trips.iter().map(|trip| trip.from).collect(alloc)?)
+}
+
+fn last_points(alloc: Global, trips: &[Trip]) -> Result<Vec<Point>, Memory>
+    ensures { IfOk result (λ points. points.items ≡ map (λ trip. trip.to) trips.now) }
+{
+    Ok(trips.iter().map(|trip| trip.to).collect(alloc)?)
+}
+
+fn depots_of(alloc: Global, pools: &[Pool]) -> Result<Vec<Point>, Memory>
+    ensures { IfOk result (λ depots. depots.items ≡ map (λ pool. pool.depot) pools.now) }
+{
+    Ok(pools.iter().map(|pool| pool.depot).collect(alloc)?)
+}
+
+/// Puts whether a pool admits each of the trips behind what is there.
+fn add_pool(
+    admitted: &mut Seq<bool>,
+    params: &Params,
+    pool: &Pool,
+    trips: &[Trip],
+) -> Result<(), Memory>
+    ensures { OnOk result (admitted.new ≡ admitted.old ++ map (λ trip. admits_in params.now trip.line pool.now.typ) trips.now) }
+{
+    for trip in trips {
+        admitted.push(params.admits(trip.line, pool.typ))?;
+    }
+    Ok(())
+}
+
+fn admissions(alloc: Global, params: &Params, trips: &[Trip]) -> Result<Seq<bool>, Memory>
+    ensures { IfOk result (λ admitted. admitted ≡ admissions_of params.now params.now.pools trips.now) }
+{
+    let mut admitted = Seq::new(alloc);
+    for pool in params.pools() {
+        add_pool(&mut admitted, params, pool, trips)?;
+    }
+    Ok(admitted)
+}
+
+/// What is asked of these trips and of the pools of these settings.
+pub(crate) fn layout_of(
+    alloc: Global,
+    trips: &[Trip],
+    params: &Params,
+    deads: &Deadheads,
+) -> Result<Layout, Memory>
+    requires { length trips.now ≤ most_trips }
+    ensures { IfOk result (AreLaidOut trips.now params.now deads.now) }
+{
+    let firsts = first_points(alloc, trips)?;
+    let lasts = last_points(alloc, trips)?;
+    let places = depots_of(alloc, params.pools())?;
+    let begins = numbering_of(alloc, firsts.as_slice())?;
+    let ends = numbering_of(alloc, lasts.as_slice())?;
+    let from = begins.points.as_slice();
+    let to = ends.points.as_slice();
+    let depots = places.as_slice();
+    let between = grid_of(alloc, deads, to, from)?;
+    let outward = grid_of(alloc, deads, depots, from)?;
+    let inward = grid_of(alloc, deads, to, depots)?;
+    let admitted = admissions(alloc, params, trips)?;
+    Ok(Layout {
+        begins: begins.numbers,
+        ends: ends.numbers,
+        between,
+        outward,
+        inward,
+        admitted,
+    })
+}

@@ -1,0 +1,23 @@
+//! A day as a planner sees it: its trips with their times, the settings, and which vehicle may go from one trip to another.
+//!
+//! The trips are numbered from 0 by departure and number. Between two trips of a block a vehicle goes directly or via its depot, and
+//! each block begins with a pull-out and ends with a pull-in (multi-depot vehicle scheduling, as in the chapter on public transit of
+//! Desaulniers and Hickman). What such a list of trips costs, its legs and the pieces that it is cut into are definitions here, on which
+//! the crates above stand.
+#![tactic(auto)]
+
+mod building;
+mod day;
+mod fault;
+mod going;
+mod grid;
+mod layout;
+mod link;
+mod numbering;
+#[cfg(test)]
+mod tests;
+
+pub use building::build_day;
+pub use day::Day;
+pub use fault::DayModelFault;
+pub use link::Link;

@@ -1,0 +1,139 @@
+-- The worth of a list is what its walk gives.
+use Rattle.std.proofs.Common.{◌≡◌, ℕ, ◌+◌, ◌*◌, ◌&&◌, Bool, true, false, cond, nat_lt, List, [], ◌∷◌, Option, Some, None, refl, sym, ap, ◌∙◌, arith, slice_get, ◌<◌, length, drop, drop-cons, add-one, slice_index}
+use Rattle.std.specs.Prelude.{option_and_then}
+use Rattle.std.specs.Option.{option_map}
+use Rattle.trip_times.specs.declared.trip.Trip.{Trip}
+use Rattle.plan_params.specs.declared.rows.pool.Pool.{Pool}
+use Rattle.day_model.specs.declared.link.Link.{Link}
+use Rattle.day_model.specs.Facts.{DayFacts, admits}
+use Rattle.day_model.specs.Links.{given, link, pull_in, pull_out, with_pool}
+use Rattle.day_model.specs.Blocks.{all_admitted, block_cost, block_worth, cost_from, link_cost, rises, trips_at}
+use Rattle.depot_network.specs.Walk.{begun, extended, walk, walked}
+
+and_then_same : {A B : Type 0} (f g : A → Option B) (o : Option A) → ((x : A) → f x ≡ g x) → option_and_then f o ≡ option_and_then g o
+and_then_same f g None same = refl
+and_then_same f g (Some x) same = same x
+
+given_none : {A : Type 0} (b : Bool) → given {A = A} b None ≡ None
+given_none true = refl
+given_none false = refl
+
+-- a step, over plain values
+step : (later rise admitted rest_admitted : Bool) (l : Option Link) (price : Link → ℕ) (rest : Option ℕ) (cost : ℕ) →
+    option_and_then (λ c. option_map (λ m. c + m) (given rise (given rest_admitted rest))) (option_map (λ m. cost + m) (given later (given admitted (option_map price l)))) ≡
+    option_map (λ m. cost + m) (given (later && rise) (given (admitted && rest_admitted) (option_and_then (λ k. option_and_then (λ r. Some (price k + r)) rest) l)))
+step false rise admitted rest_admitted l price rest cost = refl
+step true false admitted rest_admitted l price rest cost = none_after (option_map (λ m. cost + m) (given admitted (option_map price l)))
+  where
+    none_after : (o : Option ℕ) → option_and_then (λ (c : ℕ). option_map (λ (m : ℕ). c + m) (given {A = ℕ} false (given rest_admitted rest))) o ≡ None
+    none_after None = refl
+    none_after (Some x) = refl
+step true true false rest_admitted l price rest cost = refl
+step true true true rest_admitted None price rest cost = let e = given_none {A = ℕ} rest_admitted in ap (λ o. option_map (λ m. cost + m) o) (sym e)
+step true true true false (Some k) price rest cost = refl
+step true true true true (Some k) price None cost = refl
+step true true true true (Some k) price (Some r) cost = ap Some (omega arith)
+
+step_none : (later rise : Bool) (more : Option ℕ) (cost : ℕ) → option_and_then (λ (c : ℕ). option_map (λ (m : ℕ). c + m) (given {A = ℕ} rise None)) more ≡ option_map (λ (m : ℕ). cost + m) (given {A = ℕ} (later && rise) None)
+step_none later rise None cost = ap (λ o. option_map (λ (m : ℕ). cost + m) o) (sym (given_none {A = ℕ} (later && rise)))
+step_none later rise (Some c) cost =
+    ap (λ o. option_map (λ (m : ℕ). c + m) o) (given_none {A = ℕ} rise) ∙ ap (λ o. option_map (λ (m : ℕ). cost + m) o) (sym (given_none {A = ℕ} (later && rise)))
+
+-- what the trips after a trip add
+abbrev rest_cost : DayFacts → Pool → Trip → ℕ → List ℕ → Option ℕ
+rest_cost day pool t k ks = given (rises (k ∷ ks)) (option_and_then (λ ts. given (all_admitted day pool ts) (cost_from day pool t ts)) (trips_at day.trips ks))
+
+last_step : (pool : Pool) (cost : ℕ) (o : Option ℕ) → option_map (λ (m : ℕ). cost + m) (option_map (λ (inward : ℕ). pool.dead_rate * inward) o) ≡ option_map (λ (m : ℕ). cost + m) (option_and_then (λ (inward : ℕ). Some (pool.dead_rate * inward)) o)
+last_step pool cost None = refl
+last_step pool cost (Some inward) = refl
+
+walked_is : (day : DayFacts) (pool : Pool) (cost k : ℕ) (ks : List ℕ) (t : Trip) → slice_get day.trips k ≡ Some t → walked day pool cost k ks ≡ option_map (λ m. cost + m) (rest_cost day pool t k ks)
+walked_is day pool cost k [] t at = rw at (last_step pool cost (pull_in day pool t))
+walked_is day pool cost k (u ∷ us) t at =
+    let Goal : Option Trip → Type 0 = λ o. slice_get day.trips u ≡ o → walked day pool cost k (u ∷ us) ≡ option_map (λ (m : ℕ). cost + m) (rest_cost day pool t k (u ∷ us)) in
+    let split : (o : Option Trip) → Goal o = λ o. elim o as Goal [
+      | None ↦ λ none. rw (at, none) (ap (λ o. option_map (λ (m : ℕ). cost + m) o) (sym (given_none {A = ℕ} (nat_lt k u && rises (u ∷ us)))))
+      | Some next ↦ λ there.
+          let more : Option ℕ = given (nat_lt k u) (given (admits day next.line pool.typ) (option_map (λ (l : Link). link_cost pool next l) (link day pool t next))) in
+          let is : extended day pool cost k u ≡ option_map (λ (m : ℕ). cost + m) more = rw (at, there) refl in
+          let first = ap (λ (o : Option ℕ). option_and_then (λ (c : ℕ). walked day pool c u us) o) is in
+          let second = and_then_same (λ (c : ℕ). walked day pool c u us) (λ (c : ℕ). option_map (λ (m : ℕ). c + m) (rest_cost day pool next u us)) (option_map (λ (m : ℕ). cost + m) more) (λ c. walked_is day pool c u us next there) in
+          let Rest : Option (List Trip) → Type 0 = λ found.
+          option_and_then (λ (c : ℕ). option_map (λ (m : ℕ). c + m) (given (rises (u ∷ us)) (option_and_then (λ (ts : List Trip). given (all_admitted day pool ts) (cost_from day pool next ts)) found))) (option_map (λ (m : ℕ). cost + m) more) ≡
+          option_map (λ (m : ℕ). cost + m) (given (nat_lt k u && rises (u ∷ us)) (option_and_then (λ (ts : List Trip). given (all_admitted day pool ts) (cost_from day pool t ts)) (option_and_then (λ (ts : List Trip). Some (next ∷ ts)) found))) in
+          let third : (found : Option (List Trip)) → Rest found = λ found. elim found as Rest [
+            | None ↦ step_none (nat_lt k u) (rises (u ∷ us)) (option_map (λ (m : ℕ). cost + m) more) cost
+            | Some ts ↦ step (nat_lt k u) (rises (u ∷ us)) (admits day next.line pool.typ) (all_admitted day pool ts) (link day pool t next) (link_cost pool next) (cost_from day pool next ts) cost
+          ] in
+          first ∙ second ∙ (rw there (third (trips_at day.trips us)))
+    ] in split (slice_get day.trips u) refl
+
+-- a first trip, over plain values
+first_step : (rise admitted rest_admitted : Bool) (out : Option ℕ) (begin : ℕ → ℕ) (rest : Option ℕ) →
+    given rise (given (admitted && rest_admitted) (option_and_then (λ o. option_and_then (λ r. Some (begin o + r)) rest) out)) ≡
+    option_and_then (λ c. option_map (λ m. c + m) (given rise (given rest_admitted rest))) (given admitted (option_map begin out))
+first_step rise false rest_admitted out begin rest = given_none rise
+first_step rise true rest_admitted None begin rest = ap (λ o. given rise o) (given_none rest_admitted) ∙ given_none rise
+first_step false true rest_admitted (Some o) begin rest = refl
+first_step true true false (Some o) begin rest = refl
+first_step true true true (Some o) begin None = refl
+first_step true true true (Some o) begin (Some r) = refl
+
+first_none : (rise : Bool) (o : Option ℕ) → given {A = ℕ} rise None ≡ option_and_then (λ (c : ℕ). option_map (λ (m : ℕ). c + m) (given {A = ℕ} rise None)) o
+first_none rise None = given_none rise
+first_none rise (Some c) = given_none rise ∙ ap (λ o. option_map (λ (m : ℕ). c + m) o) (sym (given_none {A = ℕ} rise))
+
+-- the cost of a list, where it rises and its trips are there
+abbrev list_cost : DayFacts → Pool → List ℕ → Option ℕ
+list_cost day pool list = given (rises list) (option_and_then (λ ts. block_cost day pool ts) (trips_at day.trips list))
+
+list_walked : (day : DayFacts) (pool : Pool) (list : List ℕ) → list_cost day pool list ≡ walk day pool list
+list_walked day pool [] = refl
+list_walked day pool (k ∷ ks) =
+    let Goal : Option Trip → Type 0 = λ o. slice_get day.trips k ≡ o → list_cost day pool (k ∷ ks) ≡ walk day pool (k ∷ ks) in
+    let split : (o : Option Trip) → Goal o = λ o. elim o as Goal [
+      | None ↦ λ none. rw none (given_none {A = ℕ} (rises (k ∷ ks)))
+      | Some t ↦ λ there.
+          let start : Option ℕ = given (admits day t.line pool.typ) (option_map (λ (out : ℕ). pool.fixed + pool.dead_rate * out) (pull_out day pool t)) in
+          let is : begun day pool k ≡ start = rw there refl in
+          let last = and_then_same (λ (c : ℕ). option_map (λ (m : ℕ). c + m) (rest_cost day pool t k ks)) (λ (c : ℕ). walked day pool c k ks) start (λ c. sym (walked_is day pool c k ks t there)) in
+          let back = ap (λ (o : Option ℕ). option_and_then (λ (c : ℕ). walked day pool c k ks) o) (sym is) in
+          let Rest : Option (List Trip) → Type 0 = λ found.
+          given (rises (k ∷ ks)) (option_and_then (λ (ts : List Trip). block_cost day pool ts) (option_and_then (λ (ts : List Trip). Some (t ∷ ts)) found)) ≡
+          option_and_then (λ (c : ℕ). option_map (λ (m : ℕ). c + m) (given (rises (k ∷ ks)) (option_and_then (λ (ts : List Trip). given (all_admitted day pool ts) (cost_from day pool t ts)) found))) start in
+          let middle : (found : Option (List Trip)) → Rest found = λ found. elim found as Rest [
+            | None ↦ first_none (rises (k ∷ ks)) start
+            | Some ts ↦ first_step (rises (k ∷ ks)) (admits day t.line pool.typ) (all_admitted day pool ts) (pull_out day pool t) (λ out. pool.fixed + pool.dead_rate * out) (cost_from day pool t ts)
+          ] in
+          let begins : list_cost day pool (k ∷ ks) ≡ given (rises (k ∷ ks)) (option_and_then (λ (ts : List Trip). block_cost day pool ts) (option_and_then (λ (ts : List Trip). Some (t ∷ ts)) (trips_at day.trips ks))) = rw there refl in
+          begins ∙ middle (trips_at day.trips ks) ∙ last ∙ back
+    ] in split (slice_get day.trips k) refl
+
+counted : {A : Type 0} (counts rise : Bool) (price : A → Option ℕ) (found : Option A) →
+    given rise (option_and_then (λ ts. option_and_then (λ (c : ℕ). Some (cond counts 1 c)) (price ts)) found) ≡ option_and_then (λ (c : ℕ). Some (cond counts 1 c)) (given rise (option_and_then price found))
+counted counts true price None = refl
+counted counts true price (Some ts) = refl
+counted counts false price found = refl
+
+-- the worth of a list as a block
+pub worth_walked : (day : DayFacts) (counts : Bool) (class : ℕ) (list : List ℕ) → block_worth day counts class list ≡ option_and_then (λ (c : ℕ). Some (cond counts 1 c)) (with_pool day class (λ pool. walk day pool list))
+worth_walked day counts class list =
+    let Goal : Option Pool → Type 0 = λ o. given (rises list) (option_and_then (λ (pool : Pool). option_and_then (λ (ts : List Trip). option_and_then (λ (c : ℕ). Some (cond counts 1 c)) (block_cost day pool ts)) (trips_at day.trips list)) o) ≡ option_and_then (λ (c : ℕ). Some (cond counts 1 c)) (option_and_then (λ (pool : Pool). walk day pool list) o) in
+    let split : (o : Option Pool) → Goal o = λ o. elim o as Goal [
+      | None ↦ given_none {A = ℕ} (rises list)
+      | Some pool ↦ counted counts (rises list) (λ ts. block_cost day pool ts) (trips_at day.trips list) ∙ ap (λ o. option_and_then (λ (c : ℕ). Some (cond counts 1 c)) o) (list_walked day pool list)
+    ] in split (slice_get day.params.pools class)
+
+-- one trip of the rest is walked
+pub walked_more : (day : DayFacts) (pool : Pool) (cost last next_cost : ℕ) (rest : List ℕ) (i : ℕ) → i < length rest → Some next_cost ≡ extended day pool cost last (slice_index rest i) →
+    walked day pool cost last (drop i rest) ≡ walked day pool next_cost (slice_index rest i) (drop (i + 1) rest)
+walked_more day pool cost last next_cost rest i within is =
+    let at : drop i rest ≡ slice_index rest i ∷ drop (i + 1) rest = rw add-one (drop-cons rest i 0 within) in
+    rw (at, ← is) refl
+
+-- where no trip may follow there is no cost
+pub walked_none : (day : DayFacts) (pool : Pool) (cost last : ℕ) (rest : List ℕ) (i : ℕ) → i < length rest → None ≡ extended day pool cost last (slice_index rest i) →
+    walked day pool cost last (drop i rest) ≡ None
+walked_none day pool cost last rest i within is =
+    let at : drop i rest ≡ slice_index rest i ∷ drop (i + 1) rest = rw add-one (drop-cons rest i 0 within) in
+    rw (at, ← is) refl

@@ -1,0 +1,3 @@
+pub mod Network
+pub mod Walk
+pub mod Listed

@@ -1,0 +1,10 @@
+//! What a list of trips is worth as a block of a pool: the multi-depot vehicle scheduling problem as a set partitioning problem, after the
+//! chapter on public transit of Desaulniers and Hickman. Trips are items, pools of vehicles are classes.
+#![tactic(auto)]
+
+mod cost;
+mod network;
+#[cfg(test)]
+mod tests;
+
+pub use network::PoolNet;

@@ -1,0 +1,4 @@
+pub mod Numbered
+pub mod Noted
+pub mod Order
+pub mod Plain
