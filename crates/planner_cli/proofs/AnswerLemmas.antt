@@ -4,21 +4,28 @@ use Rattle.std.specs.Prelude.{IfOk, IfErr}
 use Rattle.vdv451_text.specs.declared.table.Table.{Table}
 use Rattle.vdv451_text.specs.declared.fault.TextKind.{TextKind}
 use Rattle.planner_cli.specs.declared.words.Command.{Command}
-use Rattle.planner_cli.specs.declared.words.Command.TheVariants.{Trips}
+use Rattle.planner_cli.specs.declared.words.Command.TheVariants.{Day, Plan, Trips}
 use Rattle.planner_cli.specs.declared.status.Status.{Status}
 use Rattle.planner_cli.specs.declared.status.Status.TheVariants as statuses
 use Rattle.planner_cli.specs.declared.status.InputFault.TheVariants as inputs
 use Rattle.planner_cli.specs.Inputs.{HasTextFault, IsFileCause, IsUnread, SpellTables, most_bytes, refused_text}
 use Rattle.planner_cli.specs.Run.{IsAnswer, IsAnswerCause, IsCause, IsRefusal, IsRefused, IsTablesRefusal, IsText}
 use Rattle.planner_cli.proofs.InputLemmas.{if_told, of_told}
+use Rattle.planner_cli.specs.Model.{IsModelCause}
+use Rattle.planner_cli.specs.PlanText.{IsPlanCause}
 use Rattle.planner_cli.proofs.Outcomes.{one_cause, text_no_cause}
+use Rattle.planner_cli.proofs.ModelOutcomes.{day_text_no_cause, one_model_cause, one_plan_cause, plan_text_no_cause}
 
 -- a command has one answer for tables and a day
 same_cause : (command : Command) (tables : List Table) (day : ℕ) (s t : Status) → IsCause command tables day s → IsCause command tables day t → s ≡ t
 same_cause Trips tables day s t p q = one_cause tables day s t p q
+same_cause Day tables day s t p q = one_model_cause tables day s t p q
+same_cause Plan tables day s t p q = one_plan_cause tables day s t p q
 
 no_cause : (command : Command) (tables : List Table) (day : ℕ) (bytes : List ℕ) (s : Status) → IsText command tables day bytes → IsCause command tables day s → ⊥
 no_cause Trips tables day bytes s p q = text_no_cause tables day bytes s p q
+no_cause Day tables day bytes s p q = day_text_no_cause tables day bytes s p q
+no_cause Plan tables day bytes s p q = plan_text_no_cause tables day bytes s p q
 
 memory_is_unread : (s : Status) → s ≡ statuses.Memory → IsUnread s
 memory_is_unread s e = subst IsUnread (sym e) tt
@@ -28,7 +35,10 @@ pub parts_of : (command : Command) → (contents : List (List ℕ)) (day : ℕ) 
 parts_of command contents day (statuses.Input (inputs.Text file fault)) r = inr (file, fault.line, fault.kind, refl, r)
 parts_of command contents day (statuses.Input (inputs.Table fault)) r = inl r
 parts_of command contents day (statuses.Input (inputs.Trips count)) r = inl r
+parts_of command contents day (statuses.Input (inputs.Params fault)) r = inl r
+parts_of command contents day (statuses.Input (inputs.Trip fid fault)) r = inl r
 parts_of command contents day (statuses.Day fault) r = inl r
+parts_of command contents day (statuses.NotPlaced item fid partial) r = inl r
 parts_of command contents day statuses.Memory r = absurd r
 parts_of command contents day statuses.Ok r = absurd r
 parts_of command contents day statuses.Usage r = absurd r
@@ -39,7 +49,10 @@ parts_of command contents day statuses.WriteFault r = absurd r
 abbrev IsTableStatus : Status → Type 0
 IsTableStatus (statuses.Input (inputs.Table fault)) = Unit {0}
 IsTableStatus (statuses.Input (inputs.Trips count)) = Unit {0}
+IsTableStatus (statuses.Input (inputs.Params fault)) = Unit {0}
+IsTableStatus (statuses.Input (inputs.Trip fid fault)) = Unit {0}
 IsTableStatus (statuses.Day fault) = Unit {0}
+IsTableStatus (statuses.NotPlaced item fid partial) = Unit {0}
 IsTableStatus (statuses.Input (inputs.Text file fault)) = ⊥
 IsTableStatus statuses.Memory = ⊥
 IsTableStatus statuses.Ok = ⊥
@@ -47,22 +60,54 @@ IsTableStatus statuses.Usage = ⊥
 IsTableStatus (statuses.ReadFault file) = ⊥
 IsTableStatus statuses.WriteFault = ⊥
 
+model_is_of_tables : (tables : List Table) (day : ℕ) (status : Status) → IsModelCause tables day status → IsTableStatus status
+model_is_of_tables tables day (statuses.Input (inputs.Table fault)) c = tt
+model_is_of_tables tables day (statuses.Input (inputs.Trips count)) c = tt
+model_is_of_tables tables day (statuses.Input (inputs.Params fault)) c = tt
+model_is_of_tables tables day (statuses.Input (inputs.Trip fid fault)) c = tt
+model_is_of_tables tables day (statuses.Day fault) c = tt
+model_is_of_tables tables day (statuses.Input (inputs.Text file fault)) c = c
+model_is_of_tables tables day (statuses.NotPlaced item fid partial) c = tt
+model_is_of_tables tables day statuses.Memory c = c
+model_is_of_tables tables day statuses.Ok c = c
+model_is_of_tables tables day statuses.Usage c = c
+model_is_of_tables tables day (statuses.ReadFault file) c = c
+model_is_of_tables tables day statuses.WriteFault c = c
+
+plan_is_of_tables : (tables : List Table) (day : ℕ) (status : Status) → IsPlanCause tables day status → IsTableStatus status
+plan_is_of_tables tables day (statuses.Input fault) c = model_is_of_tables tables day (statuses.Input fault) c
+plan_is_of_tables tables day (statuses.Day fault) c = tt
+plan_is_of_tables tables day (statuses.NotPlaced item fid partial) c = tt
+plan_is_of_tables tables day statuses.Memory c = c
+plan_is_of_tables tables day statuses.Ok c = c
+plan_is_of_tables tables day statuses.Usage c = c
+plan_is_of_tables tables day (statuses.ReadFault file) c = c
+plan_is_of_tables tables day statuses.WriteFault c = c
+
 is_of_tables : (command : Command) (tables : List Table) (day : ℕ) (status : Status) → IsCause command tables day status → IsTableStatus status
 is_of_tables Trips tables day (statuses.Input (inputs.Table fault)) c = tt
 is_of_tables Trips tables day (statuses.Input (inputs.Trips count)) c = tt
+is_of_tables Trips tables day (statuses.Input (inputs.Params fault)) c = absurd c
+is_of_tables Trips tables day (statuses.Input (inputs.Trip fid fault)) c = absurd c
 is_of_tables Trips tables day (statuses.Day fault) c = tt
+is_of_tables Trips tables day (statuses.NotPlaced item fid partial) c = absurd c
 is_of_tables Trips tables day (statuses.Input (inputs.Text file fault)) c = c
 is_of_tables Trips tables day statuses.Memory c = c
 is_of_tables Trips tables day statuses.Ok c = c
 is_of_tables Trips tables day statuses.Usage c = c
 is_of_tables Trips tables day (statuses.ReadFault file) c = c
 is_of_tables Trips tables day statuses.WriteFault c = c
+is_of_tables Day tables day status c = model_is_of_tables tables day status c
+is_of_tables Plan tables day status c = plan_is_of_tables tables day status c
 
 -- the tables' cause is the command's
 pub cause_of : (command : Command) (told : Option (List (List ℕ))) (tables : List Table) (day : ℕ) (R : ℕ → Type 0) (status : Status) → IsTableStatus status → IfSome told (λ contents. SpellTables most_bytes contents tables) → IsCause command tables day status → IsAnswerCause (λ s. IfSome told (λ contents. IsRefusal command contents day s)) R status
 cause_of command told tables day R (statuses.Input (inputs.Table fault)) t spelled c = if_told told (λ contents. IsRefusal command contents day (statuses.Input (inputs.Table fault))) (λ contents e. record { tables = tables; spelled = of_told told (λ contents. SpellTables most_bytes contents tables) contents e spelled; cause = c })
 cause_of command told tables day R (statuses.Input (inputs.Trips count)) t spelled c = if_told told (λ contents. IsRefusal command contents day (statuses.Input (inputs.Trips count))) (λ contents e. record { tables = tables; spelled = of_told told (λ contents. SpellTables most_bytes contents tables) contents e spelled; cause = c })
+cause_of command told tables day R (statuses.Input (inputs.Params fault)) t spelled c = if_told told (λ contents. IsRefusal command contents day (statuses.Input (inputs.Params fault))) (λ contents e. record { tables = tables; spelled = of_told told (λ contents. SpellTables most_bytes contents tables) contents e spelled; cause = c })
+cause_of command told tables day R (statuses.Input (inputs.Trip fid fault)) t spelled c = if_told told (λ contents. IsRefusal command contents day (statuses.Input (inputs.Trip fid fault))) (λ contents e. record { tables = tables; spelled = of_told told (λ contents. SpellTables most_bytes contents tables) contents e spelled; cause = c })
 cause_of command told tables day R (statuses.Day fault) t spelled c = if_told told (λ contents. IsRefusal command contents day (statuses.Day fault)) (λ contents e. record { tables = tables; spelled = of_told told (λ contents. SpellTables most_bytes contents tables) contents e spelled; cause = c })
+cause_of command told tables day R (statuses.NotPlaced item fid partial) t spelled c = if_told told (λ contents. IsRefusal command contents day (statuses.NotPlaced item fid partial)) (λ contents e. record { tables = tables; spelled = of_told told (λ contents. SpellTables most_bytes contents tables) contents e spelled; cause = c })
 cause_of command told tables day R (statuses.Input (inputs.Text file fault)) t spelled c = absurd t
 cause_of command told tables day R statuses.Memory t spelled c = absurd t
 cause_of command told tables day R statuses.Ok t spelled c = absurd t
@@ -109,7 +154,10 @@ unread_answer command told day R (statuses.ReadFault file) cause = cause
 unread_answer command told day R (statuses.Input (inputs.Text file fault)) cause = cause
 unread_answer command told day R (statuses.Input (inputs.Table fault)) cause = absurd cause
 unread_answer command told day R (statuses.Input (inputs.Trips count)) cause = absurd cause
+unread_answer command told day R (statuses.Input (inputs.Params fault)) cause = absurd cause
+unread_answer command told day R (statuses.Input (inputs.Trip fid fault)) cause = absurd cause
 unread_answer command told day R (statuses.Day fault) cause = absurd cause
+unread_answer command told day R (statuses.NotPlaced item fid partial) cause = absurd cause
 unread_answer command told day R statuses.Ok cause = absurd cause
 unread_answer command told day R statuses.Usage cause = absurd cause
 unread_answer command told day R statuses.WriteFault cause = absurd cause

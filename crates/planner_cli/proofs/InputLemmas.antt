@@ -110,9 +110,12 @@ cause_on T U R S (statuses.ReadFault file) text read cause = read file cause
 cause_on T U R S (statuses.Input (inputs.Text file fault)) text read cause = text file fault.line fault.kind cause
 cause_on T U R S (statuses.Input (inputs.Table fault)) text read cause = absurd cause
 cause_on T U R S (statuses.Input (inputs.Trips count)) text read cause = absurd cause
+cause_on T U R S (statuses.Input (inputs.Params fault)) text read cause = absurd cause
+cause_on T U R S (statuses.Input (inputs.Trip fid fault)) text read cause = absurd cause
 cause_on T U R S statuses.Ok text read cause = absurd cause
 cause_on T U R S statuses.Usage text read cause = absurd cause
 cause_on T U R S (statuses.Day fault) text read cause = absurd cause
+cause_on T U R S (statuses.NotPlaced item fid partial) text read cause = absurd cause
 cause_on T U R S statuses.WriteFault text read cause = absurd cause
 
 -- a fact for each told content

@@ -8,3 +8,6 @@ pub mod RequestLemmas
 pub mod RunLemmas
 pub mod TripLemmas
 pub mod WordLemmas
+pub mod ModelOutcomes
+pub mod ModelLemmas
+pub mod PlanLemmas

@@ -9,14 +9,13 @@ use Rattle.vdv451_text.specs.declared.table.Field.{Field}
 use Rattle.vdv451_text.specs.Plain.{are_plain_columns, is_plain_name, is_plain_row, is_plain_table}
 use Rattle.vdv451_text.specs.declared.table.Table.{Table}
 use Rattle.vdv452_tables.specs.declared.cell.Cell.{Cell}
-use Rattle.vdv452_tables.specs.declared.fault.TableFault.{TableFault}
-use Rattle.vdv452_tables.specs.declared.fault.TableKind.{TableKind}
-use Rattle.vdv452_tables.specs.declared.fault.TableKind.TheVariants as kinds
 use Rattle.vdv452_tables.specs.declared.reading.Needs.TheVariants as needs
 use Rattle.vdv452_tables.specs.Schema as schema
 use Rattle.vdv452_tables.specs.Calendar.{net_of, schemas_of, typed}
 use Rattle.vdv452_tables.specs.Rows.{faults_in, faults_of, first, first_fault, rows_in, has_name, table_faults, table_of}
-use Rattle.planner_cli.specs.Trips.{IsRefused, picked_table, refused_tables, rows_at, table_status_of}
+use Rattle.planner_cli.specs.declared.status.Status.{Status}
+use Rattle.planner_cli.specs.Model.{IsTableRefusal}
+use Rattle.planner_cli.specs.Trips.{IsDayCause, IsRefused, picked_table, rows_at}
 
 first_none : {A : Type 0} (xs : List A) → first xs ≡ None → xs ≡ []
 first_none [] none = refl
@@ -44,6 +43,24 @@ trips_there tables none =
     let trips = (none_left (table_faults schema.trips tables) _ last).0 in
     trips_in (table_of schema.trips tables) (none_left _ (faults_in schema.trips (table_of schema.trips tables)) trips).1
 
+pub not_missing : (tables : List Table) (table : Table) → table_of schema.trips tables ≡ Some table → table_of schema.trips tables ≢ None
+not_missing tables table is = λ none. let both : Some table ≡ None = sym is ∙ none in cc
+
+pub all_trips_there : (tables : List Table) → first_fault (schemas_of needs.All) tables ≡ None → (table : Table) × (table_of schema.trips tables ≡ Some table)
+all_trips_there tables none =
+    let all : faults_of (schemas_of needs.All) tables ≡ [] = first_none _ none in
+    let r1 = (none_left (table_faults schema.versions tables) _ all).1 in
+    let r2 = (none_left (table_faults schema.days tables) _ r1).1 in
+    let r3 = (none_left (table_faults schema.points tables) _ r2).1 in
+    let r4 = (none_left (table_faults schema.sections tables) _ r3).1 in
+    let r5 = (none_left (table_faults schema.runs tables) _ r4).1 in
+    let r6 = (none_left (table_faults schema.group_dwells tables) _ r5).1 in
+    let r7 = (none_left (table_faults schema.trip_dwells tables) _ r6).1 in
+    let r8 = (none_left (table_faults schema.lines tables) _ r7).1 in
+    let r9 = (none_left (table_faults schema.stops tables) _ r8).1 in
+    let trips = (none_left (table_faults schema.trips tables) _ r9).0 in
+    trips_in (table_of schema.trips tables) (none_left _ (faults_in schema.trips (table_of schema.trips tables)) trips).1
+
 -- a trip for each row
 typed_length : {A : Type 0} (row_of : List Cell → ℕ → A) (place : ℕ) (rows : List (List Cell)) → length (typed row_of place rows) ≡ length rows
 typed_length row_of place [] = refl
@@ -53,18 +70,14 @@ pub trips_count : (tables : List Table) (table : Table) → table_of schema.trip
 trips_count tables table found =
     typed_length _ 0 (rows_in schema.trips (table_of schema.trips tables)) ∙ ap (λ t. length (rows_in schema.trips t)) found ∙ length-map table.rows _
 
--- the status for a fault is no other
-pub refused_by : (tables : List Table) (day : ℕ) (fault : TableFault) → (fault.kind ≢ kinds.Memory → first_fault (schemas_of needs.Calendar) tables ≡ Some fault) → IsRefused tables day (refused_tables fault)
-refused_by tables day fault first_is = by_kind fault.kind first_is
-  where
-    by_kind : (kind : TableKind) → (kind ≢ kinds.Memory → first_fault (schemas_of needs.Calendar) tables ≡ Some fault) → IsRefused tables day (table_status_of fault kind)
-    by_kind kinds.Memory is = inl refl
-    by_kind kinds.TableTwice is = inr (is (λ e. cc))
-    by_kind kinds.NoTable is = inr (is (λ e. cc))
-    by_kind kinds.NoColumn is = inr (is (λ e. cc))
-    by_kind kinds.NoValue is = inr (is (λ e. cc))
-    by_kind kinds.Range is = inr (is (λ e. cc))
-    by_kind kinds.KeyTwice is = inr (is (λ e. cc))
+-- a refusal of the tables in the words of the day's trips
+pub trips_refused : (tables : List Table) (day : ℕ) (status : Status) → IsTableRefusal needs.Calendar tables status → IsRefused tables day status
+trips_refused tables day status (inl memory) = inl memory
+trips_refused tables day status (inr (fault, is, same)) = inr (let P : Status → Type 0 = IsDayCause tables day in subst P (sym same) is)
+
+pub all_trips_count : (tables : List Table) (table : Table) → table_of schema.trips tables ≡ Some table → length (net_of needs.All tables).trips ≡ length table.rows
+all_trips_count tables table found =
+    typed_length _ 0 (rows_in schema.trips (table_of schema.trips tables)) ∙ ap (λ t. length (rows_in schema.trips t)) found ∙ length-map table.rows _
 
 -- the table that a search finds next
 pub found_at : (name : List ℕ) (tables : List Table) (i : ℕ) (d : Table) → i < length tables → bytes_eq (slice_index_or tables i d).name name ≡ true → find (has_name name) (drop i tables) ≡ Some (slice_index_or tables i d)

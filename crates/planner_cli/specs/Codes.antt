@@ -8,6 +8,7 @@ code_of statuses.Ok = 0
 code_of statuses.Usage = 2
 code_of (statuses.Input fault) = 3
 code_of (statuses.Day fault) = 4
+code_of (statuses.NotPlaced item fid partial) = 6
 code_of (statuses.ReadFault file) = 7
 code_of statuses.WriteFault = 8
 code_of statuses.Memory = 9

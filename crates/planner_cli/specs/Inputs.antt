@@ -53,6 +53,7 @@ IsUnread statuses.Ok = ⊥
 IsUnread statuses.Usage = ⊥
 IsUnread (statuses.Input fault) = ⊥
 IsUnread (statuses.Day fault) = ⊥
+IsUnread (statuses.NotPlaced item fid partial) = ⊥
 IsUnread statuses.WriteFault = ⊥
 
 -- the refusal of a file's text
@@ -66,9 +67,12 @@ IsFileCause text_fault read_fault (statuses.ReadFault file) = read_fault file
 IsFileCause text_fault read_fault (statuses.Input (inputs.Text file fault)) = text_fault file fault.line fault.kind
 IsFileCause text_fault read_fault (statuses.Input (inputs.Table fault)) = ⊥
 IsFileCause text_fault read_fault (statuses.Input (inputs.Trips count)) = ⊥
+IsFileCause text_fault read_fault (statuses.Input (inputs.Params fault)) = ⊥
+IsFileCause text_fault read_fault (statuses.Input (inputs.Trip fid fault)) = ⊥
 IsFileCause text_fault read_fault statuses.Ok = ⊥
 IsFileCause text_fault read_fault statuses.Usage = ⊥
 IsFileCause text_fault read_fault (statuses.Day fault) = ⊥
+IsFileCause text_fault read_fault (statuses.NotPlaced item fid partial) = ⊥
 IsFileCause text_fault read_fault statuses.WriteFault = ⊥
 
 -- the status for a file with a fault of text

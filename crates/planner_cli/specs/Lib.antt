@@ -1,5 +1,8 @@
 pub mod Codes
+pub mod DayText
 pub mod Inputs
+pub mod Model
+pub mod PlanText
 pub mod Run
 pub mod Taken
 pub mod Trips

@@ -7,6 +7,10 @@ use Rattle.vdv452_tables.specs.declared.fault.TableKind.{TableKind}
 use Rattle.vdv452_tables.specs.declared.fault.TableKind.TheVariants as tables
 use Rattle.day_calendar.specs.declared.day.DayFault.{DayFault}
 use Rattle.day_calendar.specs.declared.day.DayFault.TheVariants as days
+use Rattle.plan_params.specs.declared.fault.ParamKind.{ParamKind}
+use Rattle.plan_params.specs.declared.fault.ParamKind.TheVariants as params
+use Rattle.trip_times.specs.declared.trip.TripFault.{TripFault}
+use Rattle.trip_times.specs.declared.trip.TripFault.TheVariants as trips
 use Rattle.planner_cli.specs.declared.status.Status.{Status}
 use Rattle.planner_cli.specs.declared.status.Status.TheVariants as statuses
 use Rattle.planner_cli.specs.declared.status.InputFault.TheVariants as inputs
@@ -37,6 +41,21 @@ day_kind days.NoVersion = codes "NoVersion"
 day_kind days.NoDay = codes "NoDay"
 day_kind days.NoDate = codes "NoDate"
 
+abbrev pub param_kind : ParamKind → List ℕ
+param_kind params.NotOne = codes "NotOne"
+param_kind params.TooMany = codes "TooMany"
+param_kind params.UnknownPoint = codes "UnknownPoint"
+param_kind params.UnknownType = codes "UnknownType"
+param_kind params.Memory = codes "Memory"
+
+-- the parts of the words for a trip without times
+abbrev pub trip_words : TripFault → List (List ℕ)
+trip_words trips.NoRoute = codes "NoRoute" ∷ []
+trip_words trips.ShortRoute = codes "ShortRoute" ∷ []
+trip_words (trips.NoRunTime from to) =
+    codes "NoRunTime " ∷ decimal from.typ ∷ codes "/" ∷ decimal from.nr ∷ codes " to " ∷ decimal to.typ ∷ codes "/" ∷ decimal to.nr ∷ []
+trip_words trips.PastEnd = codes "PastEnd" ∷ []
+
 -- the parts of a line after one another
 abbrev pub joined : List (List ℕ) → List ℕ
 joined [] = []
@@ -52,6 +71,10 @@ line_of day (statuses.Input (inputs.Table fault)) =
     joined
     (codes "table " ∷ fault.table ∷ codes " column " ∷ fault.column ∷ codes " row " ∷ decimal fault.row ∷ codes ": " ∷ table_kind fault.kind ∷ codes "\n" ∷ [])
 line_of day (statuses.Input (inputs.Trips count)) = joined (codes "trips: " ∷ decimal count ∷ codes "\n" ∷ [])
+line_of day (statuses.Input (inputs.Params fault)) =
+    joined (codes "table " ∷ fault.table ∷ codes " row " ∷ decimal fault.row ∷ codes ": " ∷ param_kind fault.kind ∷ codes "\n" ∷ [])
+line_of day (statuses.Input (inputs.Trip fid fault)) = joined (codes "trip " ∷ decimal fid ∷ codes ": " ∷ (trip_words fault ++ codes "\n" ∷ []))
+line_of day (statuses.NotPlaced item fid partial) = joined (codes "not placed: trip " ∷ decimal fid ∷ codes "\n" ∷ [])
 line_of day (statuses.Day fault) = joined (codes "day " ∷ day ∷ codes ": " ∷ day_kind fault ∷ codes "\n" ∷ [])
 line_of day (statuses.ReadFault file) = joined (codes "read fault: file " ∷ decimal file ∷ codes "\n" ∷ [])
 line_of day statuses.WriteFault = codes "write fault\n"

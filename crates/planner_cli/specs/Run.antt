@@ -7,18 +7,25 @@ use Rattle.planner_cli.specs.declared.status.Status.TheVariants as statuses
 use Rattle.planner_cli.specs.declared.status.InputFault.TheVariants as inputs
 use Rattle.planner_cli.specs.Inputs.{HasTextFault, SpellTables, held_under, most_bytes}
 use Rattle.planner_cli.specs.Taken.{TakesFront}
+use Rattle.planner_cli.specs.DayText.{IsDayText}
+use Rattle.planner_cli.specs.Model.{IsModelCause}
+use Rattle.planner_cli.specs.PlanText.{IsPlanCause, IsPlanText}
 use Rattle.planner_cli.specs.Trips.{IsDayCause, IsTripsText}
 use Rattle.planner_cli.specs.declared.words.Command.{Command}
-use Rattle.planner_cli.specs.declared.words.Command.TheVariants.{Trips}
+use Rattle.planner_cli.specs.declared.words.Command.TheVariants.{Day, Plan, Trips}
 use Rattle.planner_cli.specs.declared.words.Request.{Request}
 
 -- the text that a command writes of the tables, for a day
 abbrev pub IsText : Command → List Table → ℕ → List ℕ → Type 0
 IsText Trips tables day bytes = IsTripsText tables day bytes
+IsText Day tables day bytes = IsDayText tables day bytes
+IsText Plan tables day bytes = IsPlanText tables day bytes
 
 -- why a command refuses the tables, for a day
 abbrev pub IsCause : Command → List Table → ℕ → Status → Type 0
 IsCause Trips tables day status = IsDayCause tables day status
+IsCause Day tables day status = IsModelCause tables day status
+IsCause Plan tables day status = IsPlanCause tables day status
 
 -- memory ran out, or the command refuses the tables for the day
 abbrev pub IsRefused : Command → List Table → ℕ → Status → Type 0
@@ -41,7 +48,10 @@ abbrev pub IsRefusal : Command → List (List ℕ) → ℕ → Status → Type 0
 IsRefusal command contents day (statuses.Input (inputs.Text file fault)) = HasTextFault 1 most_bytes contents file fault.line fault.kind
 IsRefusal command contents day (statuses.Input (inputs.Table fault)) = IsTablesRefusal command contents day (statuses.Input (inputs.Table fault))
 IsRefusal command contents day (statuses.Input (inputs.Trips count)) = IsTablesRefusal command contents day (statuses.Input (inputs.Trips count))
+IsRefusal command contents day (statuses.Input (inputs.Params fault)) = IsTablesRefusal command contents day (statuses.Input (inputs.Params fault))
+IsRefusal command contents day (statuses.Input (inputs.Trip fid fault)) = IsTablesRefusal command contents day (statuses.Input (inputs.Trip fid fault))
 IsRefusal command contents day (statuses.Day fault) = IsTablesRefusal command contents day (statuses.Day fault)
+IsRefusal command contents day (statuses.NotPlaced item fid partial) = IsTablesRefusal command contents day (statuses.NotPlaced item fid partial)
 IsRefusal command contents day statuses.Memory = ⊥
 IsRefusal command contents day statuses.Ok = ⊥
 IsRefusal command contents day statuses.Usage = ⊥
@@ -54,6 +64,7 @@ IsAnswerCause refusal read_fault statuses.Memory = Unit {0}
 IsAnswerCause refusal read_fault (statuses.ReadFault file) = read_fault file
 IsAnswerCause refusal read_fault (statuses.Input fault) = refusal (statuses.Input fault)
 IsAnswerCause refusal read_fault (statuses.Day fault) = refusal (statuses.Day fault)
+IsAnswerCause refusal read_fault (statuses.NotPlaced item fid partial) = refusal (statuses.NotPlaced item fid partial)
 IsAnswerCause refusal read_fault statuses.Ok = ⊥
 IsAnswerCause refusal read_fault statuses.Usage = ⊥
 IsAnswerCause refusal read_fault statuses.WriteFault = ⊥
@@ -78,6 +89,7 @@ IsWritten old new faults_before faults_now text statuses.Usage = ⊥
 IsWritten old new faults_before faults_now text statuses.Memory = ⊥
 IsWritten old new faults_before faults_now text (statuses.Input fault) = ⊥
 IsWritten old new faults_before faults_now text (statuses.Day fault) = ⊥
+IsWritten old new faults_before faults_now text (statuses.NotPlaced item fid partial) = ⊥
 IsWritten old new faults_before faults_now text (statuses.ReadFault file) = ⊥
 
 -- what the files named by a request hold, where all of them tell it

@@ -6,7 +6,7 @@ use Rattle.std.specs.Option.{option_map}
 use Rattle.std.specs.Str.{bytes_eq}
 use Rattle.std.specs.Str.Parse.{digits_value}
 use Rattle.planner_cli.specs.declared.words.Command.{Command}
-use Rattle.planner_cli.specs.declared.words.Command.TheVariants.{Trips}
+use Rattle.planner_cli.specs.declared.words.Command.TheVariants.{Day, Plan, Trips}
 use Rattle.planner_cli.specs.declared.words.Request.{Request}
 
 -- the word that ends the options
@@ -53,7 +53,10 @@ are_right words = list_all (λ word. not (is_option word)) (before_end words) &&
 
 -- the command that a word names
 abbrev pub command_of : List ℕ → Option Command
-command_of word = if bytes_eq word (codes "trips") then Some Trips else None
+command_of word =
+    if bytes_eq word (codes "trips") then Some Trips else
+    (if bytes_eq word (codes "day") then Some Day else
+    (if bytes_eq word (codes "plan") then Some Plan else None))
 
 -- the first of the words
 abbrev pub first_word : List (List ℕ) → List ℕ

@@ -7,7 +7,9 @@ use crate::status::{InputFault, Status};
 use crate::transfer::write_whole;
 use day_calendar::DayFault;
 use itoa::Buffer;
-use plan_core::Sink;
+use plan_core::{Point, Sink};
+use plan_params::{ParamFault, ParamKind};
+use trip_times::TripFault;
 use vdv451_text::{TextFault, TextKind};
 use vdv452_tables::{TableFault, TableKind};
 
@@ -43,6 +45,19 @@ fn table_kind(kind: TableKind) -> &'static [u8]
     }
 }
 
+/// The name of a kind of fault of the settings.
+fn param_kind(kind: ParamKind) -> &'static [u8]
+    ensures { result.now ≡ spec.param_kind kind }
+{
+    match kind {
+        ParamKind::NotOne => b"NotOne",
+        ParamKind::TooMany => b"TooMany",
+        ParamKind::UnknownPoint => b"UnknownPoint",
+        ParamKind::UnknownType => b"UnknownType",
+        ParamKind::Memory => b"Memory",
+    }
+}
+
 /// The name of a fault of a day.
 fn day_kind(fault: DayFault) -> &'static [u8]
     ensures { result.now ≡ spec.day_kind fault }
@@ -69,7 +84,7 @@ fn write_part<E: Sink>(err: &mut E, is_whole: bool, part: &[u8]) -> bool
 }
 
 /// Writes a further number of a line.
-fn write_number<E: Sink>(err: &mut E, is_whole: bool, number: u32) -> bool
+fn write_number<E: Sink>(err: &mut E, is_whole: bool, number: u64) -> bool
     ensures { (old : Option (List ℕ)) (faults : ℕ) (line rest : List ℕ) → spec.IsTelling old (E.taken err.old) faults (E.faults err.old) line (decimal number ++ rest) is_whole
         → spec.IsTelling old (E.taken err.new) faults (E.faults err.new) line rest result }
 {
@@ -81,9 +96,9 @@ fn tell_text<E: Sink>(err: &mut E, file: u32, fault: &TextFault)
     ensures { (day : List ℕ) → spec.IsTold (E.taken err.old) (E.taken err.new) (E.faults err.old) (E.faults err.new) (spec.line_of day (Status.Input (InputFault.Text file fault.now))) }
 {
     let is_whole = write_part(err, true, b"file ");
-    let is_whole = write_number(err, is_whole, file);
+    let is_whole = write_number(err, is_whole, file as u64);
     let is_whole = write_part(err, is_whole, b" line ");
-    let is_whole = write_number(err, is_whole, fault.line);
+    let is_whole = write_number(err, is_whole, fault.line as u64);
     let is_whole = write_part(err, is_whole, b": ");
     let is_whole = write_part(err, is_whole, text_kind(fault.kind));
     let _ = write_part(err, is_whole, b"\n");
@@ -97,14 +112,66 @@ fn tell_table<E: Sink>(err: &mut E, fault: &TableFault)
     let is_whole = write_part(err, is_whole, b" column ");
     let is_whole = write_part(err, is_whole, fault.column.as_slice());
     let is_whole = write_part(err, is_whole, b" row ");
-    let is_whole = write_number(err, is_whole, fault.row);
+    let is_whole = write_number(err, is_whole, fault.row as u64);
     let is_whole = write_part(err, is_whole, b": ");
     let is_whole = write_part(err, is_whole, table_kind(fault.kind));
     let _ = write_part(err, is_whole, b"\n");
 }
 
+fn tell_params<E: Sink>(err: &mut E, fault: &ParamFault)
+    ensures { (day : List ℕ) → spec.IsTold (E.taken err.old) (E.taken err.new) (E.faults err.old) (E.faults err.new) (spec.line_of day (Status.Input (InputFault.Params fault.now))) }
+{
+    let is_whole = write_part(err, true, b"table ");
+    let is_whole = write_part(err, is_whole, fault.table.as_slice());
+    let is_whole = write_part(err, is_whole, b" row ");
+    let is_whole = write_number(err, is_whole, fault.row as u64);
+    let is_whole = write_part(err, is_whole, b": ");
+    let is_whole = write_part(err, is_whole, param_kind(fault.kind));
+    let _ = write_part(err, is_whole, b"\n");
+}
+
+/// Writes a trip and a word.
+fn tell_word<E: Sink>(err: &mut E, fid: u64, word: &[u8])
+    ensures { spec.IsTold (E.taken err.old) (E.taken err.new) (E.faults err.old) (E.faults err.new) (spec.joined (codes "trip " ∷ decimal fid ∷ codes ": " ∷ word.now ∷ codes "\n" ∷ [])) }
+{
+    let is_whole = write_part(err, true, b"trip ");
+    let is_whole = write_number(err, is_whole, fid);
+    let is_whole = write_part(err, is_whole, b": ");
+    let is_whole = write_part(err, is_whole, word);
+    let _ = write_part(err, is_whole, b"\n");
+}
+
+/// Writes a trip and the link that has no run time.
+fn tell_gap<E: Sink>(err: &mut E, fid: u64, from: Point, to: Point)
+    ensures { spec.IsTold (E.taken err.old) (E.taken err.new) (E.faults err.old) (E.faults err.new) (spec.joined (codes "trip " ∷ decimal fid ∷ codes ": " ∷ codes "NoRunTime " ∷ decimal from.typ ∷ codes "/" ∷ decimal from.nr ∷ codes " to " ∷ decimal to.typ ∷ codes "/" ∷ decimal to.nr ∷ codes "\n" ∷ [])) }
+{
+    let is_whole = write_part(err, true, b"trip ");
+    let is_whole = write_number(err, is_whole, fid);
+    let is_whole = write_part(err, is_whole, b": ");
+    let is_whole = write_part(err, is_whole, b"NoRunTime ");
+    let is_whole = write_number(err, is_whole, from.typ as u64);
+    let is_whole = write_part(err, is_whole, b"/");
+    let is_whole = write_number(err, is_whole, from.nr as u64);
+    let is_whole = write_part(err, is_whole, b" to ");
+    let is_whole = write_number(err, is_whole, to.typ as u64);
+    let is_whole = write_part(err, is_whole, b"/");
+    let is_whole = write_number(err, is_whole, to.nr as u64);
+    let _ = write_part(err, is_whole, b"\n");
+}
+
+fn tell_trip<E: Sink>(err: &mut E, fid: u64, fault: TripFault)
+    ensures { (day : List ℕ) → spec.IsTold (E.taken err.old) (E.taken err.new) (E.faults err.old) (E.faults err.new) (spec.line_of day (Status.Input (InputFault.Trip fid fault))) }
+{
+    match fault {
+        TripFault::NoRoute => tell_word(err, fid, b"NoRoute"),
+        TripFault::ShortRoute => tell_word(err, fid, b"ShortRoute"),
+        TripFault::NoRunTime { from, to } => tell_gap(err, fid, from, to),
+        TripFault::PastEnd => tell_word(err, fid, b"PastEnd"),
+    }
+}
+
 /// Writes some text, a number and the line end.
-fn tell_number<E: Sink>(err: &mut E, text: &[u8], number: u32)
+fn tell_number<E: Sink>(err: &mut E, text: &[u8], number: u64)
     ensures { spec.IsTold (E.taken err.old) (E.taken err.new) (E.faults err.old) (E.faults err.new) (spec.joined (text.now ∷ decimal number ∷ codes "\n" ∷ [])) }
 {
     let is_whole = write_part(err, true, text);
@@ -135,7 +202,9 @@ fn tell_input<E: Sink>(err: &mut E, fault: &InputFault)
     match fault {
         InputFault::Text { file, fault } => tell_text(err, *file, fault),
         InputFault::Table(fault) => tell_table(err, fault),
-        InputFault::Trips { count } => tell_number(err, b"trips: ", *count),
+        InputFault::Params(fault) => tell_params(err, fault),
+        InputFault::Trip { fid, fault } => tell_trip(err, *fid, *fault),
+        InputFault::Trips { count } => tell_number(err, b"trips: ", *count as u64),
     }
 }
 
@@ -151,7 +220,8 @@ pub fn tell<E: Sink>(err: &mut E, day: &[u8], status: &Status)
         }
         Status::Input(fault) => tell_input(err, fault),
         Status::Day(fault) => tell_day(err, day, *fault),
-        Status::ReadFault { file } => tell_number(err, b"read fault: file ", *file),
+        Status::NotPlaced { fid, .. } => tell_number(err, b"not placed: trip ", *fid),
+        Status::ReadFault { file } => tell_number(err, b"read fault: file ", *file as u64),
         Status::WriteFault => tell_line(err, b"write fault\n"),
         Status::Memory => tell_line(err, b"out of memory\n"),
     }

@@ -3,8 +3,13 @@
 
 mod adapters;
 mod answer;
+mod day;
 mod inputs;
 mod lines;
+mod model;
+mod plan;
+#[cfg(test)]
+mod plan_tests;
 mod run;
 mod status;
 #[cfg(test)]

@@ -5,6 +5,7 @@ ghost use Rattle.plan_core.specs.Outside.{Rose};
 ghost use Rattle.planner_cli.specs.declared.status.Status.{Status as RunStatus};
 ghost use Rattle.planner_cli.specs.declared.status.InputFault.{InputFault as RunFault};
 ghost use Rattle.planner_cli.specs.declared.words.Request.{Request as RunRequest};
+ghost use Rattle.cover_core.specs.declared.Plan.{Plan as RunPlan};
 ghost use Rattle.day_calendar.specs.declared.day.DayFault.{DayFault as FaultOfDay};
 ghost use Rattle.planner_cli.specs.Inputs.{IsReadFault, NoneRose};
 ghost use Rattle.planner_cli.specs.Lines.{IsTold, line_of};
@@ -24,6 +25,7 @@ fn answered<F: Files, O: Sink>(alloc: Global, words: &[Bytes], files: &mut F, ou
     ensures usage { (result ≡ Status.Usage) ↔ (asked words.now ≡ None) }
     ensures input { (fault : RunFault) → result ≡ Status.Input fault → IfSome (asked words.now) (λ request. IfSome (told (F.held files.old) request) (λ contents. IsRefusal request.command contents request.day (Status.Input fault))) }
     ensures day { (fault : FaultOfDay) → result ≡ Status.Day fault → IfSome (asked words.now) (λ request. IfSome (told (F.held files.old) request) (λ contents. IsRefusal request.command contents request.day (Status.Day fault))) }
+    ensures left { (item fid : ℕ) (partial : RunPlan) → result ≡ Status.NotPlaced item fid partial → IfSome (asked words.now) (λ request. IfSome (told (F.held files.old) request) (λ contents. IsRefusal request.command contents request.day (Status.NotPlaced item fid partial))) }
     ensures read_fault { (file : ℕ) → result ≡ Status.ReadFault file → IfSome (asked words.now) (λ request. IsReadFault request.names (F.faults files.old) (F.faults files.new) file) }
     ensures write_fault { result ≡ Status.WriteFault → Rose (O.faults out.old) (O.faults out.new) }
     ensures ok { result ≡ Status.Ok → IfSome (asked words.now) (λ request. IfSome (told (F.held files.old) request) (λ contents. IfSome (O.taken out.old) (TakesAnswer request.command contents request.day (O.taken out.new)))) }
@@ -55,8 +57,9 @@ fn tell_refusal<E: Sink>(err: &mut E, words: &[Bytes], status: &Status)
 /// Carries out the command that the words say, over the files and sinks that are handed in.
 ///
 /// `words` has no program name. The command `trips DAY FILE..` writes to `out` the table REC_FRT with the rows of the day's trips,
-/// unchanged, by departure and number. Nothing is written before the whole text is computed. A refusal writes one line to `err`; a
-/// write that fails there changes no status.
+/// unchanged, by departure and number; `day DAY FILE..` writes X_TAG and X_FAHRT, what the day is and when and how far its trips go;
+/// `plan DAY FILE..` covers the day's trips by vehicle blocks and writes REC_UMLAUF, REC_FRT and X_UMLAUF. Nothing is written before the
+/// whole text is computed. A refusal writes one line to `err`; a write that fails there changes no status.
 pub fn run<R: Threads + Sync, F: Files, O: Sink, E: Sink, G: Gate + Sync>(
     rt: &R,
     alloc: Global,
@@ -72,6 +75,7 @@ pub fn run<R: Threads + Sync, F: Files, O: Sink, E: Sink, G: Gate + Sync>(
     // A refusal has its cause in what the files hold, and a fault of the outside in a count that rose.
     ensures input { (fault : RunFault) → result ≡ Status.Input fault → IfSome (asked words.now) (λ request. IfSome (told (F.held files.old) request) (λ contents. IsRefusal request.command contents request.day (Status.Input fault))) }
     ensures day { (fault : FaultOfDay) → result ≡ Status.Day fault → IfSome (asked words.now) (λ request. IfSome (told (F.held files.old) request) (λ contents. IsRefusal request.command contents request.day (Status.Day fault))) }
+    ensures left { (item fid : ℕ) (partial : RunPlan) → result ≡ Status.NotPlaced item fid partial → IfSome (asked words.now) (λ request. IfSome (told (F.held files.old) request) (λ contents. IsRefusal request.command contents request.day (Status.NotPlaced item fid partial))) }
     ensures read_fault { (file : ℕ) → result ≡ Status.ReadFault file → IfSome (asked words.now) (λ request. IsReadFault request.names (F.faults files.old) (F.faults files.new) file) }
     ensures write_fault { result ≡ Status.WriteFault → Rose (O.faults out.old) (O.faults out.new) }
 

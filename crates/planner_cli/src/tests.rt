@@ -1,4 +1,4 @@
-//! The command `trips` over files and sinks in memory.
+//! The words, the files and the command `trips`, over files and sinks in memory.
 
 ghost use Rattle.std.specs.Prelude.{◌≡◌, IfOk};
 
@@ -37,11 +37,11 @@ const FIRST_BLANK: &str = "rec; 1; 1; 28800; 1; 1; 1; 1; \"H\"; \n";
 
 const SECOND_BLANK: &str = "rec;1;2 ; 33000;1;1;1;1;\"R\";\n";
 
-const WRITTEN_HEAD: &str =
+pub(crate) const WRITTEN_HEAD: &str =
     "mod; DD.MM.YYYY; HH:MM:SS; free\nsrc; \"planner\"; \"01.01.2000\"; \"00:00:00\"\nchs; \"ISO8859-1\"\nver; \"1.4\"\nifv; \"1.4\"\ndve; \"1.4\"\nfft; \"\"\n";
 
 /// The lines of some texts after one another, with a line end of the caller's.
-fn joined(alloc: Global, texts: &[&str], line_end: &[u8]) -> Result<Bytes, Fail> {
+pub(crate) fn joined(alloc: Global, texts: &[&str], line_end: &[u8]) -> Result<Bytes, Fail> {
     let mut bytes = Vec::new(alloc);
     for text in texts {
         for byte in text.as_bytes() {
@@ -55,11 +55,11 @@ fn joined(alloc: Global, texts: &[&str], line_end: &[u8]) -> Result<Bytes, Fail>
     Ok(Bytes::from_vec(bytes))
 }
 
-fn numbers(alloc: Global, list: &[u64]) -> Result<Seq<u64>, Fail> {
+pub(crate) fn numbers(alloc: Global, list: &[u64]) -> Result<Seq<u64>, Fail> {
     Ok(Seq::from_vec(list.to_vec(alloc)?))
 }
 
-fn file(alloc: Global, name: &str, bytes: Bytes) -> Result<MemFile, Fail>
+pub(crate) fn file(alloc: Global, name: &str, bytes: Bytes) -> Result<MemFile, Fail>
     ensures { IfOk result (λ file. file.faults ≡ 0) }
 {
     Ok(MemFile {
@@ -69,13 +69,13 @@ fn file(alloc: Global, name: &str, bytes: Bytes) -> Result<MemFile, Fail>
     })
 }
 
-fn sink(alloc: Global, most: u64, fails: &[u64]) -> Result<MemSink, Fail> {
+pub(crate) fn sink(alloc: Global, most: u64, fails: &[u64]) -> Result<MemSink, Fail> {
     let most = most.max(1);
     Ok(MemSink::new(alloc, 10_000, most, numbers(alloc, fails)?).map_err(|_| "memory")?)
 }
 
 /// The words, each as its bytes.
-fn listed(alloc: Global, words: &[&str]) -> Result<Vec<Bytes>, Fail> {
+pub(crate) fn listed(alloc: Global, words: &[&str]) -> Result<Vec<Bytes>, Fail> {
     let mut list = Vec::new(alloc);
     for word in words {
         list.push(Bytes::from_vec(word.as_bytes().to_vec(alloc)?))?;
@@ -84,7 +84,7 @@ fn listed(alloc: Global, words: &[&str]) -> Result<Vec<Bytes>, Fail> {
 }
 
 /// Runs the words over the one file `f`, whose reads of the listed numbers fail.
-fn run_on<R: Threads + Sync>(
+pub(crate) fn run_on<R: Threads + Sync>(
     rt: &R,
     alloc: Global,
     words: &[&str],
@@ -372,7 +372,7 @@ fn a_line_that_fails_changes_no_status(rt: HostRuntime) -> Result<(), Fail> {
             assert_eq!(rt; fault.line, 24);
             assert_eq!(rt; fault.kind, TextKind::Unended);
         }
-        other => panic!(rt; "{other:?}"),
+        _ => panic!(rt; "another status"),
     }
     assert!(rt; err.taken().is_empty());
     Ok(())

@@ -8,42 +8,21 @@ ghost use Rattle.vdv452_tables.specs.Calendar.{net_of, schemas_of};
 ghost use Rattle.vdv452_tables.specs.Rows.{first_fault, table_of};
 ghost use Rattle.vdv451_text.specs.declared.table.Table.{Table as TextTable};
 ghost use Rattle.planner_cli.specs.Trips.{IsDayCause, IsTripsText, most_trips, picked_table, rows_at};
-ghost use Rattle.planner_cli.specs.Trips.{IsCrowdRefusal, IsDayIn, IsDayRefusal, IsRefusalIn, IsRefused, refused_tables};
-ghost use Rattle.day_calendar.specs.Kinds.{IsKindOf};
+ghost use Rattle.planner_cli.specs.Trips.{IsCrowdRefusal, IsDayIn, IsRefusalIn, IsRefused};
 ghost use Rattle.day_calendar.specs.DayTrips.{AreDayRows};
 ghost use Rattle.vdv451_text.specs.Plain.{is_plain_table};
 
+use crate::model::{day_kind, network};
 use crate::status::{InputFault, Status};
-use day_calendar::{DayKind, day_rows, kind_of};
+use day_calendar::{DayKind, day_rows};
 use plan_core::{Bytes, Memory, Seq};
 use std::alloc::Global;
-use vdv451_text::{Field, Head, Table, write_tables};
-use vdv452_tables::{Needs, Network, TableFault, TableKind, read_tables};
+use umlauf_write::{copied_columns, copied_row};
+use vdv451_text::{Field, Table, write_tables};
+use vdv452_tables::{Needs, Network};
 
 /// A day has at most so many trips.
 const MOST_TRIPS: usize = 3_000;
-
-/// A row's fields once more.
-fn copied_row(alloc: Global, row: &[Field]) -> Result<Seq<Field>, Memory>
-    ensures { IfOk result (λ copy. copy ≡ row.now) }
-{
-    let mut copy = Seq::new(alloc);
-    for field in row {
-        copy.push(field.clone()?)?;
-    }
-    Ok(copy)
-}
-
-/// The columns once more.
-fn copied_columns(alloc: Global, columns: &[Head]) -> Result<Seq<Head>, Memory>
-    ensures { IfOk result (λ copy. copy ≡ columns.now) }
-{
-    let mut copy = Seq::new(alloc);
-    for column in columns {
-        copy.push(column.clone()?)?;
-    }
-    Ok(copy)
-}
 
 /// The rows that stand at these places.
 fn picked_rows(
@@ -73,33 +52,9 @@ fn picked(alloc: Global, table: &Table, places: &[u32]) -> Result<Table, Memory>
     })
 }
 
-/// The status for tables with a fault.
-fn table_status(fault: TableFault) -> Status
-    ensures { result ≡ refused_tables fault }
-{
-    if fault.kind == TableKind::Memory {
-        Status::Memory
-    } else {
-        Status::Input(InputFault::Table(fault))
-    }
-}
-
-/// The network of the calendar and the trips.
-fn network(alloc: Global, tables: &[Table]) -> Result<Network, Status>
-    requires { All (λ table. length table.rows < 2 ^ 32) tables.now }
-    ensures net { IfOk result (λ net. net ≡ net_of needs.Calendar tables.now) }
-    ensures faultless { OnOk result (first_fault (schemas_of needs.Calendar) tables.now ≡ None) }
-    ensures cause { (day : ℕ) → IfErr result (IsRefused tables.now day) }
-{
-    match read_tables(alloc, tables, Needs::Calendar) {
-        Ok(net) => Ok(net),
-        Err(fault) => Err(table_status(fault)),
-    }
-}
-
-/// The place of the table REC_FRT, which stands among tables without a fault.
-fn trips_place(tables: &[Table]) -> usize
-    requires { first_fault (schemas_of needs.Calendar) tables.now ≡ None }
+/// The place of the table REC_FRT, which is there.
+pub(crate) fn trips_place(tables: &[Table]) -> usize
+    requires { table_of trips_schema tables.now ≢ None }
     ensures within { result < length tables.now }
     ensures found { (other : TextTable) → table_of trips_schema tables.now ≡ Some (slice_index_or tables.now result other) }
 {
@@ -120,17 +75,6 @@ fn rows_text(alloc: Global, table: &Table, places: &[u32]) -> Result<Bytes, Memo
 {
     let table = picked(alloc, table, places)?;
     write_tables(alloc, &[table])
-}
-
-/// The version, kind and weekday of a day, or why it has none.
-fn day_kind(net: &Network, day: u32) -> Result<DayKind, Status>
-    ensures kind { IfOk result (IsKindOf net.now day) }
-    ensures cause { IfErr result (IsDayRefusal net.now day) }
-{
-    match kind_of(net, day) {
-        Ok(kind) => Ok(kind),
-        Err(fault) => Err(Status::Day(fault)),
-    }
 }
 
 /// The places of the day's trips, of which there are at most 3,000.
@@ -177,8 +121,10 @@ fn day_of(alloc: Global, tables: &[Table], day: u32) -> Result<DayPlaces, Status
     ensures within { IfOk result (λ found. All (λ place. place < length (net_of needs.Calendar tables.now).trips) found.places) }
     ensures cause { IfErr result (IsRefused tables.now day) }
 {
-    let net = network(alloc, tables)?;
-    day_in(alloc, &net, day)
+    match network(alloc, tables, Needs::Calendar) {
+        Ok(net) => day_in(alloc, &net, day),
+        Err(status) => Err(status),
+    }
 }
 
 /// The text of the day's trips, from the tables of all files: REC_FRT with their rows, unchanged, by departure and number.

@@ -18,6 +18,10 @@ const MOST_FILES: usize = 64;
 pub enum Command {
     /// `trips`: list the trips of a day.
     Trips,
+    /// `day`: tell what a day is, and when and how far its trips go.
+    Day,
+    /// `plan`: cover the trips of a day by vehicle blocks.
+    Plan,
 }
 
 /// What the words ask for.
@@ -156,8 +160,14 @@ fn command_of(word: &[u8]) -> Option<Command>
     ensures { result ≡ spec.command_of word.now }
 {
     let trips: &[u8] = b"trips";
+    let day: &[u8] = b"day";
+    let plan: &[u8] = b"plan";
     if word == trips {
         Some(Command::Trips)
+    } else if word == day {
+        Some(Command::Day)
+    } else if word == plan {
+        Some(Command::Plan)
     } else {
         None
     }

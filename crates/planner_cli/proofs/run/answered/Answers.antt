@@ -8,7 +8,15 @@ returns-in-Ok-clause-input g c = λ fault is. rw c.in-Ok.ensures.request (c.carr
 pub returns-in-Ok-clause-day : goal.returns-in-Ok-clause-day
 returns-in-Ok-clause-day g c = λ fault is. rw c.in-Ok.ensures.request (c.carry_out.ensures.day fault is)
 
+pub returns-in-Ok-clause-left : goal.returns-in-Ok-clause-left
+returns-in-Ok-clause-left g c = λ item fid partial is. rw c.in-Ok.ensures.request (c.carry_out.ensures.left item fid partial is)
+
 pub returns-in-Ok-clause-refused : goal.returns-in-Ok-clause-refused
 returns-in-Ok-clause-refused g c = λ status request asks.
     let same : c.in-Ok.request ≡ request = one_request c.in-Ok.request request c.in-Ok.ensures.request asks in
     rw (← same) (c.carry_out.ensures.refused status)
+
+pub returns-in-Ok-clause-complete : goal.returns-in-Ok-clause-complete
+returns-in-Ok-clause-complete g c = λ request asks.
+    let same : c.in-Ok.request ≡ request = one_request c.in-Ok.request request c.in-Ok.ensures.request asks in
+    rw (← same) c.carry_out.ensures.complete

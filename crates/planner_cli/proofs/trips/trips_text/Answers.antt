@@ -1,7 +1,7 @@
 use Rattle.std.proofs.Common.{◌≡◌, Some, length, slice_index_or, sym, ◌∙◌, ap}
 use Rattle.vdv452_tables.specs.declared.reading.Needs.TheVariants as needs
 use Rattle.vdv452_tables.specs.Calendar.{net_of}
-use Rattle.planner_cli.proofs.TripLemmas.{trips_count}
+use Rattle.planner_cli.proofs.TripLemmas.{not_missing, trips_count, trips_there}
 use Rattle.planner_cli.proofs.trips.trips_text.Goals as goal
 
 pub rows_text-requires-clause-within : goal.rows_text-requires-clause-within
@@ -10,3 +10,6 @@ rows_text-requires-clause-within c =
     let found = c.trips_place.ensures.found c.index-tables-trips_place.result ∙ ap (λ t. Some t) (sym is) in
     let count : length (net_of needs.Calendar c.args.tables.now).trips ≡ length c.index-tables-trips_place.result.rows = trips_count c.args.tables.now c.index-tables-trips_place.result found in
     rw (c.as_slice.ensures, ← count) c.in_ok-found.ensures.within
+
+pub trips_place-requires : goal.trips_place-requires
+trips_place-requires c = let there = trips_there c.args.tables.now c.in_ok-found.ensures.faultless in not_missing c.args.tables.now there.0 there.1
