@@ -216,13 +216,21 @@ fn refusals_have_their_lines(rt: HostRuntime) -> Result<(), Fail> {
         ("day", SHORT, 3, "trip 1: ShortRoute\n"),
         ("day", NO_ROUTE, 3, "trip 1: NoRoute\n"),
         ("day", TWO_PLANS, 3, "table X_PLAN row 0: NotOne\n"),
-        ("plan", UNKNOWN_DEPOT, 3, "table X_HOF row 1: UnknownPoint\n"),
+        (
+            "plan",
+            UNKNOWN_DEPOT,
+            3,
+            "table X_HOF row 1: UnknownPoint\n",
+        ),
         ("plan", UNKNOWN_TYPE, 3, "table X_HOF row 1: UnknownType\n"),
         ("plan", TOGETHER, 6, "not placed: trip 2\n"),
         ("plan", OTHER_TYPE, 6, "not placed: trip 1\n"),
     ];
     for (command, changes, code, line) in rows {
-        assert!(rt; is_refused(&rt, alloc, command, changes, code, line)?, "{line}");
+        assert!(rt;
+            is_refused(&rt, alloc, command, changes, code, line)?,
+            "{line}"
+        );
     }
     Ok(())
 }
