@@ -1,9 +1,9 @@
 -- A list has one order under a total order that tells its items apart, so a day has one list of trips in their order.
-use Rattle.std.proofs.Common.{◌≡◌, ℕ, zero, suc, ◌+◌, ◌<◌, ◌≤◌, Bool, true, false, cond, List, [], ◌∷◌, length, map, Result, Ok, Err, arith, slice_index_or, refl, ap, sym, subst, ◌∙◌}
-use Rattle.std.specs.Prelude.{IfOk, IsPermutation, sum_by}
+use Rattle.std.proofs.Common.{◌≡◌, ℕ, suc, ◌+◌, ◌<◌, Bool, true, false, List, [], ◌∷◌, length, map, Result, Ok, Err, arith, slice_index_or, refl, ap, sym, subst, ◌∙◌}
+use Rattle.std.specs.Prelude.{IfOk, sum_by}
 use Rattle.std.specs.Cmp.{IsTotalOrder, IsStrictWeakOrder}
-use Rattle.std.specs.List.Sorted.{IsSorted, IsSortedBy}
-use Rattle.std.specs.Ordering.{is_lt, nat_cmp, on, ordering_then, ordering_reverse}
+use Rattle.std.specs.List.Sorted.{IsSortedBy}
+use Rattle.std.specs.Ordering.{is_lt, nat_cmp, ordering_then, ordering_reverse}
 use Rattle.std.specs.declared.cmp.Ordering.{Ordering}
 use Rattle.std.specs.declared.cmp.Ordering.TheVariants.{Less, Equal, Greater}
 use Rattle.std.proofs.lemmas.Cmp.{nat_cmp_total, on_total, then_total}
@@ -13,7 +13,7 @@ use Rattle.std.proofs.lemmas.List.Sorted.{sum_by-IsPermutation, sorted_far}
 use Rattle.std.proofs.lemmas.Map.Lookups.{exact_unsigned}
 use Rattle.vdv452_tables.specs.declared.rows.TripRow.{TripRow}
 use Rattle.day_calendar.specs.declared.trips.DayTrip.{DayTrip}
-use Rattle.day_calendar.specs.DayTrips.{AreDayRows, day_trips, trip_order}
+use Rattle.day_calendar.specs.DayTrips.{AreDayRows, trip_order}
 
 abbrev counted : Bool → ℕ
 counted true = 1

@@ -23,7 +23,7 @@ use trip_times::{Trip, time_trip};
 use vdv452_tables::{Network, TripRow};
 
 /// A day has at most so many trips.
-const MOST_TRIPS: usize = 3000;
+pub const MOST_TRIPS: usize = 3_000;
 
 /// The trip of a row, or its fault with its number.
 fn time_row(net: &Network, version: u32, row: &TripRow) -> Result<Trip, DayModelFault>

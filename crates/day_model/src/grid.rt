@@ -8,6 +8,7 @@ ghost use Rattle.day_model.specs.Layout.{IsGrid, told};
 use deadheads::Deadheads;
 use plan_core::{Memory, Point, Seq};
 use std::alloc::Global;
+use vdv452_tables::GREATEST_SECONDS;
 
 /// The times from each of some points to each of others.
 #[derive(Drop)]
@@ -20,9 +21,6 @@ pub struct Grid {
 
 /// What tells of no deadhead.
 const NONE: u32 = 4_294_967_295;
-
-/// The greatest time.
-const LAST: u32 = 172_800;
 
 fn coded(time: Option<u32>) -> u32
     requires { IfSome time IsTime }
@@ -75,5 +73,9 @@ pub(crate) fn time_at(grid: &Grid, row: usize, column: usize) -> Option<u32>
     ensures range { IfSome result IsTime }
 {
     let seconds = grid.cells.as_slice()[row * grid.columns + column];
-    if seconds <= LAST { Some(seconds) } else { None }
+    if seconds <= GREATEST_SECONDS {
+        Some(seconds)
+    } else {
+        None
+    }
 }

@@ -17,7 +17,7 @@ mod numbering;
 #[cfg(test)]
 mod tests;
 
-pub use building::build_day;
+pub use building::{MOST_TRIPS, build_day};
 pub use day::Day;
 pub use fault::DayModelFault;
 pub use link::Link;

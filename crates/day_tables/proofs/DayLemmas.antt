@@ -4,15 +4,16 @@ use Rattle.std.proofs.lemmas.List.Elements.{All-nil, All-cons, All-get_or, All-h
 use Rattle.std.proofs.lemmas.Option.{slice_get_cases}
 use Rattle.std.proofs.lemmas.List.{length-map}
 use Rattle.std.specs.List.{zip}
+use Rattle.std.proofs.lemmas.Bool.{and_from}
 use Rattle.plan_core.specs.declared.types.Point.{Point}
 use Rattle.vdv451_text.specs.Plain.{are_plain, is_plain_table}
 use Rattle.vdv452_tables.specs.declared.net.Net.{Net}
 use Rattle.vdv452_tables.specs.declared.rows.TripRow.{TripRow}
-use Rattle.vdv452_tables.specs.LookUps.{area_on, course_on}
+use Rattle.vdv452_tables.specs.LookUps.{area_on, course_on, links_from}
 use Rattle.trip_times.specs.declared.trip.Trip.{Trip}
 use Rattle.trip_times.specs.declared.trip.TripFault.{TripFault}
 use Rattle.trip_times.specs.declared.trip.TripFault.TheVariants.{PastEnd}
-use Rattle.trip_times.specs.Courses.{before_last, last_from, links_from}
+use Rattle.trip_times.specs.Courses.{before_last, last_from}
 use Rattle.trip_times.specs.Timing.{dwell_at, run_time_of, first_missing, run_seconds_of, ended, timed, timed_if, timed_in, timed_on, trip_over}
 use Rattle.day_calendar.specs.declared.day.DayKind.{DayKind}
 use Rattle.day_model.specs.declared.fault.DayModelFault.{DayModelFault}
@@ -82,10 +83,6 @@ rows_at_all P rows (place ∷ places) all = rows_at_more P rows place places all
 pub day_fids : (net : Net) (kind : DayKind) (day : DayFacts) → IsDayOf net kind day → All (λ row. row.fid ≤ 10 ^ 18) net.trips → All (λ trip. trip.fid ≤ 10 ^ 18) day.trips
 day_fids net kind day is small = timed_fids net kind.version (rows_at net.trips day.rows) day.trips (rows_at_all (λ row. row.fid ≤ 10 ^ 18) net.trips day.rows small) is.trips
 
-are_both : (a b : Bool) → a ≡ true → b ≡ true → (a && b) ≡ true
-are_both true b p q = q
-are_both false b p q = cc
-
 plain_tag : (day : DayFacts) → is_plain_table (tag_table day) ≡ true
 plain_tag day = plain_table (codes "X_TAG") tag_columns (tag_numbers day ∷ []) refl (full_rows tag_columns tag_numbers (λ d. refl) (day ∷ []))
 
@@ -97,8 +94,8 @@ plain_trips net day =
 -- the tables of a day are plain
 pub plain_day : (net : Net) (day : DayFacts) → IsTrue (are_plain (day_tables_of net day))
 plain_day net day =
-    are_both (is_plain_table (tag_table day)) (is_plain_table (trip_table net day) && true) (plain_tag day)
-    (are_both (is_plain_table (trip_table net day)) true (plain_trips net day) refl)
+    and_from (is_plain_table (tag_table day)) (is_plain_table (trip_table net day) && true) (plain_tag day)
+    (and_from (is_plain_table (trip_table net day)) true (plain_trips net day) refl)
 
 -- a day of a kind is one of its own kind
 pub own_kind : (net : Net) (kind : DayKind) (day : DayFacts) → IsDayOf net kind day → IsDayOf net day.kind day

@@ -1,20 +1,13 @@
 -- Tables of numbers are plain.
-use Rattle.std.proofs.Common.{◌≡◌, ℕ, Bool, true, false, ◌&&◌, ◌==◌, not, nat_le, List, [], ◌∷◌, length, map, Option, Some, None, refl, sym, ◌∙◌, ap, arith}
+use Rattle.std.proofs.Common.{◌≡◌, ℕ, true, ◌&&◌, ◌==◌, not, nat_le, List, [], ◌∷◌, length, map, Option, Some, None, refl, sym, ◌∙◌, ap, arith}
 use Rattle.std.specs.List.{list_all, zip}
 use Rattle.std.proofs.lemmas.List.{length-map}
 use Rattle.std.proofs.lemmas.List.Elements.{All-head, All-map, All-tail}
+use Rattle.std.proofs.lemmas.Bool.{and_from, and_parts}
 use Rattle.vdv451_text.specs.declared.table.Field.{Field}
 use Rattle.vdv451_text.specs.declared.table.Head.{Head}
 use Rattle.vdv451_text.specs.Plain.{are_plain_columns, is_plain_column, is_plain_field, is_plain_name, is_plain_row}
 use Rattle.number_tables.specs.Numbers.{AreFull, PlainNumbers, number_field, number_head, number_row, number_rows}
-
-both_are : (a b : Bool) → (a && b) ≡ true → (a ≡ true) × (b ≡ true)
-both_are true b h = (refl, h)
-both_are false b h = cc
-
-are_both : (a b : Bool) → a ≡ true → b ≡ true → (a && b) ≡ true
-are_both true b p q = q
-are_both false b p q = cc
 
 same_lengths : (m n : ℕ) → m ≡ n → (m == n) ≡ true
 same_lengths m n e = grind arith
@@ -23,9 +16,9 @@ same_lengths m n e = grind arith
 plain_heads : (columns : List (List ℕ)) → list_all is_plain_name columns ≡ true → list_all is_plain_column (map number_head columns) ≡ true
 plain_heads [] plain = refl
 plain_heads (name ∷ columns) plain =
-    let both = both_are (is_plain_name name) (list_all is_plain_name columns) plain in
-    are_both (is_plain_column (number_head name)) (list_all is_plain_column (map number_head columns))
-    (are_both (is_plain_name name) true both.0 refl) (plain_heads columns both.1)
+    let both = and_parts (is_plain_name name) (list_all is_plain_name columns) plain in
+    and_from (is_plain_column (number_head name)) (list_all is_plain_column (map number_head columns))
+    (and_from (is_plain_name name) true both.0 refl) (plain_heads columns both.1)
 
 plain_fields : (columns : List (List ℕ)) (row : List (Option ℕ)) → list_all (λ (pair : Head × Field). is_plain_field pair.0 pair.1) (zip (map number_head columns) (number_row row)) ≡ true
 plain_fields [] row = refl
@@ -35,31 +28,31 @@ plain_fields (name ∷ columns) (Some number ∷ row) = plain_fields columns row
 
 plain_row : (columns : List (List ℕ)) (row : List (Option ℕ)) → length row ≡ length columns → is_plain_row (map number_head columns) (number_row row) ≡ true
 plain_row columns row full =
-    are_both (length (map number_head columns) == length (number_row row)) _
+    and_from (length (map number_head columns) == length (number_row row)) _
     (same_lengths _ _ (length-map columns number_head ∙ sym full ∙ sym (length-map row number_field)))
     (plain_fields columns row)
 
 plain_rows : (columns : List (List ℕ)) (rows : List (List (Option ℕ))) → AreFull columns rows → list_all (is_plain_row (map number_head columns)) (number_rows rows) ≡ true
 plain_rows columns [] full = refl
 plain_rows columns (row ∷ rows) full =
-    are_both (is_plain_row (map number_head columns) (number_row row)) _
+    and_from (is_plain_row (map number_head columns) (number_row row)) _
     (plain_row columns row (All-head (λ row. length row ≡ length columns) row rows full))
     (plain_rows columns rows (All-tail (λ row. length row ≡ length columns) row rows full))
 
 few_heads : (columns : List (List ℕ)) → (not (length columns == 0) && (nat_le (length columns) 200 && list_all is_plain_name columns)) ≡ true → are_plain_columns (map number_head columns) ≡ true
 few_heads columns plain =
-    let some = both_are (not (length columns == 0)) _ plain in
-    let few = both_are (nat_le (length columns) 200) _ some.1 in
+    let some = and_parts (not (length columns == 0)) _ plain in
+    let few = and_parts (nat_le (length columns) 200) _ some.1 in
     let same : length (map number_head columns) ≡ length columns = length-map columns number_head in
-    are_both (not (length (map number_head columns) == 0)) _ (ap (λ n. not (n == 0)) same ∙ some.0)
-    (are_both (nat_le (length (map number_head columns)) 200) _ (ap (λ n. nat_le n 200) same ∙ few.0) (plain_heads columns few.1))
+    and_from (not (length (map number_head columns) == 0)) _ (ap (λ n. not (n == 0)) same ∙ some.0)
+    (and_from (nat_le (length (map number_head columns)) 200) _ (ap (λ n. nat_le n 200) same ∙ few.0) (plain_heads columns few.1))
 
 -- under plain names full rows make a plain table
 pub plain_table : (name : List ℕ) (columns : List (List ℕ)) → PlainNumbers name columns
 plain_table name columns = λ rows names full.
-    let both = both_are (is_plain_name name) _ names in
-    are_both (is_plain_name name) _ both.0
-    (are_both (are_plain_columns (map number_head columns)) _ (few_heads columns both.1) (plain_rows columns rows full))
+    let both = and_parts (is_plain_name name) _ names in
+    and_from (is_plain_name name) _ both.0
+    (and_from (are_plain_columns (map number_head columns)) _ (few_heads columns both.1) (plain_rows columns rows full))
 
 -- rows of items that each have as many numbers as there are columns are full
 pub full_rows : {A : Type 0} (columns : List (List ℕ)) (numbers_of : A → List (Option ℕ)) → ((item : A) → length (numbers_of item) ≡ length columns) → (items : List A) → AreFull columns (map numbers_of items)

@@ -4,12 +4,7 @@ use Rattle.std.specs.List.{list_all}
 use Rattle.plan_core.specs.declared.types.Point.{Point}
 use Rattle.vdv452_tables.specs.declared.net.Net.{Net}
 use Rattle.vdv452_tables.specs.declared.rows.TripRow.{TripRow}
-use Rattle.vdv452_tables.specs.LookUps.{area_on, course_on, length_on}
-
--- the links of a course that begins at a point: each pair of neighbouring points
-abbrev pub links_from : Point → List Point → List (Point × Point)
-links_from from [] = []
-links_from from (to ∷ course) = (from, to) ∷ links_from to course
+use Rattle.vdv452_tables.specs.LookUps.{area_on, course_on, length_on, links_from}
 
 -- the links of a course
 abbrev pub links_of : List Point → List (Point × Point)

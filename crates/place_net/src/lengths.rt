@@ -1,7 +1,8 @@
 //! The lengths of courses.
 
 ghost use Rattle.std.specs.Prelude.{◌≡◌, ◌<◌, ◌≤◌, ◌*◌, ◌^◌, IfSome, length};
-ghost use Rattle.place_net.specs.Routes.{length_over, links_from, links_of, route_metres, section_length};
+ghost use Rattle.vdv452_tables.specs.LookUps.{links_from};
+ghost use Rattle.place_net.specs.Routes.{length_over, links_of, route_metres, section_length};
 
 use plan_core::Point;
 use vdv452_tables::{Network, TripRow};

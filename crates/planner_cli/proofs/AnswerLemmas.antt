@@ -38,7 +38,7 @@ parts_of command contents day (statuses.Input (inputs.Trips count)) r = inl r
 parts_of command contents day (statuses.Input (inputs.Params fault)) r = inl r
 parts_of command contents day (statuses.Input (inputs.Trip fid fault)) r = inl r
 parts_of command contents day (statuses.Day fault) r = inl r
-parts_of command contents day (statuses.NotPlaced item fid partial) r = inl r
+parts_of command contents day (statuses.NotPlaced side item fid partial) r = inl r
 parts_of command contents day statuses.Memory r = absurd r
 parts_of command contents day statuses.Ok r = absurd r
 parts_of command contents day statuses.Usage r = absurd r
@@ -52,7 +52,7 @@ IsTableStatus (statuses.Input (inputs.Trips count)) = Unit {0}
 IsTableStatus (statuses.Input (inputs.Params fault)) = Unit {0}
 IsTableStatus (statuses.Input (inputs.Trip fid fault)) = Unit {0}
 IsTableStatus (statuses.Day fault) = Unit {0}
-IsTableStatus (statuses.NotPlaced item fid partial) = Unit {0}
+IsTableStatus (statuses.NotPlaced side item fid partial) = Unit {0}
 IsTableStatus (statuses.Input (inputs.Text file fault)) = ⊥
 IsTableStatus statuses.Memory = ⊥
 IsTableStatus statuses.Ok = ⊥
@@ -67,7 +67,7 @@ model_is_of_tables tables day (statuses.Input (inputs.Params fault)) c = tt
 model_is_of_tables tables day (statuses.Input (inputs.Trip fid fault)) c = tt
 model_is_of_tables tables day (statuses.Day fault) c = tt
 model_is_of_tables tables day (statuses.Input (inputs.Text file fault)) c = c
-model_is_of_tables tables day (statuses.NotPlaced item fid partial) c = tt
+model_is_of_tables tables day (statuses.NotPlaced side item fid partial) c = tt
 model_is_of_tables tables day statuses.Memory c = c
 model_is_of_tables tables day statuses.Ok c = c
 model_is_of_tables tables day statuses.Usage c = c
@@ -77,7 +77,7 @@ model_is_of_tables tables day statuses.WriteFault c = c
 plan_is_of_tables : (tables : List Table) (day : ℕ) (status : Status) → IsPlanCause tables day status → IsTableStatus status
 plan_is_of_tables tables day (statuses.Input fault) c = model_is_of_tables tables day (statuses.Input fault) c
 plan_is_of_tables tables day (statuses.Day fault) c = tt
-plan_is_of_tables tables day (statuses.NotPlaced item fid partial) c = tt
+plan_is_of_tables tables day (statuses.NotPlaced side item fid partial) c = tt
 plan_is_of_tables tables day statuses.Memory c = c
 plan_is_of_tables tables day statuses.Ok c = c
 plan_is_of_tables tables day statuses.Usage c = c
@@ -90,7 +90,7 @@ is_of_tables Trips tables day (statuses.Input (inputs.Trips count)) c = tt
 is_of_tables Trips tables day (statuses.Input (inputs.Params fault)) c = absurd c
 is_of_tables Trips tables day (statuses.Input (inputs.Trip fid fault)) c = absurd c
 is_of_tables Trips tables day (statuses.Day fault) c = tt
-is_of_tables Trips tables day (statuses.NotPlaced item fid partial) c = absurd c
+is_of_tables Trips tables day (statuses.NotPlaced side item fid partial) c = absurd c
 is_of_tables Trips tables day (statuses.Input (inputs.Text file fault)) c = c
 is_of_tables Trips tables day statuses.Memory c = c
 is_of_tables Trips tables day statuses.Ok c = c
@@ -107,7 +107,7 @@ cause_of command told tables day R (statuses.Input (inputs.Trips count)) t spell
 cause_of command told tables day R (statuses.Input (inputs.Params fault)) t spelled c = if_told told (λ contents. IsRefusal command contents day (statuses.Input (inputs.Params fault))) (λ contents e. record { tables = tables; spelled = of_told told (λ contents. SpellTables most_bytes contents tables) contents e spelled; cause = c })
 cause_of command told tables day R (statuses.Input (inputs.Trip fid fault)) t spelled c = if_told told (λ contents. IsRefusal command contents day (statuses.Input (inputs.Trip fid fault))) (λ contents e. record { tables = tables; spelled = of_told told (λ contents. SpellTables most_bytes contents tables) contents e spelled; cause = c })
 cause_of command told tables day R (statuses.Day fault) t spelled c = if_told told (λ contents. IsRefusal command contents day (statuses.Day fault)) (λ contents e. record { tables = tables; spelled = of_told told (λ contents. SpellTables most_bytes contents tables) contents e spelled; cause = c })
-cause_of command told tables day R (statuses.NotPlaced item fid partial) t spelled c = if_told told (λ contents. IsRefusal command contents day (statuses.NotPlaced item fid partial)) (λ contents e. record { tables = tables; spelled = of_told told (λ contents. SpellTables most_bytes contents tables) contents e spelled; cause = c })
+cause_of command told tables day R (statuses.NotPlaced side item fid partial) t spelled c = if_told told (λ contents. IsRefusal command contents day (statuses.NotPlaced side item fid partial)) (λ contents e. record { tables = tables; spelled = of_told told (λ contents. SpellTables most_bytes contents tables) contents e spelled; cause = c })
 cause_of command told tables day R (statuses.Input (inputs.Text file fault)) t spelled c = absurd t
 cause_of command told tables day R statuses.Memory t spelled c = absurd t
 cause_of command told tables day R statuses.Ok t spelled c = absurd t
@@ -157,7 +157,7 @@ unread_answer command told day R (statuses.Input (inputs.Trips count)) cause = a
 unread_answer command told day R (statuses.Input (inputs.Params fault)) cause = absurd cause
 unread_answer command told day R (statuses.Input (inputs.Trip fid fault)) cause = absurd cause
 unread_answer command told day R (statuses.Day fault) cause = absurd cause
-unread_answer command told day R (statuses.NotPlaced item fid partial) cause = absurd cause
+unread_answer command told day R (statuses.NotPlaced side item fid partial) cause = absurd cause
 unread_answer command told day R statuses.Ok cause = absurd cause
 unread_answer command told day R statuses.Usage cause = absurd cause
 unread_answer command told day R statuses.WriteFault cause = absurd cause

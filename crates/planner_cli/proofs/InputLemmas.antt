@@ -115,7 +115,7 @@ cause_on T U R S (statuses.Input (inputs.Trip fid fault)) text read cause = absu
 cause_on T U R S statuses.Ok text read cause = absurd cause
 cause_on T U R S statuses.Usage text read cause = absurd cause
 cause_on T U R S (statuses.Day fault) text read cause = absurd cause
-cause_on T U R S (statuses.NotPlaced item fid partial) text read cause = absurd cause
+cause_on T U R S (statuses.NotPlaced side item fid partial) text read cause = absurd cause
 cause_on T U R S statuses.WriteFault text read cause = absurd cause
 
 -- a fact for each told content

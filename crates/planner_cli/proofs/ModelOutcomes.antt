@@ -28,6 +28,7 @@ use Rattle.depot_network.specs.Network.{blocks_of, caps_of}
 use Rattle.plan_params.specs.declared.rows.ParamRows.{ParamRows}
 use Rattle.vdv452_tables.specs.Keys.{point_eq}
 use Rattle.vdv452_tables.specs.LookUps.{dead_time_on}
+use Rattle.planner_cli.specs.declared.status.Side.{Side}
 use Rattle.planner_cli.specs.declared.status.Status.{Status}
 use Rattle.planner_cli.specs.declared.status.Status.TheVariants as statuses
 use Rattle.planner_cli.specs.declared.status.InputFault.TheVariants as inputs
@@ -76,7 +77,7 @@ kinds_of tables day (statuses.Input (inputs.Params fault)) c = inr (inr (models.
 kinds_of tables day (statuses.Input (inputs.Trip fid fault)) c = inr (inr (models.Trip fid fault, refl, c))
 kinds_of tables day (statuses.Day fault) c = inr (inl (fault, refl, c.0, c.1))
 kinds_of tables day (statuses.Input (inputs.Text file fault)) c = absurd c
-kinds_of tables day (statuses.NotPlaced item fid partial) c = absurd c
+kinds_of tables day (statuses.NotPlaced side item fid partial) c = absurd c
 kinds_of tables day statuses.Memory c = absurd c
 kinds_of tables day statuses.Ok c = absurd c
 kinds_of tables day statuses.Usage c = absurd c
@@ -152,8 +153,8 @@ fid_same : (o : Option Trip) (a b : ℕ) → IsSomeAnd o (λ (trip : Trip). trip
 fid_same None a b p q = absurd p
 fid_same (Some trip) a b p q = sym p ∙ q
 
-one_left : (tables : List Table) (day item fid item' fid' : ℕ) (partial partial' : Plan) → IsLeftOut tables day item fid partial.columns → IsLeftOut tables day item' fid' partial'.columns → statuses.NotPlaced item fid partial ≡ statuses.NotPlaced item' fid' partial'
-one_left tables day item fid item' fid' partial partial' p q =
+one_left : (tables : List Table) (day : ℕ) (side side' : Side) (item fid item' fid' : ℕ) (partial partial' : Plan) → IsLeftOut tables day side item fid partial.columns → IsLeftOut tables day side' item' fid' partial'.columns → statuses.NotPlaced side item fid partial ≡ statuses.NotPlaced side' item' fid' partial'
+one_left tables day side side' item fid item' fid' partial partial' p q =
     let same = blocks_same tables day p.facts q.facts p.model q.model in
     let ends : left item partial.columns ≡ left item' partial'.columns = sym p.is_left.made ∙ ap (λ problem. rounded problem []) same.1 ∙ q.is_left.made in
     let items : item ≡ item' = ap (item_or 0) ends in
@@ -162,19 +163,20 @@ one_left tables day item fid item' fid' partial partial' p q =
     let Q : ℕ → Type 0 = λ k. IsSomeAnd (slice_get q.facts.trips k) (λ (trip : Trip). trip.fid ≡ fid) in
     let fids : fid ≡ fid' = fid_same (slice_get q.facts.trips item') fid fid' (subst Q items (subst P same.0 p.is_left.fid_is)) q.is_left.fid_is in
     let plan : List Column → Plan = λ cs. record { columns = cs } in
-    ap (λ k. statuses.NotPlaced k fid partial) items ∙ ap (λ n. statuses.NotPlaced item' n partial) fids ∙ ap (λ cs. statuses.NotPlaced item' fid' (plan cs)) columns
+    let sides : side ≡ side' = p.is_left.side_is ∙ sym q.is_left.side_is in
+    ap (λ s. statuses.NotPlaced s item fid partial) sides ∙ ap (λ k. statuses.NotPlaced side' k fid partial) items ∙ ap (λ n. statuses.NotPlaced side' item' n partial) fids ∙ ap (λ cs. statuses.NotPlaced side' item' fid' (plan cs)) columns
 
 -- a status of the tables is no trip that is left
 pub one_plan_cause : (tables : List Table) (day : ℕ) (s t : Status) → IsPlanCause tables day s → IsPlanCause tables day t → s ≡ t
-one_plan_cause tables day (statuses.NotPlaced item fid partial) (statuses.NotPlaced item' fid' partial') p q = one_left tables day item fid item' fid' partial partial' p q
-one_plan_cause tables day (statuses.NotPlaced item fid partial) (statuses.Input fault) p q = model_no_cause tables day p.facts (statuses.Input fault) p.model q
-one_plan_cause tables day (statuses.NotPlaced item fid partial) (statuses.Day fault) p q = model_no_cause tables day p.facts (statuses.Day fault) p.model q
-one_plan_cause tables day (statuses.NotPlaced item fid partial) statuses.Memory p q = absurd q
-one_plan_cause tables day (statuses.NotPlaced item fid partial) statuses.Ok p q = absurd q
-one_plan_cause tables day (statuses.NotPlaced item fid partial) statuses.Usage p q = absurd q
-one_plan_cause tables day (statuses.NotPlaced item fid partial) (statuses.ReadFault file) p q = absurd q
-one_plan_cause tables day (statuses.NotPlaced item fid partial) statuses.WriteFault p q = absurd q
-one_plan_cause tables day (statuses.Input fault) (statuses.NotPlaced item fid partial) p q = model_no_cause tables day q.facts (statuses.Input fault) q.model p
+one_plan_cause tables day (statuses.NotPlaced side item fid partial) (statuses.NotPlaced side' item' fid' partial') p q = one_left tables day side side' item fid item' fid' partial partial' p q
+one_plan_cause tables day (statuses.NotPlaced side item fid partial) (statuses.Input fault) p q = model_no_cause tables day p.facts (statuses.Input fault) p.model q
+one_plan_cause tables day (statuses.NotPlaced side item fid partial) (statuses.Day fault) p q = model_no_cause tables day p.facts (statuses.Day fault) p.model q
+one_plan_cause tables day (statuses.NotPlaced side item fid partial) statuses.Memory p q = absurd q
+one_plan_cause tables day (statuses.NotPlaced side item fid partial) statuses.Ok p q = absurd q
+one_plan_cause tables day (statuses.NotPlaced side item fid partial) statuses.Usage p q = absurd q
+one_plan_cause tables day (statuses.NotPlaced side item fid partial) (statuses.ReadFault file) p q = absurd q
+one_plan_cause tables day (statuses.NotPlaced side item fid partial) statuses.WriteFault p q = absurd q
+one_plan_cause tables day (statuses.Input fault) (statuses.NotPlaced side item fid partial) p q = model_no_cause tables day q.facts (statuses.Input fault) q.model p
 one_plan_cause tables day (statuses.Input fault) (statuses.Input other) p q = one_model_cause tables day (statuses.Input fault) (statuses.Input other) p q
 one_plan_cause tables day (statuses.Input fault) (statuses.Day other) p q = one_model_cause tables day (statuses.Input fault) (statuses.Day other) p q
 one_plan_cause tables day (statuses.Input fault) statuses.Memory p q = absurd q
@@ -182,7 +184,7 @@ one_plan_cause tables day (statuses.Input fault) statuses.Ok p q = absurd q
 one_plan_cause tables day (statuses.Input fault) statuses.Usage p q = absurd q
 one_plan_cause tables day (statuses.Input fault) (statuses.ReadFault file) p q = absurd q
 one_plan_cause tables day (statuses.Input fault) statuses.WriteFault p q = absurd q
-one_plan_cause tables day (statuses.Day fault) (statuses.NotPlaced item fid partial) p q = model_no_cause tables day q.facts (statuses.Day fault) q.model p
+one_plan_cause tables day (statuses.Day fault) (statuses.NotPlaced side item fid partial) p q = model_no_cause tables day q.facts (statuses.Day fault) q.model p
 one_plan_cause tables day (statuses.Day fault) (statuses.Input other) p q = one_model_cause tables day (statuses.Day fault) (statuses.Input other) p q
 one_plan_cause tables day (statuses.Day fault) (statuses.Day other) p q = one_model_cause tables day (statuses.Day fault) (statuses.Day other) p q
 one_plan_cause tables day (statuses.Day fault) statuses.Memory p q = absurd q
@@ -198,7 +200,7 @@ one_plan_cause tables day statuses.WriteFault t p q = absurd p
 
 -- a day with a plan is not refused
 pub plan_text_no_cause : (tables : List Table) (day : ℕ) (bytes : List ℕ) (s : Status) → IsPlanText tables day bytes → IsPlanCause tables day s → ⊥
-plan_text_no_cause tables day bytes (statuses.NotPlaced item fid partial) p q =
+plan_text_no_cause tables day bytes (statuses.NotPlaced side item fid partial) p q =
     let same = blocks_same tables day p.facts q.facts p.model q.model in
     let ends : whole p.are_blocks.columns ≡ left item partial.columns = sym p.are_blocks.made ∙ ap (λ problem. rounded problem []) same.1 ∙ q.is_left.made in
     let bad : false ≡ true = ap is_left ends in

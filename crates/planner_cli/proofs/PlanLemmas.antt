@@ -78,7 +78,7 @@ pub model_to_plan : (tables : List Table) (day : ℕ) (status : Status) → IsMo
 model_to_plan tables day status (inl memory) = inl memory
 model_to_plan tables day (statuses.Input fault) (inr cause) = inr cause
 model_to_plan tables day (statuses.Day fault) (inr cause) = inr cause
-model_to_plan tables day (statuses.NotPlaced item fid partial) (inr cause) = absurd cause
+model_to_plan tables day (statuses.NotPlaced side item fid partial) (inr cause) = absurd cause
 model_to_plan tables day statuses.Memory (inr cause) = absurd cause
 model_to_plan tables day statuses.Ok (inr cause) = absurd cause
 model_to_plan tables day statuses.Usage (inr cause) = absurd cause
@@ -86,7 +86,7 @@ model_to_plan tables day (statuses.ReadFault file) (inr cause) = absurd cause
 model_to_plan tables day statuses.WriteFault (inr cause) = absurd cause
 
 pub left_to_plan : (tables : List Table) (day : ℕ) (facts : DayFacts) (status : Status) → IsModelOf tables day facts → IsLeftStatus facts status → IsPlanRefused tables day status
-left_to_plan tables day facts (statuses.NotPlaced item fid partial) model cause = inr (record { facts = facts; model = model; is_left = cause })
+left_to_plan tables day facts (statuses.NotPlaced side item fid partial) model cause = inr (record { facts = facts; model = model; is_left = cause })
 left_to_plan tables day facts statuses.Memory model cause = inl refl
 left_to_plan tables day facts (statuses.Input fault) model cause = absurd cause
 left_to_plan tables day facts (statuses.Day fault) model cause = absurd cause

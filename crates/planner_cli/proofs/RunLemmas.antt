@@ -24,7 +24,7 @@ unread_memory refusal names before now statuses.Ok cause none unread = absurd un
 unread_memory refusal names before now statuses.Usage cause none unread = absurd unread
 unread_memory refusal names before now (statuses.Input fault) cause none unread = absurd unread
 unread_memory refusal names before now (statuses.Day fault) cause none unread = absurd unread
-unread_memory refusal names before now (statuses.NotPlaced item fid partial) cause none unread = absurd unread
+unread_memory refusal names before now (statuses.NotPlaced side item fid partial) cause none unread = absurd unread
 unread_memory refusal names before now statuses.WriteFault cause none unread = absurd unread
 
 -- what a told content calls for

@@ -5,6 +5,7 @@ use Rattle.std.specs.List.{find, list_all}
 use Rattle.std.specs.Str.{bytes_eq}
 use Rattle.std.proofs.lemmas.List.{length-map}
 use Rattle.std.proofs.lemmas.List.Elements.{All-head, All-tail}
+use Rattle.std.proofs.lemmas.Bool.{and_from, and_parts}
 use Rattle.vdv451_text.specs.declared.table.Field.{Field}
 use Rattle.vdv451_text.specs.Plain.{are_plain_columns, is_plain_name, is_plain_row, is_plain_table}
 use Rattle.vdv451_text.specs.declared.table.Table.{Table}
@@ -92,33 +93,25 @@ not_at name (table ∷ tables) (suc i) d within is =
     let next : suc i + 1 ≡ suc (i + 1) = omega arith in
     not_at name tables i d (omega (arith, within)) is ∙ ap (λ k. find (has_name name) (drop k (table ∷ tables))) (sym next)
 
-both_are : (a b : Bool) → (a && b) ≡ true → (a ≡ true) × (b ≡ true)
-both_are true b h = (refl, h)
-both_are false b h = cc
-
-are_both : (a b : Bool) → a ≡ true → b ≡ true → (a && b) ≡ true
-are_both true b p q = q
-are_both false b p q = cc
-
 -- rows of a plain table are plain
 one_plain : (p : List Field → Bool) (rows : List (List Field)) (k : ℕ) (d : List Field) → list_all p rows ≡ true → k < length rows → p (slice_index_or rows k d) ≡ true
 one_plain p [] k d all within = absurd (omega (arith, within))
-one_plain p (row ∷ rows) zero d all within = (both_are (p row) (list_all p rows) all).0
-one_plain p (row ∷ rows) (suc k) d all within = one_plain p rows k d (both_are (p row) (list_all p rows) all).1 (omega (arith, within))
+one_plain p (row ∷ rows) zero d all within = (and_parts (p row) (list_all p rows) all).0
+one_plain p (row ∷ rows) (suc k) d all within = one_plain p rows k d (and_parts (p row) (list_all p rows) all).1 (omega (arith, within))
 
 rows_plain : (p : List Field → Bool) (rows : List (List Field)) (places : List ℕ) → list_all p rows ≡ true → All (λ place. place < length rows) places → list_all p (rows_at rows places) ≡ true
 rows_plain p rows [] all within = refl
 rows_plain p rows (place ∷ places) all within =
-    are_both (p (slice_index_or rows place [])) (list_all p (rows_at rows places)) (one_plain p rows place [] all (All-head (λ k. k < length rows) place places within)) (rows_plain p rows places all (All-tail (λ k. k < length rows) place places within))
+    and_from (p (slice_index_or rows place [])) (list_all p (rows_at rows places)) (one_plain p rows place [] all (All-head (λ k. k < length rows) place places within)) (rows_plain p rows places all (All-tail (λ k. k < length rows) place places within))
 
 pub picked_plain : (table : Table) (places : List ℕ) → is_plain_table table ≡ true → All (λ place. place < length table.rows) places → is_plain_table (picked_table table places) ≡ true
 picked_plain table places plain within =
-    let name = both_are (is_plain_name table.name) _ plain in
-    let columns = both_are (are_plain_columns table.columns) _ name.1 in
-    are_both (is_plain_name table.name) _ name.0 (are_both (are_plain_columns table.columns) _ columns.0 (rows_plain (is_plain_row table.columns) table.rows places columns.1 within))
+    let name = and_parts (is_plain_name table.name) _ plain in
+    let columns = and_parts (are_plain_columns table.columns) _ name.1 in
+    and_from (is_plain_name table.name) _ name.0 (and_from (are_plain_columns table.columns) _ columns.0 (rows_plain (is_plain_row table.columns) table.rows places columns.1 within))
 
 pub one_plain_table : (table : Table) → is_plain_table table ≡ true → (is_plain_table table && true) ≡ true
-one_plain_table table plain = are_both (is_plain_table table) true plain refl
+one_plain_table table plain = and_from (is_plain_table table) true plain refl
 
 -- past the end no table is found
 pub none_behind : (name : List ℕ) (tables : List Table) (i : ℕ) → length tables ≤ i → find (has_name name) (drop i tables) ≡ None

@@ -53,7 +53,7 @@ IsUnread statuses.Ok = ⊥
 IsUnread statuses.Usage = ⊥
 IsUnread (statuses.Input fault) = ⊥
 IsUnread (statuses.Day fault) = ⊥
-IsUnread (statuses.NotPlaced item fid partial) = ⊥
+IsUnread (statuses.NotPlaced side item fid partial) = ⊥
 IsUnread statuses.WriteFault = ⊥
 
 -- the refusal of a file's text
@@ -72,7 +72,7 @@ IsFileCause text_fault read_fault (statuses.Input (inputs.Trip fid fault)) = ⊥
 IsFileCause text_fault read_fault statuses.Ok = ⊥
 IsFileCause text_fault read_fault statuses.Usage = ⊥
 IsFileCause text_fault read_fault (statuses.Day fault) = ⊥
-IsFileCause text_fault read_fault (statuses.NotPlaced item fid partial) = ⊥
+IsFileCause text_fault read_fault (statuses.NotPlaced side item fid partial) = ⊥
 IsFileCause text_fault read_fault statuses.WriteFault = ⊥
 
 -- the status for a file with a fault of text

@@ -74,7 +74,7 @@ line_of day (statuses.Input (inputs.Trips count)) = joined (codes "trips: " ∷ 
 line_of day (statuses.Input (inputs.Params fault)) =
     joined (codes "table " ∷ fault.table ∷ codes " row " ∷ decimal fault.row ∷ codes ": " ∷ param_kind fault.kind ∷ codes "\n" ∷ [])
 line_of day (statuses.Input (inputs.Trip fid fault)) = joined (codes "trip " ∷ decimal fid ∷ codes ": " ∷ (trip_words fault ++ codes "\n" ∷ []))
-line_of day (statuses.NotPlaced item fid partial) = joined (codes "not placed: trip " ∷ decimal fid ∷ codes "\n" ∷ [])
+line_of day (statuses.NotPlaced side item fid partial) = joined (codes "not placed: trip " ∷ decimal fid ∷ codes "\n" ∷ [])
 line_of day (statuses.Day fault) = joined (codes "day " ∷ day ∷ codes ": " ∷ day_kind fault ∷ codes "\n" ∷ [])
 line_of day (statuses.ReadFault file) = joined (codes "read fault: file " ∷ decimal file ∷ codes "\n" ∷ [])
 line_of day statuses.WriteFault = codes "write fault\n"

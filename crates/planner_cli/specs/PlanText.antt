@@ -15,6 +15,8 @@ use Rattle.day_model.specs.Facts.{DayFacts}
 use Rattle.depot_network.specs.Network.{blocks_of}
 use Rattle.umlauf_write.specs.Printed.{printed}
 use Rattle.umlauf_write.specs.Tables.{plan_tables_of}
+use Rattle.planner_cli.specs.declared.status.Side.{Side}
+use Rattle.planner_cli.specs.declared.status.Side.TheVariants as sides
 use Rattle.planner_cli.specs.declared.status.Status.{Status}
 use Rattle.planner_cli.specs.declared.status.Status.TheVariants as statuses
 use Rattle.planner_cli.specs.Model.{IsModelCause, IsModelOf}
@@ -40,20 +42,21 @@ pub record IsPlanText (tables : List Table) (day : ℕ) (bytes : List ℕ) : Typ
 
 -- Rounding leaves a trip beside these blocks: each pool in which it alone is a block has all its vehicles in use, and it fits into no
 -- block. That does not happen where each trip alone is a block of a pool that has at least as many vehicles as there are trips.
-pub record IsLeftIn (facts : DayFacts) (item fid : ℕ) (partial : List Column) : Type 0 where
+pub record IsLeftIn (facts : DayFacts) (side : Side) (item fid : ℕ) (partial : List Column) : Type 0 where
+  pub side_is : side ≡ sides.Vehicles
   pub made : rounded (blocks_of facts false) [] ≡ left item partial
   pub stuck : IsStuck (blocks_of facts false) item partial
   pub no_room : ¬ HasRoomForEach (blocks_of facts false)
   pub fid_is : IsSomeAnd (slice_get facts.trips item) (λ (trip : Trip). trip.fid ≡ fid)
 
-pub record IsLeftOut (tables : List Table) (day item fid : ℕ) (partial : List Column) : Type 0 where
+pub record IsLeftOut (tables : List Table) (day : ℕ) (side : Side) (item fid : ℕ) (partial : List Column) : Type 0 where
   pub facts : DayFacts
   pub model : IsModelOf tables day facts
-  pub is_left : IsLeftIn facts item fid partial
+  pub is_left : IsLeftIn facts side item fid partial
 
 -- why there is no plan: the tables tell no day, or rounding leaves a trip
 abbrev pub IsPlanCause : List Table → ℕ → Status → Type 0
-IsPlanCause tables day (statuses.NotPlaced item fid partial) = IsLeftOut tables day item fid partial.columns
+IsPlanCause tables day (statuses.NotPlaced side item fid partial) = IsLeftOut tables day side item fid partial.columns
 IsPlanCause tables day (statuses.Input fault) = IsModelCause tables day (statuses.Input fault)
 IsPlanCause tables day (statuses.Day fault) = IsModelCause tables day (statuses.Day fault)
 IsPlanCause tables day statuses.Memory = ⊥
@@ -80,7 +83,7 @@ LeavesFor facts rounds.Memory = Unit {0}
 
 -- why a day has no blocks; want of memory needs no cause
 abbrev pub IsLeftStatus : DayFacts → Status → Type 0
-IsLeftStatus facts (statuses.NotPlaced item fid partial) = IsLeftIn facts item fid partial.columns
+IsLeftStatus facts (statuses.NotPlaced side item fid partial) = IsLeftIn facts side item fid partial.columns
 IsLeftStatus facts statuses.Memory = Unit {0}
 IsLeftStatus facts (statuses.Input fault) = ⊥
 IsLeftStatus facts (statuses.Day fault) = ⊥

@@ -51,7 +51,7 @@ IsRefusal command contents day (statuses.Input (inputs.Trips count)) = IsTablesR
 IsRefusal command contents day (statuses.Input (inputs.Params fault)) = IsTablesRefusal command contents day (statuses.Input (inputs.Params fault))
 IsRefusal command contents day (statuses.Input (inputs.Trip fid fault)) = IsTablesRefusal command contents day (statuses.Input (inputs.Trip fid fault))
 IsRefusal command contents day (statuses.Day fault) = IsTablesRefusal command contents day (statuses.Day fault)
-IsRefusal command contents day (statuses.NotPlaced item fid partial) = IsTablesRefusal command contents day (statuses.NotPlaced item fid partial)
+IsRefusal command contents day (statuses.NotPlaced side item fid partial) = IsTablesRefusal command contents day (statuses.NotPlaced side item fid partial)
 IsRefusal command contents day statuses.Memory = ⊥
 IsRefusal command contents day statuses.Ok = ⊥
 IsRefusal command contents day statuses.Usage = ⊥
@@ -64,7 +64,7 @@ IsAnswerCause refusal read_fault statuses.Memory = Unit {0}
 IsAnswerCause refusal read_fault (statuses.ReadFault file) = read_fault file
 IsAnswerCause refusal read_fault (statuses.Input fault) = refusal (statuses.Input fault)
 IsAnswerCause refusal read_fault (statuses.Day fault) = refusal (statuses.Day fault)
-IsAnswerCause refusal read_fault (statuses.NotPlaced item fid partial) = refusal (statuses.NotPlaced item fid partial)
+IsAnswerCause refusal read_fault (statuses.NotPlaced side item fid partial) = refusal (statuses.NotPlaced side item fid partial)
 IsAnswerCause refusal read_fault statuses.Ok = ⊥
 IsAnswerCause refusal read_fault statuses.Usage = ⊥
 IsAnswerCause refusal read_fault statuses.WriteFault = ⊥
@@ -89,7 +89,7 @@ IsWritten old new faults_before faults_now text statuses.Usage = ⊥
 IsWritten old new faults_before faults_now text statuses.Memory = ⊥
 IsWritten old new faults_before faults_now text (statuses.Input fault) = ⊥
 IsWritten old new faults_before faults_now text (statuses.Day fault) = ⊥
-IsWritten old new faults_before faults_now text (statuses.NotPlaced item fid partial) = ⊥
+IsWritten old new faults_before faults_now text (statuses.NotPlaced side item fid partial) = ⊥
 IsWritten old new faults_before faults_now text (statuses.ReadFault file) = ⊥
 
 -- what the files named by a request hold, where all of them tell it

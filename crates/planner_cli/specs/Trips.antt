@@ -18,13 +18,10 @@ use Rattle.day_calendar.specs.declared.day.DayFault.TheVariants as days
 use Rattle.day_calendar.specs.Days.{IsCivilDay}
 use Rattle.day_calendar.specs.Kinds.{IsKindOf}
 use Rattle.day_calendar.specs.DayTrips.{AreDayRows}
+use Rattle.day_model.specs.Building.{most_trips}
 use Rattle.planner_cli.specs.declared.status.Status.{Status}
 use Rattle.planner_cli.specs.declared.status.Status.TheVariants as statuses
 use Rattle.planner_cli.specs.declared.status.InputFault.TheVariants as inputs
-
--- a day has at most so many trips
-abbrev pub most_trips : ℕ
-most_trips = 3000
 
 -- the rows that stand at these places, in the order of the places
 abbrev pub rows_at : List (List Field) → List ℕ → List (List Field)
@@ -72,7 +69,7 @@ IsDayCause tables day (statuses.Day fault) = (first_fault (schemas_of needs.Cale
 IsDayCause tables day (statuses.Input (inputs.Text file fault)) = ⊥
 IsDayCause tables day (statuses.Input (inputs.Params fault)) = ⊥
 IsDayCause tables day (statuses.Input (inputs.Trip fid fault)) = ⊥
-IsDayCause tables day (statuses.NotPlaced item fid partial) = ⊥
+IsDayCause tables day (statuses.NotPlaced side item fid partial) = ⊥
 IsDayCause tables day statuses.Memory = ⊥
 IsDayCause tables day statuses.Ok = ⊥
 IsDayCause tables day statuses.Usage = ⊥

@@ -6,6 +6,7 @@ ghost use Rattle.vdv451_text.specs.Plain.{are_plain};
 ghost use Rattle.cover_core.specs.declared.Plan.{Plan as RunPlan};
 ghost use Rattle.day_calendar.specs.declared.day.DayFault.{DayFault as FaultOfDay};
 ghost use Rattle.planner_cli.specs.declared.status.InputFault.{InputFault as RunFault};
+ghost use Rattle.planner_cli.specs.declared.status.Side.{Side as RunSide};
 ghost use Rattle.planner_cli.specs.declared.status.Status.{Status as RunStatus};
 ghost use Rattle.planner_cli.specs.Inputs.{IsReadFault, IsUnread, NoneRose, held_under};
 ghost use Rattle.planner_cli.specs.Run.{IsAnswer, IsAnswerCause, IsRefusal, IsRefused, IsText, IsWritten, TakesAnswer, TakesFrontOfAnswer, told};
@@ -99,7 +100,7 @@ pub fn carry_out<F: Files, O: Sink>(
     // A refusal has its cause in what the files hold, and a fault of the outside in a count that rose.
     ensures input { (fault : RunFault) → result ≡ Status.Input fault → IfSome (told (F.held files.old) request.now) (λ contents. IsRefusal request.now.command contents request.now.day (Status.Input fault)) }
     ensures day { (fault : FaultOfDay) → result ≡ Status.Day fault → IfSome (told (F.held files.old) request.now) (λ contents. IsRefusal request.now.command contents request.now.day (Status.Day fault)) }
-    ensures left { (item fid : ℕ) (partial : RunPlan) → result ≡ Status.NotPlaced item fid partial → IfSome (told (F.held files.old) request.now) (λ contents. IsRefusal request.now.command contents request.now.day (Status.NotPlaced item fid partial)) }
+    ensures left { (side : RunSide) (item fid : ℕ) (partial : RunPlan) → result ≡ Status.NotPlaced side item fid partial → IfSome (told (F.held files.old) request.now) (λ contents. IsRefusal request.now.command contents request.now.day (Status.NotPlaced side item fid partial)) }
     ensures read_fault { (file : ℕ) → result ≡ Status.ReadFault file → IsReadFault request.now.names (F.faults files.old) (F.faults files.new) file }
     ensures write_fault { result ≡ Status.WriteFault → Rose (O.faults out.old) (O.faults out.new) }
 

@@ -13,7 +13,7 @@ ghost use Rattle.umlauf_write.specs.Tables.{plan_tables_of};
 ghost use Rattle.planner_cli.specs.PlanText.{AreBlocksOf, IsLeftStatus, IsPlanRefused, IsPlanText, IsPlanTextOver, LeavesFor};
 
 use crate::model::{model_of, network};
-use crate::status::Status;
+use crate::status::{Side, Status};
 use crate::trips::trips_place;
 use column_pool::Pool;
 use cover_core::{Plan, Prices, Worth};
@@ -45,6 +45,7 @@ fn left_status(model: &Day, fault: RoundFault) -> Status
 {
     match fault {
         RoundFault::NotPlaced { item, partial } => Status::NotPlaced {
+            side: Side::Vehicles,
             item,
             fid: model.trip(item).fid,
             partial,

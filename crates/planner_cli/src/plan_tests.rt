@@ -1,6 +1,6 @@
 //! The commands `day` and `plan` over a small network in memory.
 
-use crate::status::{InputFault, Status};
+use crate::status::{InputFault, Side, Status};
 use crate::tests::{WRITTEN_HEAD, joined, run_on, sink};
 use plan_core::{Bytes, MemSink};
 use std::alloc::Global;
@@ -97,6 +97,12 @@ const TWO_PLANS: &[Change] = &[(
 const UNKNOWN_TYPE: &[Change] = &[(
     "rec; 1; 2; 9; 1; 2; 1000; 1; 0",
     "rec; 1; 2; 9; 3; 2; 1000; 1; 0",
+)];
+
+/// There are 33 pools, one more than there may be.
+const MANY_POOLS: &[Change] = &[(
+    "rec; 1; 2; 9; 1; 2; 1000; 1; 0\nend; 1\n",
+    "rec; 1; 2; 9; 1; 2; 1000; 1; 0\nrec; 2; 2; 9; 1; 2; 1000; 1; 0\nrec; 3; 2; 9; 1; 2; 1000; 1; 0\nrec; 4; 2; 9; 1; 2; 1000; 1; 0\nrec; 5; 2; 9; 1; 2; 1000; 1; 0\nrec; 6; 2; 9; 1; 2; 1000; 1; 0\nrec; 7; 2; 9; 1; 2; 1000; 1; 0\nrec; 8; 2; 9; 1; 2; 1000; 1; 0\nrec; 9; 2; 9; 1; 2; 1000; 1; 0\nrec; 10; 2; 9; 1; 2; 1000; 1; 0\nrec; 11; 2; 9; 1; 2; 1000; 1; 0\nrec; 12; 2; 9; 1; 2; 1000; 1; 0\nrec; 13; 2; 9; 1; 2; 1000; 1; 0\nrec; 14; 2; 9; 1; 2; 1000; 1; 0\nrec; 15; 2; 9; 1; 2; 1000; 1; 0\nrec; 16; 2; 9; 1; 2; 1000; 1; 0\nrec; 17; 2; 9; 1; 2; 1000; 1; 0\nrec; 18; 2; 9; 1; 2; 1000; 1; 0\nrec; 19; 2; 9; 1; 2; 1000; 1; 0\nrec; 20; 2; 9; 1; 2; 1000; 1; 0\nrec; 21; 2; 9; 1; 2; 1000; 1; 0\nrec; 22; 2; 9; 1; 2; 1000; 1; 0\nrec; 23; 2; 9; 1; 2; 1000; 1; 0\nrec; 24; 2; 9; 1; 2; 1000; 1; 0\nrec; 25; 2; 9; 1; 2; 1000; 1; 0\nrec; 26; 2; 9; 1; 2; 1000; 1; 0\nrec; 27; 2; 9; 1; 2; 1000; 1; 0\nrec; 28; 2; 9; 1; 2; 1000; 1; 0\nrec; 29; 2; 9; 1; 2; 1000; 1; 0\nrec; 30; 2; 9; 1; 2; 1000; 1; 0\nrec; 31; 2; 9; 1; 2; 1000; 1; 0\nrec; 32; 2; 9; 1; 2; 1000; 1; 0\nrec; 33; 2; 9; 1; 2; 1000; 1; 0\nend; 33\n",
 )];
 
 const DAY_WRITTEN: &str =
@@ -209,7 +215,7 @@ fn blocks_follow_the_links(rt: HostRuntime) -> Result<(), Fail> {
 #[test]
 fn refusals_have_their_lines(rt: HostRuntime) -> Result<(), Fail> {
     let alloc = rt.alloc();
-    let rows: [(&str, &[Change], u8, &str); 10] = [
+    let rows: [(&str, &[Change], u8, &str); 11] = [
         ("day", NO_RUN_TIME, 3, "trip 2: NoRunTime 1/2 to 1/1\n"),
         ("plan", NO_RUN_TIME, 3, "trip 2: NoRunTime 1/2 to 1/1\n"),
         ("day", PAST_END, 3, "trip 1: PastEnd\n"),
@@ -223,6 +229,7 @@ fn refusals_have_their_lines(rt: HostRuntime) -> Result<(), Fail> {
             "table X_HOF row 1: UnknownPoint\n",
         ),
         ("plan", UNKNOWN_TYPE, 3, "table X_HOF row 1: UnknownType\n"),
+        ("plan", MANY_POOLS, 3, "table X_HOF row 0: TooMany\n"),
         ("plan", TOGETHER, 6, "not placed: trip 2\n"),
         ("plan", OTHER_TYPE, 6, "not placed: trip 1\n"),
     ];
@@ -235,10 +242,15 @@ fn refusals_have_their_lines(rt: HostRuntime) -> Result<(), Fail> {
     Ok(())
 }
 
-/// The item that is left, how many blocks stand beside it, and what the first of them costs.
+/// The trip that is left, how many blocks stand beside it, and what the first of them costs.
 fn left_of(status: &Status) -> (u32, usize, u64) {
     match status {
-        Status::NotPlaced { item, partial, .. } => {
+        Status::NotPlaced {
+            side: Side::Vehicles,
+            item,
+            partial,
+            ..
+        } => {
             let blocks = partial.columns.as_slice();
             let cost = blocks.first().map_or(0, |block| block.worth);
             (*item, blocks.len(), cost)

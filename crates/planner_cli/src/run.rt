@@ -2,6 +2,7 @@
 
 ghost use Rattle.std.specs.Prelude.{◌≡◌, ◌≢◌, ◌↔◌, ◌⊎◌, ℕ, List, Some, None, IfSome, IsSomeAnd};
 ghost use Rattle.plan_core.specs.Outside.{Rose};
+ghost use Rattle.planner_cli.specs.declared.status.Side.{Side as RunSide};
 ghost use Rattle.planner_cli.specs.declared.status.Status.{Status as RunStatus};
 ghost use Rattle.planner_cli.specs.declared.status.InputFault.{InputFault as RunFault};
 ghost use Rattle.planner_cli.specs.declared.words.Request.{Request as RunRequest};
@@ -25,7 +26,7 @@ fn answered<F: Files, O: Sink>(alloc: Global, words: &[Bytes], files: &mut F, ou
     ensures usage { (result ≡ Status.Usage) ↔ (asked words.now ≡ None) }
     ensures input { (fault : RunFault) → result ≡ Status.Input fault → IfSome (asked words.now) (λ request. IfSome (told (F.held files.old) request) (λ contents. IsRefusal request.command contents request.day (Status.Input fault))) }
     ensures day { (fault : FaultOfDay) → result ≡ Status.Day fault → IfSome (asked words.now) (λ request. IfSome (told (F.held files.old) request) (λ contents. IsRefusal request.command contents request.day (Status.Day fault))) }
-    ensures left { (item fid : ℕ) (partial : RunPlan) → result ≡ Status.NotPlaced item fid partial → IfSome (asked words.now) (λ request. IfSome (told (F.held files.old) request) (λ contents. IsRefusal request.command contents request.day (Status.NotPlaced item fid partial))) }
+    ensures left { (side : RunSide) (item fid : ℕ) (partial : RunPlan) → result ≡ Status.NotPlaced side item fid partial → IfSome (asked words.now) (λ request. IfSome (told (F.held files.old) request) (λ contents. IsRefusal request.command contents request.day (Status.NotPlaced side item fid partial))) }
     ensures read_fault { (file : ℕ) → result ≡ Status.ReadFault file → IfSome (asked words.now) (λ request. IsReadFault request.names (F.faults files.old) (F.faults files.new) file) }
     ensures write_fault { result ≡ Status.WriteFault → Rose (O.faults out.old) (O.faults out.new) }
     ensures ok { result ≡ Status.Ok → IfSome (asked words.now) (λ request. IfSome (told (F.held files.old) request) (λ contents. IfSome (O.taken out.old) (TakesAnswer request.command contents request.day (O.taken out.new)))) }
@@ -75,7 +76,7 @@ pub fn run<R: Threads + Sync, F: Files, O: Sink, E: Sink, G: Gate + Sync>(
     // A refusal has its cause in what the files hold, and a fault of the outside in a count that rose.
     ensures input { (fault : RunFault) → result ≡ Status.Input fault → IfSome (asked words.now) (λ request. IfSome (told (F.held files.old) request) (λ contents. IsRefusal request.command contents request.day (Status.Input fault))) }
     ensures day { (fault : FaultOfDay) → result ≡ Status.Day fault → IfSome (asked words.now) (λ request. IfSome (told (F.held files.old) request) (λ contents. IsRefusal request.command contents request.day (Status.Day fault))) }
-    ensures left { (item fid : ℕ) (partial : RunPlan) → result ≡ Status.NotPlaced item fid partial → IfSome (asked words.now) (λ request. IfSome (told (F.held files.old) request) (λ contents. IsRefusal request.command contents request.day (Status.NotPlaced item fid partial))) }
+    ensures left { (side : RunSide) (item fid : ℕ) (partial : RunPlan) → result ≡ Status.NotPlaced side item fid partial → IfSome (asked words.now) (λ request. IfSome (told (F.held files.old) request) (λ contents. IsRefusal request.command contents request.day (Status.NotPlaced side item fid partial))) }
     ensures read_fault { (file : ℕ) → result ≡ Status.ReadFault file → IfSome (asked words.now) (λ request. IsReadFault request.names (F.faults files.old) (F.faults files.new) file) }
     ensures write_fault { result ≡ Status.WriteFault → Rose (O.faults out.old) (O.faults out.new) }
 

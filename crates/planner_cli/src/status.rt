@@ -25,6 +25,15 @@ pub enum InputFault {
     Trip { fid: u64, fault: TripFault },
 }
 
+/// The side of a plan that a refusal speaks of.
+#[derive(Clone, Copy, Debug, PartialEq, Eq)]
+pub enum Side {
+    /// The trips of the day and their vehicle blocks.
+    Vehicles,
+    /// The pieces of the blocks and their driver duties; no refusal speaks of them until duties are built.
+    Drivers,
+}
+
 /// How a command ends, with the cause where it refused.
 #[derive(Drop)]
 pub enum Status {
@@ -38,6 +47,8 @@ pub enum Status {
     Day(DayFault),
     /// Rounding leaves a trip: each pool in which it alone is a block has all its vehicles in use, and it fits into no block.
     NotPlaced {
+        /// The side of the plan: always vehicles, so far.
+        side: Side,
         /// The number of the trip among those of the day, from 0.
         item: u32,
         /// FRT_FID of the trip.

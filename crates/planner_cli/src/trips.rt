@@ -7,7 +7,8 @@ ghost use Rattle.vdv452_tables.specs.Schema.{trips as trips_schema};
 ghost use Rattle.vdv452_tables.specs.Calendar.{net_of, schemas_of};
 ghost use Rattle.vdv452_tables.specs.Rows.{first_fault, table_of};
 ghost use Rattle.vdv451_text.specs.declared.table.Table.{Table as TextTable};
-ghost use Rattle.planner_cli.specs.Trips.{IsDayCause, IsTripsText, most_trips, picked_table, rows_at};
+ghost use Rattle.day_model.specs.Building.{most_trips};
+ghost use Rattle.planner_cli.specs.Trips.{IsDayCause, IsTripsText, picked_table, rows_at};
 ghost use Rattle.planner_cli.specs.Trips.{IsCrowdRefusal, IsDayIn, IsRefusalIn, IsRefused};
 ghost use Rattle.day_calendar.specs.DayTrips.{AreDayRows};
 ghost use Rattle.vdv451_text.specs.Plain.{is_plain_table};
@@ -15,14 +16,12 @@ ghost use Rattle.vdv451_text.specs.Plain.{is_plain_table};
 use crate::model::{day_kind, network};
 use crate::status::{InputFault, Status};
 use day_calendar::{DayKind, day_rows};
+use day_model::MOST_TRIPS;
 use plan_core::{Bytes, Memory, Seq};
 use std::alloc::Global;
 use umlauf_write::{copied_columns, copied_row};
 use vdv451_text::{Field, Table, write_tables};
 use vdv452_tables::{Needs, Network};
-
-/// A day has at most so many trips.
-const MOST_TRIPS: usize = 3_000;
 
 /// The rows that stand at these places.
 fn picked_rows(

@@ -7,7 +7,8 @@ use Rattle.vdv452_tables.specs.declared.rows.TripRow.{TripRow}
 use Rattle.trip_times.specs.declared.trip.Trip.{Trip}
 use Rattle.trip_times.specs.declared.trip.TripFault.{TripFault}
 use Rattle.trip_times.specs.declared.trip.TripFault.TheVariants.{PastEnd}
-use Rattle.trip_times.specs.Courses.{before_last, last_from, links_from}
+use Rattle.vdv452_tables.specs.LookUps.{links_from}
+use Rattle.trip_times.specs.Courses.{before_last, last_from}
 use Rattle.trip_times.specs.Runs.{runs_if}
 use Rattle.trip_times.specs.Timing.{ended, first_missing, run_seconds_of, timed_if, timed_on, trip_over}
 

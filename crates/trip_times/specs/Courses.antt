@@ -2,11 +2,6 @@
 use Rattle.std.specs.Prelude.{List, [], ◌∷◌}
 use Rattle.plan_core.specs.declared.types.Point.{Point}
 
--- the links of a course that begins at a point: each pair of neighbouring points
-abbrev pub links_from : Point → List Point → List (Point × Point)
-links_from from [] = []
-links_from from (to ∷ course) = (from, to) ∷ links_from to course
-
 -- the last point of a course that begins at a point
 abbrev pub last_from : Point → List Point → Point
 last_from at [] = at

@@ -3,11 +3,11 @@ use Rattle.std.specs.Prelude.{◌≡◌, ℕ, ◌+◌, ◌≤ℤ◌, pos, List, 
 use Rattle.plan_core.specs.declared.types.Point.{Point}
 use Rattle.vdv452_tables.specs.declared.net.Net.{Net}
 use Rattle.vdv452_tables.specs.declared.rows.TripRow.{TripRow}
-use Rattle.vdv452_tables.specs.LookUps.{area_on, course_on, group_dwell_on, run_time_on, trip_dwell_on}
+use Rattle.vdv452_tables.specs.LookUps.{area_on, course_on, group_dwell_on, links_from, run_time_on, trip_dwell_on}
 use Rattle.trip_times.specs.declared.trip.Trip.{Trip}
 use Rattle.trip_times.specs.declared.trip.TripFault.{TripFault}
 use Rattle.trip_times.specs.declared.trip.TripFault.TheVariants.{NoRoute, ShortRoute, NoRunTime, PastEnd}
-use Rattle.trip_times.specs.Courses.{before_last, last_from, links_from}
+use Rattle.trip_times.specs.Courses.{before_last, last_from}
 
 -- how long a trip stands at a point: by its own row, else by the row of its group, else not at all
 abbrev pub dwell_at : Net → ℕ → TripRow → Point → ℕ

@@ -1,24 +1,21 @@
 //! When a trip begins and ends.
 
 ghost use Rattle.std.specs.Prelude.{◌≡◌, ◌+◌, ◌<◌, ◌≤◌, ◌^◌, IfOk, min};
+ghost use Rattle.vdv452_tables.specs.LookUps.{links_from};
 ghost use Rattle.vdv452_tables.specs.Ranges.{IsTime};
-ghost use Rattle.trip_times.specs.Courses.{links_from};
 ghost use Rattle.trip_times.specs.Runs.{runs_if};
 ghost use Rattle.trip_times.specs.Timing.{IsTripOf, dwell_at, dwell_seconds_of, ended as ended_row, first_missing, run_seconds_of, run_time_of, timed, timed_on};
 
 use crate::trip::{Trip, TripFault};
 use plan_core::{Point, Sec};
-use vdv452_tables::{Network, TripRow};
-
-/// The last second in which a trip may end.
-const LAST: u32 = 172_800;
+use vdv452_tables::{GREATEST_SECONDS, Network, TripRow};
 
 /// The sum of seconds, at most one past the last second.
 fn capped_sum(seconds: u32, more: u32) -> u32
     requires { seconds + more < 2 ^ 32 }
     ensures { result ≡ min (seconds + more) 172801 }
 {
-    (seconds + more).min(LAST + 1)
+    (seconds + more).min(GREATEST_SECONDS + 1)
 }
 
 /// How long the trip stands at a point: FRT_HZT_ZEIT of its own row in REC_FRT_HZT, else HP_HZT of
@@ -79,7 +76,7 @@ fn ended(row: &TripRow, from: Point, to: Point, seconds: u32) -> Result<Trip, Tr
     ensures { result ≡ ended_row row.now from to seconds }
 {
     let end = row.start + seconds;
-    if end <= LAST {
+    if end <= GREATEST_SECONDS {
         Ok(Trip {
             fid: row.fid,
             line: row.line,

@@ -1,11 +1,12 @@
 -- The tables are plain.
-use Rattle.std.proofs.Common.{◌≡◌, ℕ, ◌+◌, ◌<◌, ◌≤◌, ◌^◌, Bool, true, false, ◌&&◌, ◌==◌, zero, suc, All, List, [], ◌∷◌, length, Option, Some, None, IfSome, Result, Ok, Err, IfOk, refl, ◌∙◌, ap, arith, slice_set, slice_index_or, decimal, codes, pos, if◌then◌else◌}
+use Rattle.std.proofs.Common.{◌≡◌, ℕ, ◌+◌, ◌<◌, ◌≤◌, ◌^◌, Bool, true, false, ◌==◌, zero, suc, All, List, [], ◌∷◌, length, Option, Some, None, IfSome, Result, Ok, Err, IfOk, refl, ◌∙◌, ap, arith, slice_set, slice_index_or, decimal, codes, pos, if◌then◌else◌}
 use Rattle.std.proofs.lemmas.Bool.Decides.{nat_tests}
 use Rattle.std.proofs.lemmas.List.{length-set}
 use Rattle.std.proofs.lemmas.List.Elements.{All-head, All-tail}
 use Rattle.std.specs.Option.{option_map}
 use Rattle.std.specs.List.{list_all, zip}
 use Rattle.std.specs.Str.{bytes_eq}
+use Rattle.std.proofs.lemmas.Bool.{and_from, and_parts}
 use Rattle.vdv451_text.specs.declared.table.Field.{Field}
 use Rattle.vdv451_text.specs.declared.table.Field.TheVariants.{Num, Raw}
 use Rattle.vdv451_text.specs.declared.table.Head.{Head}
@@ -18,14 +19,6 @@ use Rattle.cover_core.specs.declared.Column.{Column}
 use Rattle.day_model.specs.Facts.{DayFacts}
 use Rattle.number_tables.specs.Numbers.{AreFull}
 use Rattle.umlauf_write.specs.Tables.{block_columns, block_of, block_row, cost_columns, cost_row, format_at, is_in, numbered, trip_row, trip_table, uid_field, with_uid}
-
-both_are : (a b : Bool) → (a && b) ≡ true → (a ≡ true) × (b ≡ true)
-both_are true b h = (refl, h)
-both_are false b h = cc
-
-are_both : (a b : Bool) → a ≡ true → b ≡ true → (a && b) ≡ true
-are_both true b p q = q
-are_both false b p q = cc
 
 -- rows of numbered items are full
 full_from : {A : Type 0} (columns : List (List ℕ)) (row : ℕ → A → List (Option ℕ)) → ((n : ℕ) (item : A) → length (row n item) ≡ length columns) → (number : ℕ) (items : List A) → AreFull columns (numbered row number items)
@@ -57,10 +50,10 @@ zip_set : (heads : List Head) (row : List Field) (place : ℕ) (field : Field) (
 zip_set [] row place field d within plain all = absurd (omega (arith, within))
 zip_set (head ∷ heads) [] place field d within plain all = refl
 zip_set (head ∷ heads) (old ∷ row) zero field d within plain all =
-    are_both (is_plain_field head field) (list_all is_plain_pair (zip heads row)) plain (both_are (is_plain_field head old) (list_all is_plain_pair (zip heads row)) all).1
+    and_from (is_plain_field head field) (list_all is_plain_pair (zip heads row)) plain (and_parts (is_plain_field head old) (list_all is_plain_pair (zip heads row)) all).1
 zip_set (head ∷ heads) (old ∷ row) (suc place) field d within plain all =
-    let parts = both_are (is_plain_field head old) (list_all is_plain_pair (zip heads row)) all in
-    are_both (is_plain_field head old) (list_all is_plain_pair (zip heads (slice_set row place field))) parts.0 (zip_set heads row place field d (omega (arith, within)) plain parts.1)
+    let parts = and_parts (is_plain_field head old) (list_all is_plain_pair (zip heads row)) all in
+    and_from (is_plain_field head old) (list_all is_plain_pair (zip heads (slice_set row place field))) parts.0 (zip_set heads row place field d (omega (arith, within)) plain parts.1)
 
 abbrev no_head : Head
 no_head = record { name = []; format = [] }
@@ -68,9 +61,9 @@ no_head = record { name = []; format = [] }
 with_uid_plain : (heads : List Head) (place : Option ℕ) (row : List Field) (number : ℕ) → IfSome place (λ p. p < length heads) → number < 2 ^ 63 → is_plain_row heads row ≡ true → is_plain_row heads (with_uid heads place row number) ≡ true
 with_uid_plain heads None row number within small plain = plain
 with_uid_plain heads (Some place) row number within small plain =
-    let parts = both_are (length heads == length row) (list_all is_plain_pair (zip heads row)) plain in
+    let parts = and_parts (length heads == length row) (list_all is_plain_pair (zip heads row)) plain in
     let field : Field = uid_field (format_at heads place) number in
-    are_both (length heads == length (slice_set row place field)) (list_all is_plain_pair (zip heads (slice_set row place field)))
+    and_from (length heads == length (slice_set row place field)) (list_all is_plain_pair (zip heads (slice_set row place field)))
     (ap (λ n. length heads == n) (length-set row place field) ∙ parts.0)
     (zip_set heads row place field no_head within (uid_plain (slice_index_or heads place no_head) number small) parts.1)
 
@@ -98,14 +91,14 @@ block_small number (block ∷ blocks) trip =
 -- rows of a plain table are plain
 one_plain : (p : List Field → Bool) (rows : List (List Field)) (k : ℕ) (d : List Field) → list_all p rows ≡ true → k < length rows → p (slice_index_or rows k d) ≡ true
 one_plain p [] k d all within = absurd (omega (arith, within))
-one_plain p (row ∷ rows) zero d all within = (both_are (p row) (list_all p rows) all).0
-one_plain p (row ∷ rows) (suc k) d all within = one_plain p rows k d (both_are (p row) (list_all p rows) all).1 (omega (arith, within))
+one_plain p (row ∷ rows) zero d all within = (and_parts (p row) (list_all p rows) all).0
+one_plain p (row ∷ rows) (suc k) d all within = one_plain p rows k d (and_parts (p row) (list_all p rows) all).1 (omega (arith, within))
 
 trip_rows_plain : (table : Table) (blocks : List Column) (trip : ℕ) (places : List ℕ) → list_all (is_plain_row table.columns) table.rows ≡ true → length blocks ≤ 3000 → All (λ place. place < length table.rows) places →
     list_all (is_plain_row table.columns) (numbered (trip_row table blocks) trip places) ≡ true
 trip_rows_plain table blocks trip [] plain few within = refl
 trip_rows_plain table blocks trip (place ∷ places) plain few within =
-    are_both (is_plain_row table.columns (trip_row table blocks trip place)) (list_all (is_plain_row table.columns) (numbered (trip_row table blocks) (trip + 1) places))
+    and_from (is_plain_row table.columns (trip_row table blocks trip place)) (list_all (is_plain_row table.columns) (numbered (trip_row table blocks) (trip + 1) places))
     (with_uid_plain table.columns (place_of (codes "UM_UID") table.columns) (slice_index_or table.rows place []) (block_of 1 blocks trip) (place_there (codes "UM_UID") table.columns)
     (omega (arith, block_small 1 blocks trip, few)) (one_plain (is_plain_row table.columns) table.rows place [] plain (All-head (λ k. k < length table.rows) place places within)))
     (trip_rows_plain table blocks (trip + 1) places plain few (All-tail (λ k. k < length table.rows) place places within))
@@ -113,9 +106,9 @@ trip_rows_plain table blocks trip (place ∷ places) plain few within =
 -- the trips of a plan make a plain table
 pub trip_table_plain : (day : DayFacts) (table : Table) (blocks : List Column) → is_plain_table table ≡ true → length blocks ≤ 3000 → All (λ place. place < length table.rows) day.rows → is_plain_table (trip_table day table blocks) ≡ true
 trip_table_plain day table blocks plain few within =
-    let name = both_are (is_plain_name table.name) _ plain in
-    let columns = both_are (are_plain_columns table.columns) _ name.1 in
-    are_both (is_plain_name table.name) _ name.0 (are_both (are_plain_columns table.columns) _ columns.0 (trip_rows_plain table blocks 0 day.rows columns.1 few within))
+    let name = and_parts (is_plain_name table.name) _ plain in
+    let columns = and_parts (are_plain_columns table.columns) _ name.1 in
+    and_from (is_plain_name table.name) _ name.0 (and_from (are_plain_columns table.columns) _ columns.0 (trip_rows_plain table blocks 0 day.rows columns.1 few within))
 
 pub three_plain : (a b c : Table) → is_plain_table a ≡ true → is_plain_table b ≡ true → is_plain_table c ≡ true → are_plain (a ∷ b ∷ c ∷ []) ≡ true
 three_plain a b c p q r = rw (p, q, r) refl
@@ -123,10 +116,10 @@ three_plain a b c p q r = rw (p, q, r) refl
 -- a row of a plain table is as long as its columns
 pub row_long : (table : Table) (k : ℕ) (d : List Field) → is_plain_table table ≡ true → k < length table.rows → length (slice_index_or table.rows k d) ≡ length table.columns
 row_long table k d plain within =
-    let name = both_are (is_plain_name table.name) _ plain in
-    let columns = both_are (are_plain_columns table.columns) _ name.1 in
+    let name = and_parts (is_plain_name table.name) _ plain in
+    let columns = and_parts (are_plain_columns table.columns) _ name.1 in
     let row = one_plain (is_plain_row table.columns) table.rows k d columns.1 within in
-    let same = (both_are (length table.columns == length (slice_index_or table.rows k d)) _ row).0 in
+    let same = (and_parts (length table.columns == length (slice_index_or table.rows k d)) _ row).0 in
     grind (arith, nat_tests, same)
 
 -- what is made is plain

@@ -8,6 +8,8 @@ mod copies;
 mod numbers;
 mod printed;
 mod tables;
+#[cfg(test)]
+mod tests;
 mod trips;
 
 pub use answer::Answer;

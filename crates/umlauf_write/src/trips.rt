@@ -3,7 +3,6 @@
 ghost use Rattle.std.specs.Prelude.{◌≡◌, ◌<◌, ◌≤◌, ℕ, true, [], All, IsTrue, IfOk, IfSome, codes, length, slice_get, slice_index, slice_index_or};
 ghost use Rattle.cover_core.specs.Cover.{AllBelow};
 ghost use Rattle.vdv451_text.specs.Plain.{is_plain_table};
-ghost use Rattle.vdv452_tables.specs.Rows.{place_of as first_place};
 ghost use Rattle.umlauf_write.specs.Tables.{block_of, format_at, numbered, trip_row as trip_row_of, trip_table as trip_table_of, uid_field as uid_field_of, with_uid as with_uid_of};
 
 use crate::copies::{copied_columns, copied_row};
@@ -14,20 +13,7 @@ use itoa::Buffer;
 use plan_core::{Bytes, Memory, Seq};
 use std::alloc::Global;
 use vdv451_text::{Field, FieldBytes, Head, Table, is_number_format};
-
-/// Where the column UM_UID stands.
-fn uid_place(heads: &[Head]) -> Option<usize>
-    ensures value { result ≡ first_place (codes "UM_UID") heads.now }
-    ensures within { IfSome result (λ place. place < length heads.now) }
-{
-    let name: &[u8] = b"UM_UID";
-    for (place, head) in heads.iter().enumerate() {
-        if head.name.as_slice() == name {
-            return Some(place);
-        }
-    }
-    None
-}
+use vdv452_tables::column_place;
 
 /// The number of a block in a column of a format: a number in a column of numbers, else its bare digits.
 fn uid_field(alloc: Global, format: &[u8], number: u32) -> Result<Field, Memory>
@@ -88,7 +74,7 @@ fn trip_rows(
 {
     let numbers = block_numbers(alloc, day.trips().len(), blocks)?;
     let heads = table.columns.as_slice();
-    let uid = uid_place(heads);
+    let uid = column_place(heads, b"UM_UID");
     let mut rows = Seq::new(alloc);
     for (trip, place) in day.rows().iter().enumerate() {
         let row = row_at(table, *place);

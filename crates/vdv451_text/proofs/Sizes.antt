@@ -1,5 +1,5 @@
 -- Tables that few bytes spell have few rows.
-use Rattle.std.proofs.Common.{◌≡◌, ℕ, zero, suc, ◌+◌, ◌-◌, ◌*◌, ◌<◌, ◌≤◌, ◌^◌, Bool, true, false, cond, ◌==◌, List, [], ◌∷◌, ◌++◌, length, drop, map, filter, All, Result, Ok, Err, refl, sym, ap, ◌∙◌, subst, arith, length-append, length-drop, slice_index_or, nat_eq}
+use Rattle.std.proofs.Common.{◌≡◌, ℕ, zero, suc, ◌+◌, ◌<◌, ◌≤◌, ◌^◌, Bool, true, false, cond, ◌==◌, List, [], ◌∷◌, ◌++◌, length, drop, map, filter, All, Result, Ok, Err, refl, ap, ◌∙◌, arith, length-append, length-drop, slice_index_or, nat_eq}
 use Rattle.std.specs.Prelude.{IfOk}
 use Rattle.std.specs.List.{starts_with}
 use Rattle.std.proofs.lemmas.List.{length-map}
@@ -7,9 +7,8 @@ use Rattle.vdv451_text.specs.declared.table.Field.{Field}
 use Rattle.vdv451_text.specs.declared.table.Head.{Head}
 use Rattle.vdv451_text.specs.declared.table.Table.{Table}
 use Rattle.vdv451_text.specs.declared.fault.TextFault.{TextFault}
-use Rattle.vdv451_text.specs.declared.fault.TextKind.{TextKind}
 use Rattle.vdv451_text.specs.Lines.{Line, cut_at_feeds, line_of, lines_of, onto_first, without_mark, without_return}
-use Rattle.vdv451_text.specs.Grammar.{Spells, SpellsRow, SpellsRows, SpellsTable, SpellsTables, counting, counts}
+use Rattle.vdv451_text.specs.Grammar.{SpellsRows, SpellsTable, SpellsTables, counting, counts}
 use Rattle.vdv451_text.specs.Faults.{Gives}
 
 -- a byte more makes at most one line more

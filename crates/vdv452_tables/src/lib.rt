@@ -30,6 +30,8 @@ pub use rows::lines::{LineRow, StopRow};
 pub use rows::places::{PointRow, TypeRow};
 pub use rows::times::{DeadRow, GroupDwellRow, RunRow, SectionRow, TripDwellRow};
 pub use rows::{CalendarRow, TripRow, VersionRow};
+pub use schema::GREATEST_SECONDS;
+pub use table::column_place;
 
 #[cfg(test)]
 mod tests;

@@ -15,7 +15,7 @@ use std::alloc::Global;
 const GREATEST: u32 = 4_294_967_295;
 
 /// The greatest number of seconds in a table: two days.
-const GREATEST_SECONDS: u32 = 172_800;
+pub const GREATEST_SECONDS: u32 = 172_800;
 
 /// The greatest length of a section in metres.
 const GREATEST_LENGTH: u32 = 1_000_000;

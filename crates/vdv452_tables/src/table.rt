@@ -25,9 +25,10 @@ pub(crate) struct Found {
     pub place: usize,
 }
 
-/// Where the first column of a name stands.
-fn place_of(heads: &[Head], name: &[u8]) -> Option<usize>
-    ensures { result ≡ first_place name.now heads.now }
+/// Where the first column of a name stands among the columns of a table, from 0; None where none has it.
+pub fn column_place(heads: &[Head], name: &[u8]) -> Option<usize>
+    ensures value { result ≡ first_place name.now heads.now }
+    ensures within { IfSome result (λ place. place < length heads.now) }
 {
     for (place, head) in heads.iter().enumerate() {
         if head.name.as_slice() == name {
@@ -61,7 +62,7 @@ fn find_columns(
 {
     let mut found = Vec::new(alloc);
     for column in columns {
-        match place_of(heads, column.name.as_slice()) {
+        match column_place(heads, column.name.as_slice()) {
             Some(place) => found.push(Found {
                 column: copied_column(alloc, column)?,
                 place,

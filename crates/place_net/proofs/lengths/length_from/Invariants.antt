@@ -1,5 +1,6 @@
 use Rattle.std.proofs.Common.{◌≡◌, ◌*◌, ◌≤◌, drop}
-use Rattle.place_net.specs.Routes.{length_over, links_from, section_length}
+use Rattle.vdv452_tables.specs.LookUps.{links_from}
+use Rattle.place_net.specs.Routes.{length_over, section_length}
 use Rattle.place_net.proofs.LengthLemmas.{length_on_top}
 use Rattle.place_net.proofs.lengths.length_from.Given as goal
 

@@ -1,5 +1,5 @@
 use Rattle.std.proofs.Common.{◌≡◌, ◌≤◌, drop}
-use Rattle.trip_times.specs.Courses.{links_from}
+use Rattle.vdv452_tables.specs.LookUps.{links_from}
 use Rattle.trip_times.specs.Timing.{run_time_of}
 use Rattle.trip_times.proofs.TimingLemmas.{runs_on}
 use Rattle.trip_times.proofs.timing.run_seconds.Given as goal

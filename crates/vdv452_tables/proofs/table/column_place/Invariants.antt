@@ -1,7 +1,7 @@
 use Rattle.std.proofs.Common.{◌≡◌, ◌+◌, drop}
 use Rattle.std.specs.Option.{option_map}
 use Rattle.vdv452_tables.specs.Rows.{place_of as first_place}
-use Rattle.vdv452_tables.proofs.table.place_of.Given as goal
+use Rattle.vdv452_tables.proofs.table.column_place.Given as goal
 
 -- the place is as many columns on as the search still has to go
 abbrev pub invariant-loop-place : goal.invariant-loop-place
