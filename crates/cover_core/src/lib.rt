@@ -21,7 +21,7 @@ mod tests;
 
 pub use items::Items;
 pub use laws::{backward_order, best_is_first_least, least_is_paid, plan_sizes, weak_duality};
-pub use marks::{Cover, CoverFault, Gap, Mark};
+pub use marks::{BlockCover, BlockMark, Cover, CoverFault, Gap, Mark};
 use plan_core::{Memory, Price, Seq};
 use std::alloc::Global;
 

@@ -31,21 +31,41 @@ pub struct Cover {
     pub marks: Seq<Mark>,
 }
 
-/// What marks leave uncovered.
+/// What decides how an open block may go on. Marks are ordered by their fields, in the order given here.
+#[derive(Clone, Copy, Debug, PartialEq, Eq, PartialOrd, Ord)]
+pub struct BlockMark {
+    /// The class of the block, from 0.
+    pub class: u32,
+    /// The last trip of the block, from 0.
+    pub trip: u32,
+    /// The seconds of driving since the last cut, or since the pull-out's begin.
+    pub driving: u32,
+    /// A thousand times what the block costs so far, less the prices of its trips.
+    pub value: i64,
+}
+
+/// Marks such that each open block has one at least as good as its own.
+#[derive(Drop)]
+pub struct BlockCover {
+    /// The marks.
+    pub marks: Seq<BlockMark>,
+}
+
+/// What marks leave uncovered. Items are pieces in a cover of duties, and trips in a cover of blocks.
 #[derive(Clone, Copy, Debug, PartialEq, Eq)]
 pub enum Gap {
-    /// An open list of one piece.
+    /// An open list of one item.
     First {
         /// The class of the list.
         class: u32,
-        /// The piece.
+        /// The piece, or the trip.
         piece: u32,
     },
     /// An open list that continues that of a mark.
     Next {
         /// The place of the mark.
         place: u32,
-        /// The piece that is put behind the list.
+        /// The piece, or the trip, that is put behind the list.
         piece: u32,
     },
     /// A mark whose list, when it is closed, has a value below minus the price of its class.

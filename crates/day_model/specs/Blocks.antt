@@ -7,6 +7,7 @@ use Rattle.day_model.specs.declared.link.Link.{Link}
 use Rattle.day_model.specs.declared.link.Link.TheVariants.{Direct, Depot}
 use Rattle.day_model.specs.Facts.{DayFacts, admits}
 use Rattle.day_model.specs.Links.{given, link, pull_in, pull_out}
+use Rattle.day_model.specs.Pieces.{can_be_driven}
 
 -- the trips of a list of numbers, where all are there
 abbrev pub trips_at : List Trip → List ℕ → Option (List Trip)
@@ -51,9 +52,11 @@ block_cost day pool (t ∷ ts) =
     (option_and_then (λ out. option_and_then (λ rest. Some (pool.fixed + pool.dead_rate * out + rest)) (cost_from day pool t ts)) (pull_out day pool t))
 
 -- The worth of a list of trips as a block of a pool: its cost, or 1 where blocks are counted. A list has one where it is not empty and
--- rises, each trip's line admits the pool's type, the pull-out leaves at 0 or later, the pull-in is there, and neighbours have links.
+-- rises, each trip's line admits the pool's type, the pull-out leaves at 0 or later, the pull-in is there, neighbours have links, and
+-- each piece that it is cut into has a driving of at most 16,200 seconds.
 abbrev pub block_worth : DayFacts → Bool → ℕ → List ℕ → Option ℕ
 block_worth day counts class list =
     given (rises list)
-    (option_and_then (λ pool. option_and_then (λ ts. option_and_then (λ c. Some (cond counts 1 c)) (block_cost day pool ts)) (trips_at day.trips list))
+    (option_and_then (λ pool. given (can_be_driven day pool list)
+    (option_and_then (λ ts. option_and_then (λ c. Some (cond counts 1 c)) (block_cost day pool ts)) (trips_at day.trips list)))
     (slice_get day.params.pools class))

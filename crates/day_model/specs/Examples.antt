@@ -1,5 +1,5 @@
 -- Worked examples, computed: two trips, from A to B and back, with a depot D and one pool.
-use Rattle.std.specs.Prelude.{◌≡◌, ℕ, pos, true, false, [], ◌∷◌, Some, None, refl}
+use Rattle.std.specs.Prelude.{◌≡◌, ℕ, ◌+◌, pos, true, false, [], ◌∷◌, Some, None, refl}
 use Rattle.plan_core.specs.declared.types.Piece.{Piece}
 use Rattle.plan_core.specs.declared.types.Point.{Point}
 use Rattle.trip_times.specs.declared.trip.Trip.{Trip}
@@ -10,7 +10,7 @@ use Rattle.day_model.specs.declared.link.Link.TheVariants.{Direct, Depot}
 use Rattle.day_model.specs.Facts.{DayFacts}
 use Rattle.day_model.specs.Links.{link_at, pull_out_at}
 use Rattle.day_model.specs.Blocks.{block_worth}
-use Rattle.day_model.specs.Pieces.{pieces_of}
+use Rattle.day_model.specs.Pieces.{can_be_driven, pieces_of}
 
 abbrev point : ℕ → ℕ → Point
 point typ nr = record { typ = typ; nr = nr }
@@ -90,3 +90,39 @@ two_pieces = refl
 
 pieces_via_depot : pieces_of (day_with 40000 43600) pool 1 (0 ∷ 1 ∷ []) ≡ Some (piece 1 D 28200 D 33300 5100 ∷ piece 2 D 39100 D 44200 5100 ∷ [])
 pieces_via_depot = refl
+
+-- The first trip ends at this second, and the second one begins so long after it.
+abbrev long_day : ℕ → ℕ → DayFacts
+long_day end rest = record {
+  kind = record { version = 1; kind = 1; day = 20260302; weekday = 1 };
+  rows = 0 ∷ 1 ∷ [];
+  trips = trip 1 A 28800 B end ∷ trip 2 B (end + rest) A (end + rest + 3600) ∷ [];
+  params = record { settings = settings; pools = pool ∷ []; groups = []; admissions = []; reliefs = B ∷ []; ways = [] };
+  deads = (ends D A, 600) ∷ (ends A D, 600) ∷ (ends D B, 900) ∷ (ends B D, 900) ∷ [];
+}
+
+-- with the pull-out the first piece drives exactly as long as it may
+longest_piece : pieces_of (long_day 44400 600) pool 1 (0 ∷ 1 ∷ []) ≡ Some (piece 1 D 28200 B 44400 16200 ∷ piece 2 B 45000 D 49200 4200 ∷ [])
+longest_piece = refl
+
+longest_block : block_worth (long_day 44400 600) false 0 (0 ∷ 1 ∷ []) ≡ Some 2200
+longest_block = refl
+
+-- alone the first trip is driven back to the depot in the same piece
+too_long_alone : block_worth (long_day 44400 600) false 0 (0 ∷ []) ≡ None
+too_long_alone = refl
+
+one_second_more : can_be_driven (long_day 44401 600) pool (0 ∷ 1 ∷ []) ≡ false
+one_second_more = refl
+
+-- a stand below the handover time is no cut
+no_cut : block_worth (record (long_day 44400 600) { params = record { settings = record settings { handover = 601 }; pools = pool ∷ []; groups = []; admissions = []; reliefs = B ∷ []; ways = [] } }) false 0 (0 ∷ 1 ∷ []) ≡ None
+no_cut = refl
+
+-- neither is one at a point where drivers are not relieved
+no_relief : block_worth (record (long_day 44400 600) { params = record { settings = settings; pools = pool ∷ []; groups = []; admissions = []; reliefs = []; ways = [] } }) false 0 (0 ∷ 1 ∷ []) ≡ None
+no_relief = refl
+
+-- with no handover time a stand of 0 seconds is still no cut
+no_stand : pieces_of (record (long_day 44400 0) { params = record { settings = record settings { turn = 0; handover = 0 }; pools = pool ∷ []; groups = []; admissions = []; reliefs = B ∷ []; ways = [] } }) pool 1 (0 ∷ 1 ∷ []) ≡ Some (piece 1 D 28200 D 48600 20400 ∷ [])
+no_stand = refl

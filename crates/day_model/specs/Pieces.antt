@@ -1,6 +1,8 @@
 -- The legs of a block, and the pieces that it is cut into.
 use Rattle.std.specs.Prelude.{ℕ, ℤ, pos, ◌+ℤ◌, ◌-ℤ◌, ◌+◌, Bool, true, false, cond, ◌&&◌, ◌||◌, not, nat_le, List, [], ◌∷◌, ◌++◌, Option, Some, None, option_and_then, slice_get}
 use Rattle.std.specs.Int.RustNames.{unsigned_abs}
+use Rattle.std.specs.List.{list_all}
+use Rattle.std.specs.Option.{option_map_or}
 use Rattle.plan_core.specs.declared.types.Leg.{Leg}
 use Rattle.plan_core.specs.declared.types.LegKind.{LegKind}
 use Rattle.plan_core.specs.declared.types.LegKind.TheVariants.{PullOut, Trip, Deadhead, Stand, PullIn}
@@ -100,3 +102,15 @@ pieces_from block index ((l ∷ ls) ∷ rest) = piece_of block index l ls ∷ pi
 
 abbrev pub pieces_of : DayFacts → Pool → ℕ → List ℕ → Option (List Piece)
 pieces_of day pool block list = option_and_then (λ legs. Some (pieces_from block 1 (parts day pool legs))) (legs_of day pool list)
+
+-- Four and a half hours: with more driving a piece is in no lawful duty, since a driver has no break within it (article 7 of
+-- Regulation 561/2006).
+abbrev pub longest_driving : ℕ
+longest_driving = 16200
+
+abbrev pub may_be_driven : Piece → Bool
+may_be_driven piece = nat_le piece.driving longest_driving
+
+-- whether drivers can be given each piece of a list of trips
+abbrev pub can_be_driven : DayFacts → Pool → List ℕ → Bool
+can_be_driven day pool list = option_map_or (λ pieces. list_all may_be_driven pieces) (pieces_of day pool 1 list) false

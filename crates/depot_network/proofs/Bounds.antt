@@ -1,18 +1,16 @@
 -- Blocks cost no more than all their seconds at the highest rate.
-use Rattle.std.proofs.Common.{◌≡◌, ℕ, ℤ, pos, negsuc, ◌+◌, ◌*◌, ◌<◌, ◌≤◌, ◌≤ℤ◌, ◌+ℤ◌, ◌-ℤ◌, ◌*ℤ◌, ◌&&◌, Bool, true, false, zero, suc, List, [], ◌∷◌, length, All, Option, Some, None, refl, sym, ap, subst, ◌∙◌, arith, slice_get, nat_le, nat_lt, is_some, ◌^◌}
+use Rattle.std.proofs.Common.{◌≡◌, ℕ, ℤ, pos, negsuc, ◌+◌, ◌*◌, ◌<◌, ◌≤◌, ◌≤ℤ◌, ◌+ℤ◌, ◌-ℤ◌, ◌*ℤ◌, ◌&&◌, Bool, true, false, zero, suc, List, [], ◌∷◌, length, All, Option, Some, None, refl, sym, ap, subst, ◌∙◌, arith, slice_get, nat_le}
 use Rattle.std.specs.Prelude.{option_and_then, unwrap_or}
-use Rattle.std.proofs.lemmas.Bool.Decides.{nat_tests}
 use Rattle.std.proofs.lemmas.Int.{ints}
 use Rattle.std.proofs.lemmas.List.Elements.{All-tail}
 use Rattle.trip_times.specs.declared.trip.Trip.{Trip}
 use Rattle.plan_params.specs.declared.rows.pool.Pool.{Pool}
 use Rattle.day_model.specs.declared.link.Link.{Link}
 use Rattle.day_model.specs.declared.link.Link.TheVariants.{Direct, Depot}
-use Rattle.day_model.specs.Blocks.{link_cost}
-use Rattle.day_model.specs.Facts.{DayFacts, dead, admits as day_admits}
-use Rattle.day_model.specs.Links.{admits_at, depot_link, direct_for, direct_link, first_of, given, link, link_at, pull_out, pull_out_at, pull_out_over, seconds}
-use Rattle.day_model.specs.Ranges.{IsDaily, IsShort}
-use Rattle.depot_network.specs.Walk.{IsCheapUntil, end_of, extended, seconds_of}
+use Rattle.day_model.specs.Facts.{DayFacts, dead}
+use Rattle.day_model.specs.Links.{depot_link, direct_for, direct_link, first_of, given, link, link_at, pull_out, pull_out_at, pull_out_over, seconds}
+use Rattle.day_model.specs.Ranges.{IsDaily}
+use Rattle.depot_network.specs.Walk.{IsCheapUntil, end_of, seconds_of}
 
 pub some_same : {A : Type 0} (x y : A) → Some x ≡ Some y → x ≡ y
 some_same {A = A} x y e = let f : Option A → A = λ o. unwrap_or o x in ap f e
@@ -26,7 +24,7 @@ given_some true o y e = e
 given_some false o y e = absurd (cc)
 
 -- a number of seconds is the number
-seconds_some : (z : ℤ) (n : ℕ) → seconds z ≡ Some n → z ≡ pos n
+pub seconds_some : (z : ℤ) (n : ℕ) → seconds z ≡ Some n → z ≡ pos n
 seconds_some (pos m) n e = ap pos (some_same m n e)
 seconds_some (negsuc m) n e = absurd (cc)
 
@@ -93,27 +91,3 @@ extended_cheap day pool class t u trip next l cost more there at at' daily is fe
     let ends' : end_of day u ≡ next.end.0 = rw at' refl in
     let so_far : pos cost ≤ℤ (pos 100000000 +ℤ (pos 10000 *ℤ trip.end.0)) = let P : ℤ → Type 0 = λ z. pos cost ≤ℤ (pos 100000000 +ℤ (pos 10000 *ℤ z)) in subst P ends cheap.so_far in
     record { so_far = rw ends' (omega (arith, ints, fits, daily.order, so_far, few)); in_time = rw ends' daily.ends }
-
--- the numbers of a block fit
-pub short_seconds : (l : Link) → IsShort l → seconds_of l ≤ 345600
-short_seconds (Direct move stand) short = omega (arith, short.0, short.1)
-short_seconds (Depot inward outward stand) short = omega (arith, short.0, short.1)
-
-pub cheap_fits : (day : DayFacts) (t cost more : ℕ) (l : Link) → IsCheapUntil day t cost → IsShort l → more ≤ 10000 * seconds_of l → cost + more < 2 ^ 64
-cheap_fits day t cost more l cheap short few = omega (arith, ints, cheap.so_far, cheap.in_time, short_seconds l short, few)
-
--- whether a trip is admitted
-admitted : (test : Bool) (trip : Trip) → is_some (given test (Some trip)) ≡ true → test ≡ true
-admitted true trip e = refl
-admitted false trip e = absurd (cc)
-
--- a block with a trip more, from its parts
-pub extended_is : (day : DayFacts) (pool : Pool) (class cost t u : ℕ) (trip next : Trip) (l : Link) →
-    slice_get day.params.pools class ≡ Some pool → slice_get day.trips t ≡ Some trip → slice_get day.trips u ≡ Some next → t < u → admits_at day class u ≡ true → Some l ≡ link_at day class t u →
-    Some (cost + link_cost pool next l) ≡ extended day pool cost t u
-extended_is day pool class cost t u trip next l there at at' later admits is =
-    let test : nat_lt t u ≡ true = grind (arith, nat_tests) in
-    let allowed : is_some (given (day_admits day next.line pool.typ) (Some next)) ≡ true = (let e : admits_at day class u ≡ is_some (given (day_admits day next.line pool.typ) (Some next)) = rw (there, at') refl in sym e ∙ admits) in
-    let open_to : day_admits day next.line pool.typ ≡ true = admitted (day_admits day next.line pool.typ) next allowed in
-    let linked : link day pool trip next ≡ Some l = (let e : link_at day class t u ≡ link day pool trip next = rw (there, at, at') refl in sym e ∙ sym is) in
-    rw (at, at', test, open_to, linked) refl

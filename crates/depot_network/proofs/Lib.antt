@@ -1,2 +1,5 @@
 pub mod Bounds
+pub mod Drives
+pub mod Opens
 pub mod Walks
+pub mod Marked

@@ -1,3 +1,7 @@
 pub mod Network
+pub mod Driving
 pub mod Walk
+pub mod Open
 pub mod Listed
+pub mod BlockMarks
+pub mod MarkExamples

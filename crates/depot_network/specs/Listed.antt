@@ -10,6 +10,7 @@ use Rattle.plan_params.specs.declared.rows.pool.Pool.{Pool}
 use Rattle.day_model.specs.Facts.{DayFacts}
 use Rattle.day_model.specs.Links.{given}
 use Rattle.day_model.specs.Blocks.{block_cost, rises, trips_at}
+use Rattle.day_model.specs.Pieces.{can_be_driven}
 use Rattle.depot_network.specs.Network.{NetFacts, blocks}
 
 some_same : {A : Type 0} (x y : A) → Some x ≡ Some y → x ≡ y
@@ -53,8 +54,11 @@ none_of_none day pool list found cost at is = λ e.
 
 pub blocks_listed : (net : NetFacts) → HasListedColumns (blocks net)
 blocks_listed net class list worth e =
-    let tested = given_some (rises list) (option_and_then (λ (pool : Pool). option_and_then (λ (ts : List Trip). option_and_then (λ (c : ℕ). Some (cond net.counts 1 c)) (block_cost net.day pool ts)) (trips_at net.day.trips list)) (slice_get net.day.params.pools class)) worth e in
-    let pooled = and_then_some (λ (pool : Pool). option_and_then (λ (ts : List Trip). option_and_then (λ (c : ℕ). Some (cond net.counts 1 c)) (block_cost net.day pool ts)) (trips_at net.day.trips list)) (slice_get net.day.params.pools class) worth tested.1 in
-    let found = and_then_some (λ (ts : List Trip). option_and_then (λ (c : ℕ). Some (cond net.counts 1 c)) (block_cost net.day pooled.0 ts)) (trips_at net.day.trips list) worth pooled.2 in
-    let costs = and_then_some (λ (c : ℕ). Some (cond net.counts 1 c)) (block_cost net.day pooled.0 found.0) worth found.2 in
+    let one : ℕ → Option ℕ = λ c. Some (cond net.counts 1 c) in
+    let of_trips : Pool → Option ℕ = λ pool. option_and_then (λ (ts : List Trip). option_and_then one (block_cost net.day pool ts)) (trips_at net.day.trips list) in
+    let tested = given_some (rises list) (option_and_then (λ (pool : Pool). given (can_be_driven net.day pool list) (of_trips pool)) (slice_get net.day.params.pools class)) worth e in
+    let pooled = and_then_some (λ (pool : Pool). given (can_be_driven net.day pool list) (of_trips pool)) (slice_get net.day.params.pools class) worth tested.1 in
+    let driven = given_some (can_be_driven net.day pooled.0 list) (of_trips pooled.0) worth pooled.2 in
+    let found = and_then_some (λ (ts : List Trip). option_and_then one (block_cost net.day pooled.0 ts)) (trips_at net.day.trips list) worth driven.1 in
+    let costs = and_then_some one (block_cost net.day pooled.0 found.0) worth found.2 in
     (none_of_none net.day pooled.0 list found.0 costs.0 found.1 costs.1, rises_rise list tested.0, trips_below net.day.trips list found.0 found.1)

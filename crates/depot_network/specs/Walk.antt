@@ -1,5 +1,5 @@
--- The cost of a block, trip by trip.
-use Rattle.std.specs.Prelude.{ℕ, ℤ, pos, ◌+◌, ◌*◌, ◌+ℤ◌, ◌*ℤ◌, ◌≤ℤ◌, nat_lt, List, [], ◌∷◌, Option, Some, None, option_and_then, slice_get}
+-- The cost and the driving of a block, trip by trip.
+use Rattle.std.specs.Prelude.{ℕ, ℤ, pos, ◌+◌, ◌*◌, ◌+ℤ◌, ◌*ℤ◌, ◌≤ℤ◌, nat_lt, List, [], ◌∷◌, Option, Some, None, option_and_then, is_some, slice_get}
 use Rattle.std.specs.Option.{option_map}
 use Rattle.trip_times.specs.declared.trip.Trip.{Trip}
 use Rattle.plan_params.specs.declared.rows.pool.Pool.{Pool}
@@ -8,6 +8,8 @@ use Rattle.day_model.specs.declared.link.Link.TheVariants.{Direct, Depot}
 use Rattle.day_model.specs.Facts.{DayFacts, admits}
 use Rattle.day_model.specs.Links.{given, link, pull_in, pull_out, with_trip}
 use Rattle.day_model.specs.Blocks.{link_cost}
+use Rattle.depot_network.specs.declared.step.Step.{Step}
+use Rattle.depot_network.specs.Driving.{driven_first, driven_in, driven_on}
 
 -- the fixed cost and the pull-out to a first trip
 abbrev pub begun : DayFacts → Pool → ℕ → Option ℕ
@@ -23,23 +25,31 @@ added day pool t u =
 abbrev pub ended : DayFacts → Pool → ℕ → Option ℕ
 ended day pool t = with_trip day t (λ trip. option_map (λ inward. pool.dead_rate * inward) (pull_in day pool trip))
 
--- the cost of a block so far with one trip more
-abbrev pub extended : DayFacts → Pool → ℕ → ℕ → ℕ → Option ℕ
-extended day pool cost t u = option_map (λ more. cost + more) (added day pool t u)
+-- a cost and a driving, where both are there
+abbrev pub joined : Option ℕ → Option ℕ → Option Step
+joined cost driving = option_and_then (λ c. option_map (λ d. record { cost = c; driving = d }) driving) cost
 
--- the cost of a block so far with the pull-in
-abbrev pub finished : DayFacts → Pool → ℕ → ℕ → Option ℕ
-finished day pool cost t = option_map (λ more. cost + more) (ended day pool t)
+-- a first trip
+abbrev pub first_step : DayFacts → Pool → ℕ → Option Step
+first_step day pool t = joined (begun day pool t) (driven_first day pool t)
 
--- the cost of a block so far, a last trip, and the trips after it
-abbrev pub walked : DayFacts → Pool → ℕ → ℕ → List ℕ → Option ℕ
-walked day pool cost t [] = finished day pool cost t
-walked day pool cost t (u ∷ us) = option_and_then (λ cost. walked day pool cost u us) (extended day pool cost t u)
+-- a later trip, from the driving at the end of the one before it
+abbrev pub next_step : DayFacts → Pool → ℕ → ℕ → ℕ → Option Step
+next_step day pool driving t u = joined (added day pool t u) (driven_on day pool driving t u)
 
--- the cost of a list of trips
-abbrev pub walk : DayFacts → Pool → List ℕ → Option ℕ
-walk day pool [] = None
-walk day pool (t ∷ ts) = option_and_then (λ cost. walked day pool cost t ts) (begun day pool t)
+-- the pull-in
+abbrev pub last_step : DayFacts → Pool → ℕ → ℕ → Option ℕ
+last_step day pool driving t = given (is_some (driven_in day pool driving t)) (ended day pool t)
+
+-- the cost and the driving of a block so far, a last trip, and the trips after it
+abbrev pub stepped : DayFacts → Pool → ℕ → ℕ → ℕ → List ℕ → Option ℕ
+stepped day pool cost driving t [] = option_map (λ more. cost + more) (last_step day pool driving t)
+stepped day pool cost driving t (u ∷ us) = option_and_then (λ step. stepped day pool (cost + step.cost) step.driving u us) (next_step day pool driving t u)
+
+-- the cost of a list of trips that can be driven
+abbrev pub steps : DayFacts → Pool → List ℕ → Option ℕ
+steps day pool [] = None
+steps day pool (t ∷ ts) = option_and_then (λ step. stepped day pool step.cost step.driving t ts) (first_step day pool t)
 
 -- when a trip ends
 abbrev end_or : Option Trip → ℤ

@@ -1,18 +1,25 @@
-//! The cost of a block.
+//! The cost of a block, and whether it can be driven.
 
-ghost use Rattle.std.specs.Prelude.{◌≡◌, ◌<◌, ◌≤◌, ◌+◌, ◌*◌, ◌≤ℤ◌, ◌-ℤ◌, ◌+ℤ◌, ◌*ℤ◌, pos, cond, IfSome, Some, length, slice_get, option_and_then};
+ghost use Rattle.std.specs.Prelude.{◌≡◌, ◌<◌, ◌≤◌, ◌+◌, ◌*◌, ◌≤ℤ◌, ◌-ℤ◌, ◌+ℤ◌, ◌*ℤ◌, pos, cond, ℕ, IfSome, Some, [], length, slice_get, option_and_then};
 ghost use Rattle.cover_core.specs.Cover.{AllBelow};
 ghost use Rattle.plan_params.specs.Limits.{IsPool};
 ghost use Rattle.day_model.specs.Blocks as blocks;
 ghost use Rattle.day_model.specs.Links.{with_pool};
+ghost use Rattle.day_model.specs.Pieces.{longest_driving};
 ghost use Rattle.day_model.specs.Ranges.{IsDaily, IsShort};
+ghost use Rattle.depot_network.specs.Driving as driving;
 ghost use Rattle.depot_network.specs.Network.{is_count};
 ghost use Rattle.depot_network.specs.Walk as walks;
 
+use crate::step::Step;
 use cover_core::Worth;
 use day_model::{Day, Link};
+use plan_core::Point;
 use plan_params::Pool;
 use trip_times::Trip;
+
+/// The greatest driving of a piece in seconds: four and a half hours.
+const LONGEST_DRIVING: u32 = 16_200;
 
 /// What seconds cost at a rate.
 fn charged(rate: u32, seconds: u32) -> u64
@@ -44,32 +51,146 @@ fn link_cost(pool: &Pool, next: &Trip, link: Link) -> u64
     }
 }
 
-/// The fixed cost and the pull-out to a first trip, if the trip may begin a block.
-fn begun(day: &Day, class: u32, pool: &Pool, t: u32) -> Option<u64>
+/// Whether a stand at a point is a cut.
+fn is_cut(day: &Day, pool: &Pool, at: Point, stand: u32) -> bool
+    ensures { result ≡ driving.is_cut_at day.now pool.now at stand }
+{
+    stand >= 1
+        && (stand >= day.params().settings().handover
+            && (day.params().relief(at) || at == pool.depot))
+}
+
+/// Driving that a piece may have.
+fn kept(seconds: u32) -> Option<u32>
+    ensures value { result ≡ driving.kept seconds }
+    ensures bound { IfSome result (λ seconds. seconds ≤ longest_driving) }
+{
+    if seconds <= LONGEST_DRIVING {
+        Some(seconds)
+    } else {
+        None
+    }
+}
+
+/// The driving behind a stand: afresh where the stand is a cut.
+fn driven_past(cut: bool, so_far: u32, before: u32, second: u32) -> Option<u32>
+    requires so_far { so_far ≤ longest_driving }
+    requires before { before ≤ 172800 }
+    requires second { second ≤ 345600 }
+    ensures value { result ≡ driving.driven_past cut so_far before second }
+    ensures bound { IfSome result (λ seconds. seconds ≤ longest_driving) }
+{
+    if !cut {
+        return kept(so_far + before + second);
+    }
+    if so_far + before <= LONGEST_DRIVING {
+        kept(second)
+    } else {
+        None
+    }
+}
+
+/// How long a trip is driven.
+fn trip_seconds(trip: &Trip) -> u32
+    requires { IsDaily trip.now }
+    ensures value { result ≡ driving.trip_seconds trip.now }
+    ensures bound { result ≤ 172800 }
+{
+    (trip.end.0 - trip.begin.0).unsigned_abs() as u32
+}
+
+/// The driving at the end of a later trip.
+fn driven_over(day: &Day, pool: &Pool, next: &Trip, link: Link, so_far: u32) -> Option<u32>
+    requires next { IsDaily next.now }
+    requires short { IsShort link }
+    requires so_far { so_far ≤ longest_driving }
+    ensures value { result ≡ driving.driven_over day.now pool.now next.now link so_far }
+    ensures bound { IfSome result (λ seconds. seconds ≤ longest_driving) }
+{
+    match link {
+        Link::Direct { dead, stand } => {
+            let cut = is_cut(day, pool, next.from, stand);
+            driven_past(cut, so_far, dead, 0 + trip_seconds(next))
+        }
+        Link::Depot {
+            inward,
+            outward,
+            stand,
+        } => {
+            let cut = is_cut(day, pool, pool.depot, stand);
+            driven_past(cut, so_far, inward, outward + trip_seconds(next))
+        }
+    }
+}
+
+/// A first trip of a block, if it may be one: the fixed cost and the pull-out.
+pub(crate) fn first_step(day: &Day, class: u32, pool: &Pool, t: u32) -> Option<Step>
     requires pool { slice_get day.now.params.pools class ≡ Some pool.now }
     requires ranges { IsPool pool.now }
     requires trip { t < length day.now.trips }
-    ensures value { result ≡ walks.begun day.now pool.now t }
-    ensures bound { IfSome result (walks.IsCheapUntil day.now t) }
+    ensures value { result ≡ walks.first_step day.now pool.now t }
+    ensures cheap { IfSome result (λ step. walks.IsCheapUntil day.now t step.cost) }
+    ensures driving { IfSome result (λ step. step.driving ≤ longest_driving) }
 {
-    // A trip is daily: the day says so.
-    let _ = day.trip(t);
+    let trip = day.trip(t);
     if !day.admits(class, t) {
         return None;
     }
     let out = day.pull_out(class, t)?;
-    Some(u64::from(pool.fixed) + charged(pool.dead_rate, out))
+    let driving = kept(out + trip_seconds(trip))?;
+    Some(Step {
+        cost: u64::from(pool.fixed) + charged(pool.dead_rate, out),
+        driving,
+    })
 }
 
-/// The cost of a block so far with a trip more, if that may follow.
-fn extended(day: &Day, class: u32, pool: &Pool, cost: u64, t: u32, u: u32) -> Option<u64>
+/// What a later trip adds to the cost of a block, if it may follow another one as far as links go.
+pub(crate) fn added(day: &Day, class: u32, pool: &Pool, t: u32, u: u32) -> Option<u64>
     requires pool { slice_get day.now.params.pools class ≡ Some pool.now }
     requires ranges { IsPool pool.now }
     requires trip { t < length day.now.trips }
     requires next { u < length day.now.trips }
-    requires bound { walks.IsCheapUntil day.now t cost }
-    ensures value { result ≡ walks.extended day.now pool.now cost t u }
-    ensures bound { IfSome result (walks.IsCheapUntil day.now u) }
+    ensures value { result ≡ walks.added day.now pool.now t u }
+    ensures few { IfSome result (λ cost. cost ≤ 3456000000) }
+{
+    let next = day.trip(u);
+    if !day.admits(class, u) || u <= t {
+        return None;
+    }
+    let link = day.connect(class, t, u)?;
+    Some(link_cost(pool, next, link))
+}
+
+/// What the pull-in adds, if there is one.
+pub(crate) fn ended(day: &Day, class: u32, pool: &Pool, t: u32) -> Option<u64>
+    requires pool { slice_get day.now.params.pools class ≡ Some pool.now }
+    requires ranges { IsPool pool.now }
+    requires trip { t < length day.now.trips }
+    ensures value { result ≡ walks.ended day.now pool.now t }
+    ensures few { IfSome result (λ cost. cost ≤ 1728000000) }
+{
+    let seconds = day.pull_in(class, t)?;
+    Some(charged(pool.dead_rate, seconds))
+}
+
+/// A later trip of a block, if it may follow another one, from the driving at the end of that.
+pub(crate) fn next_step(
+    day: &Day,
+    class: u32,
+    pool: &Pool,
+    so_far: u32,
+    t: u32,
+    u: u32,
+) -> Option<Step>
+    requires pool { slice_get day.now.params.pools class ≡ Some pool.now }
+    requires ranges { IsPool pool.now }
+    requires trip { t < length day.now.trips }
+    requires next { u < length day.now.trips }
+    requires so_far { so_far ≤ longest_driving }
+    ensures value { result ≡ walks.next_step day.now pool.now so_far t u }
+    ensures few { IfSome result (λ step. step.cost ≤ 3456000000) }
+    ensures cheap { IfSome result (λ step. (cost : ℕ) → walks.IsCheapUntil day.now t cost → walks.IsCheapUntil day.now u (cost + step.cost)) }
+    ensures driving { IfSome result (λ step. step.driving ≤ longest_driving) }
 {
     // Trips are daily: the day says so.
     let _ = day.trip(t);
@@ -78,39 +199,72 @@ fn extended(day: &Day, class: u32, pool: &Pool, cost: u64, t: u32, u: u32) -> Op
         return None;
     }
     let link = day.connect(class, t, u)?;
-    Some(cost + link_cost(pool, next, link))
+    let driving = driven_over(day, pool, next, link, so_far)?;
+    Some(Step {
+        cost: link_cost(pool, next, link),
+        driving,
+    })
 }
 
-/// The cost of a block so far with the pull-in, if there is one.
-fn finished(day: &Day, class: u32, pool: &Pool, cost: u64, t: u32) -> Option<u64>
+/// The cost of the pull-in, if there is one and it can be driven, from the driving at the end of the last trip.
+pub(crate) fn last_step(day: &Day, class: u32, pool: &Pool, so_far: u32, t: u32) -> Option<u64>
     requires pool { slice_get day.now.params.pools class ≡ Some pool.now }
     requires ranges { IsPool pool.now }
     requires trip { t < length day.now.trips }
-    requires bound { walks.IsCheapUntil day.now t cost }
-    ensures value { result ≡ walks.finished day.now pool.now cost t }
+    requires so_far { so_far ≤ longest_driving }
+    ensures value { result ≡ walks.last_step day.now pool.now so_far t }
+    ensures few { IfSome result (λ cost. cost ≤ 1728000000) }
+{
+    // A trip is daily: the day says so.
+    let _ = day.trip(t);
+    let inward = day.pull_in(class, t)?;
+    let _ = kept(so_far + inward)?;
+    Some(charged(pool.dead_rate, inward))
+}
+
+/// The cost of a block with the pull-in.
+fn finished(day: &Day, class: u32, pool: &Pool, so_far: u32, cost: u64, t: u32) -> Option<u64>
+    requires pool { slice_get day.now.params.pools class ≡ Some pool.now }
+    requires ranges { IsPool pool.now }
+    requires trip { t < length day.now.trips }
+    requires so_far { so_far ≤ longest_driving }
+    requires cheap { walks.IsCheapUntil day.now t cost }
+    ensures value { result ≡ walks.stepped day.now pool.now cost so_far t [] }
     ensures bound { IfSome result (λ cost. cost ≤ 4000000000) }
 {
-    let inward = day.pull_in(class, t)?;
-    Some(cost + charged(pool.dead_rate, inward))
+    let more = last_step(day, class, pool, so_far, t)?;
+    Some(cost + more)
 }
 
 /// The cost of a block that begins so, with a first trip and the trips after it.
-fn walked(day: &Day, class: u32, pool: &Pool, begin: u64, first: u32, rest: &[u32]) -> Option<u64>
+fn stepped(
+    day: &Day,
+    class: u32,
+    pool: &Pool,
+    begin: u64,
+    driving: u32,
+    first: u32,
+    rest: &[u32],
+) -> Option<u64>
     requires pool { slice_get day.now.params.pools class ≡ Some pool.now }
     requires ranges { IsPool pool.now }
     requires first { first < length day.now.trips }
     requires rest { AllBelow (length day.now.trips) rest.now }
-    requires bound { walks.IsCheapUntil day.now first begin }
-    ensures value { result ≡ walks.walked day.now pool.now begin first rest.now }
+    requires driving { driving ≤ longest_driving }
+    requires cheap { walks.IsCheapUntil day.now first begin }
+    ensures value { result ≡ walks.stepped day.now pool.now begin driving first rest.now }
     ensures bound { IfSome result (λ cost. cost ≤ 4000000000) }
 {
     let mut cost = begin;
+    let mut so_far = driving;
     let mut last = first;
     for next in rest {
-        cost = extended(day, class, pool, cost, last, *next)?;
+        let step = next_step(day, class, pool, so_far, last, *next)?;
+        cost += step.cost;
+        so_far = step.driving;
         last = *next;
     }
-    finished(day, class, pool, cost, last)
+    finished(day, class, pool, so_far, cost, last)
 }
 
 /// What a block of a cost is worth.
@@ -130,15 +284,15 @@ fn worth_of(worth: Worth, cost: Option<u64>) -> Option<u64>
 fn block_cost(day: &Day, class: u32, list: &[u32]) -> Option<u64>
     requires class { class < length day.now.params.pools }
     requires items { AllBelow (length day.now.trips) list.now }
-    ensures value { result ≡ with_pool day.now class (λ pool. walks.walk day.now pool list.now) }
+    ensures value { result ≡ with_pool day.now class (λ pool. walks.steps day.now pool list.now) }
     ensures bound { IfSome result (λ cost. cost ≤ 4000000000) }
 {
     let pool = &day.params().pools()[class as usize];
     match list {
         [] => None,
         [first, rest @ ..] => {
-            let begin = begun(day, class, pool, *first)?;
-            walked(day, class, pool, begin, *first, rest)
+            let begin = first_step(day, class, pool, *first)?;
+            stepped(day, class, pool, begin.cost, begin.driving, *first, rest)
         }
     }
 }

@@ -4,7 +4,13 @@
 
 mod cost;
 mod network;
+mod open;
+mod opening;
+mod step;
 #[cfg(test)]
 mod tests;
 
 pub use network::PoolNet;
+pub use open::OpenBlock;
+pub use opening::price;
+pub use step::Step;

@@ -11,7 +11,7 @@ use std::marker::Model;
 
 /// The blocks of a day: lists of trips with what they are worth in each pool. A list has a worth as a block of a pool where it is not
 /// empty and rises by number, each trip's line admits the pool's type of vehicles, the pull-out leaves at 0 or later, the pull-in is
-/// there, and neighbours have links.
+/// there, neighbours have links, and each piece that its legs are cut into has a driving of at most 16,200 seconds.
 #[derive(Drop)]
 pub struct PoolNet<'d> {
     day: &'d Day,

@@ -10,7 +10,8 @@ use vdv451_text::read_file;
 use vdv452_tables::{Needs, Network, read_tables};
 
 /// On days 1 and 2 a trip from 1 to 2 ends at 32,400. The trip back begins at 33,000 on day 1 and at 40,000 on day 2. The depot is 600
-/// from 1 and 900 from 2.
+/// from 1 and 900 from 2. On day 3 the first trip takes so long that its piece drives for 16,200 seconds, where it ends with the trip; on
+/// day 4 it takes a second more.
 const NETWORK: &[u8] = b"tbl; BASIS_VER_GUELTIGKEIT
 atr; VER_GUELTIGKEIT; BASIS_VERSION
 frm; num[10.0]; num[10.0]
@@ -35,7 +36,9 @@ atr; BASIS_VERSION; BEREICH_NR; FGR_NR; ONR_TYP_NR; ORT_NR; SEL_ZIEL_TYP; SEL_ZI
 frm; num[10.0]; num[10.0]; num[10.0]; num[10.0]; num[10.0]; num[10.0]; num[10.0]; num[10.0]
 rec; 1; 1; 1; 1; 1; 1; 2; 3600
 rec; 1; 1; 1; 1; 2; 1; 1; 3600
-end; 2
+rec; 1; 1; 2; 1; 1; 1; 2; 15600
+rec; 1; 1; 3; 1; 1; 1; 2; 15601
+end; 4
 tbl; REC_LID
 atr; BASIS_VERSION; LI_NR; STR_LI_VAR; BEREICH_NR
 frm; num[10.0]; num[10.0]; num[10.0]; num[10.0]
@@ -57,7 +60,11 @@ rec; 1; 1; 28800; 1; 1; 1; 1; 1;
 rec; 1; 2; 33000; 1; 1; 1; 1; 2; 
 rec; 1; 7; 28800; 1; 2; 1; 1; 1; 
 rec; 1; 8; 40000; 1; 2; 1; 1; 2; 
-end; 4
+rec; 1; 11; 28800; 1; 3; 1; 2; 1; 
+rec; 1; 12; 45000; 1; 3; 1; 1; 2; 
+rec; 1; 13; 28800; 1; 4; 1; 3; 1; 
+rec; 1; 14; 45001; 1; 4; 1; 1; 2; 
+end; 8
 tbl; UEB_FZT
 atr; BASIS_VERSION; BEREICH_NR; FGR_NR; ONR_TYP_NR; ORT_NR; UEB_ZIEL_TYP; UEB_ZIEL; UEB_FAHRZEIT
 frm; num[10.0]; num[10.0]; num[10.0]; num[10.0]; num[10.0]; num[10.0]; num[10.0]; num[10.0]
@@ -157,6 +164,33 @@ fn blocks_may_be_counted(rt: HostRuntime) -> Result<(), Fail> {
 fn a_stand_at_the_depot_is_free(rt: HostRuntime) -> Result<(), Fail> {
     let costs = costs(rt.alloc(), NETWORK, 2, Worth::Cost)?;
     assert!(rt; costs == [Some(4_000), Some(2_500), None]);
+    Ok(())
+}
+
+/// The worths of both trips and of the first one alone.
+fn long_worths(net: &PoolNet<'_>) -> [Option<u64>; 2] {
+    if net.items() != 2 || net.classes() != 1 {
+        return [None; 2];
+    }
+    [net.worth(0, &[0, 1]), net.worth(0, &[0])]
+}
+
+fn long_costs(alloc: Global, text: &[u8], kind: u32) -> Result<[Option<u64>; 2], Fail> {
+    let day = day_of(alloc, text, kind)?;
+    Ok(long_worths(&PoolNet::new(&day, Worth::Cost)))
+}
+
+#[test]
+fn pieces_may_be_driven_for_four_and_a_half_hours(rt: HostRuntime) -> Result<(), Fail> {
+    let costs = long_costs(rt.alloc(), NETWORK, 3)?;
+    assert!(rt; costs == [Some(2_200), None]);
+    Ok(())
+}
+
+#[test]
+fn a_second_more_is_too_long(rt: HostRuntime) -> Result<(), Fail> {
+    let costs = long_costs(rt.alloc(), NETWORK, 4)?;
+    assert!(rt; costs == [None, None]);
     Ok(())
 }
 

@@ -1,5 +1,5 @@
 -- Whether a duty is lawful, as a test over all its intervals.
-use Rattle.std.specs.Prelude.{◌≡◌, ℕ, ◌+◌, ◌≤◌, Bool, true, false, ◌||◌, ◌&&◌, not, nat_le, zero, suc, List, [], ◌∷◌, length, None}
+use Rattle.std.specs.Prelude.{◌≡◌, ℕ, ◌+◌, ◌≤◌, Bool, true, false, ◌||◌, ◌&&◌, not, nat_le, cond, zero, suc, List, [], ◌∷◌, length, None}
 use Rattle.eu561_rules.specs.declared.rules.Drive.{Drive}
 use Rattle.eu561_rules.specs.declared.rules.Limits.{Limits}
 use Rattle.eu561_rules.specs.Duty.{is_full_break, driving_of, driving_within, spread_limit}
@@ -27,6 +27,10 @@ is_lawful limits drives spread =
 -- the limits of a driver without allowances: 4 and a half, 9, 13, 15 and 3 hours
 abbrev pub regular : Limits
 regular = record { block = 16200; day = 32400; spread = 46800; long_spread = 54000; long_pause = 10800 }
+
+-- the limits of a driver with allowances: 10 hours of driving (article 6(1)), a spread of 15 hours before a reduced daily rest (article 8(2))
+abbrev pub limits_for : Bool → Bool → Limits
+limits_for ten reduced = record regular { day = cond ten 36000 32400; spread = cond reduced 54000 46800 }
 
 -- what is kept of no drives
 abbrev pub no_drives : Limits → Summary

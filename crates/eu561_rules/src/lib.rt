@@ -11,6 +11,9 @@
 //! - The spread is at most 13 hours, or 15 where some pause is at least 3 hours (article 8(2),
 //!   with the split daily rest of article 4(g)).
 //!
+//! A driver may have allowances, by which 9 hours are 10 (article 6(1)) and the spread is at most
+//! 15 hours in any case (article 8(2), with a reduced daily rest): [`Limits::of`].
+//!
 //! [`Tally`] gives the same verdict drive by drive. Nothing here takes memory from the heap.
 #![tactic(auto)]
 
@@ -156,6 +159,39 @@ mod tests {
                 "judge, spread {spread}"
             );
             assert_eq!(&rt; tallied(drives, spread), verdict, "Tally, spread {spread}");
+        }
+    }
+
+    #[test]
+    fn allowances_are_granted(rt: HostRuntime) {
+        let two: &[Drive] = &[drive(0, 3600), drive(2700, 3600)];
+        let long = [drive(0, 16200), drive(2700, 16200), drive(2700, 3600)];
+        let longer = [drive(0, 16200), drive(2700, 16200), drive(2700, 3601)];
+        let rows: [(&[Drive], u64, Limits, Verdict); 5] = [
+            (&long, 42000, Limits::of(true, false), Verdict::Lawful),
+            (
+                &long,
+                42000,
+                Limits::regular(),
+                Verdict::Art6 { driving: 36000 },
+            ),
+            (
+                &longer,
+                42000,
+                Limits::of(true, false),
+                Verdict::Art6 { driving: 36001 },
+            ),
+            (two, 54000, Limits::of(false, true), Verdict::Lawful),
+            (
+                two,
+                54001,
+                Limits::of(false, true),
+                Verdict::Art8 { spread: 54001 },
+            ),
+        ];
+        for (drives, spread, limits, verdict) in rows {
+            assert!(&rt; is_duty(drives));
+            assert_eq!(&rt; judge(drives, spread, &limits), verdict, "spread {spread}");
         }
     }
 

@@ -2,7 +2,7 @@
 #![tactic(auto)]
 
 ghost use Rattle.std.specs.Prelude.{◌≡◌};
-ghost use Rattle.eu561_rules.specs.Lawful.{regular};
+ghost use Rattle.eu561_rules.specs.Lawful.{limits_for, regular};
 
 /// A drive of a duty, and the pause before it.
 #[derive(Clone, Copy, Debug, PartialEq, Eq)]
@@ -15,7 +15,7 @@ pub struct Drive {
 
 /// How much a duty may have of what, each in seconds.
 ///
-/// A caller with other allowances, as a day of ten hours or a reduced daily rest, hands in other numbers.
+/// [`Limits::of`] has those of a driver with allowances, a day of ten hours or a reduced daily rest.
 #[derive(Clone, Copy, Debug, PartialEq, Eq)]
 pub struct Limits {
     /// The most driving between neighbouring full breaks (article 7).
@@ -43,6 +43,21 @@ impl Limits {
             spread: 46800,
             long_spread: 54000,
             long_pause: 10800,
+        }
+    }
+
+    /// The limits of Regulation (EC) 561/2006 for a driver with allowances, in seconds: with `ten`
+    /// 10 hours of driving in all (article 6(1), at most twice a week), with `reduced` a spread of
+    /// 15 hours, since a reduced daily rest of 9 hours follows (article 8(2), at most three times
+    /// between two weekly rests). All else is as in [`Limits::regular`]. It takes no memory.
+    pub fn of(ten: bool, reduced: bool) -> Limits
+        ensures { result ≡ limits_for ten reduced }
+    {
+        let regular = Limits::regular();
+        Limits {
+            day: if ten { 36000 } else { regular.day },
+            spread: if reduced { 54000 } else { regular.spread },
+            ..regular
         }
     }
 }

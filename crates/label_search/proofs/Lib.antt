@@ -11,3 +11,4 @@ pub mod Limits
 pub mod Pricing
 pub mod Losses
 pub mod Rising
+pub mod Places

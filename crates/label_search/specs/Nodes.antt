@@ -1,5 +1,5 @@
 -- The nodes that a search by labels keeps.
-use Rattle.std.specs.Prelude.{ℕ, ℤ, ◌+◌, ◌≤ℤ◌, int_lt, Bool, cond, not, ◌&&◌, zero, suc, List, [], ◌∷◌, ◌++◌, Option, Some, None, filter, fold}
+use Rattle.std.specs.Prelude.{ℕ, ℤ, ◌+◌, ◌≤ℤ◌, int_lt, Bool, cond, not, ◌&&◌, zero, suc, List, [], ◌∷◌, ◌++◌, Option, Some, None, drop, filter, fold, take}
 use Rattle.std.specs.List.{list_any}
 use Rattle.label_search.specs.declared.node.Node.{Node}
 use Rattle.label_search.specs.declared.node.Best.{Best}
@@ -12,6 +12,10 @@ is_beaten_node good b n = good n.label b
 -- a node stays beside a label that does not beat it
 abbrev pub stays_beside : {L : Type 0} → (L → L → Bool) → (L → ℤ) → L → Node L → Bool
 stays_beside good value_at a n = not (good a n.label && int_lt (value_at a) (value_at n.label))
+
+-- a list without the item at a place, unless it passes a test
+abbrev pub without : {X : Type 0} → (X → Bool) → ℕ → List X → List X
+without test place xs = take place xs ++ (filter test (take 1 (drop place xs)) ++ drop (place + 1) xs)
 
 -- a node is put last, unless another one beats it; those of a greater value to which it is at least as good are taken out
 abbrev pub insert_node : {L : Type 0} → (L → L → Bool) → (L → ℤ) → List (Node L) → Node L → List (Node L)

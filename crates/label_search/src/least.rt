@@ -11,6 +11,7 @@ ghost use Rattle.label_search.specs.Nodes.{AllSound, best_from, better_of};
 use crate::labels::Labels;
 use crate::levels::{Nodes, fill};
 use crate::node::{Best, Found, Node};
+use label_store::Stock;
 use plan_core::{Memory, Seq};
 use std::alloc::Global;
 
@@ -32,16 +33,15 @@ fn better(best: Option<Best>, value: Option<i64>, place: u32) -> Option<Best>
 }
 
 /// The first of the nodes that close with the least value.
-fn best_node<W: Labels>(labels: &W, nodes: &[Node<W::Label>]) -> Option<Best>
-    requires few { length nodes.now < 4294967295 }
-    requires sound { AllSound (W.sound labels.now) nodes.now }
-    ensures { result ≡ best_from (W.close_of labels.now) 0 None nodes.now }
+fn best_node<W: Labels>(labels: &W, stock: &Stock<Node<W::Label>>) -> Option<Best>
+    requires few { length stock.now.kept < 4294967295 }
+    requires sound { AllSound (W.sound labels.now) stock.now.kept }
+    ensures { result ≡ best_from (W.close_of labels.now) 0 None stock.now.kept }
 {
     let mut best = None;
-    let mut place = 0;
-    for node in nodes {
-        best = better(best, labels.close(&node.label), place);
-        place += 1;
+    for place in 0..stock.kept_count() as u32 {
+        let value = labels.close(&stock.kept_at(place as usize).label);
+        best = better(best, value, place);
     }
     best
 }
@@ -57,16 +57,16 @@ fn push_item(list: &mut Vec<u32>, item: u32) -> Result<(), Memory>
 }
 
 /// The list of a node, walked back from its last item to its first.
-fn path<L: Copy>(alloc: Global, nodes: &[Node<L>], place: u32) -> Result<Vec<u32>, Memory>
-    requires there { place < length nodes.now }
-    requires few { length nodes.now < 4294967295 }
-    requires back { AllBack 0 nodes.now }
-    ensures { IfOk result (λ list. list.items ≡ list_of_node nodes.now place) }
+fn path<L: Copy>(alloc: Global, stock: &Stock<Node<L>>, place: u32) -> Result<Vec<u32>, Memory>
+    requires there { place < length stock.now.kept }
+    requires few { length stock.now.kept < 4294967295 }
+    requires back { AllBack 0 stock.now.kept }
+    ensures { IfOk result (λ list. list.items ≡ list_of_node stock.now.kept place) }
 {
     let mut list = Vec::new(alloc);
     let mut rank = place + 1;
     while rank > 0 {
-        let node = nodes[(rank - 1) as usize];
+        let node = *stock.kept_at((rank - 1) as usize);
         push_item(&mut list, node.item)?;
         rank = node.before;
     }
@@ -85,11 +85,11 @@ fn least_closed<W: Labels>(
     ensures none { IfOk result (λ answer. IfNone answer (NoneCloses (limited (W.labelling labels.now) (W.may_close labels.now limit)) (W.close_of labels.now))) }
 {
     fill(labels, limit, nodes)?;
-    let best = best_node(labels, nodes.nodes.as_slice());
+    let best = best_node(labels, &nodes.stock);
     match best {
         None => Ok(None),
         Some(best) => {
-            let list = path(alloc, nodes.nodes.as_slice(), best.place)?;
+            let list = path(alloc, &nodes.stock, best.place)?;
             Ok(Some(Found {
                 list: Seq::from_vec(list),
                 value: best.value,

@@ -8,19 +8,19 @@ ghost use Rattle.std.specs.Prelude.{◌≡◌, [], ◌∷◌, ◌++◌, ◌<◌,
 ghost use Rattle.std.specs.List.{list_any};
 ghost use Rattle.label_search.specs.Levels.{AreLevels, EndsAt, IsOfLevel, level_so_far};
 ghost use Rattle.label_search.specs.Limits.{limited};
-ghost use Rattle.label_search.specs.Nodes.{AllSound, AllAtLeast, is_beaten_node, insert_node, level_of, node_of, nodes_below, stays_beside};
+ghost use Rattle.label_search.specs.Nodes.{AllSound, AllAtLeast, is_beaten_node, insert_node, level_of, node_of, nodes_below, stays_beside, without};
 
 use crate::labels::Labels;
 use crate::node::{Level, Node};
+use label_store::Stock;
 use plan_core::Memory;
 use std::alloc::Global;
 
-/// The nodes of a search, its levels, the nodes of the level that is being made, and a value that no label of the nodes is below.
+/// The nodes of a search and of the level that is being made, its levels, and a value that no label of the nodes is below.
 #[derive(Drop)]
-pub struct Nodes<L> {
-    pub nodes: Vec<Node<L>>,
+pub struct Nodes<L: Copy> {
+    pub stock: Stock<Node<L>>,
     pub levels: Vec<Level>,
-    pub made: Vec<Node<L>>,
     pub least: i64,
 }
 
@@ -28,21 +28,23 @@ impl<L: Copy> Nodes<L> {
     /// No nodes.
     pub fn new(alloc: Global) -> Nodes<L> {
         Nodes {
-            nodes: Vec::new(alloc),
+            stock: Stock::new(alloc),
             levels: Vec::new(alloc),
-            made: Vec::new(alloc),
             least: i64::MAX,
         }
     }
 }
 
-/// Whether some node's label is at least as good.
-fn is_beaten<W: Labels>(labels: &W, nodes: &[Node<W::Label>], label: &W::Label) -> bool
-    ensures { result ≡ list_any (is_beaten_node (W.good labels.now) label.now) nodes.now }
+/// Whether some made node's label is at least as good.
+fn is_beaten<W: Labels>(labels: &W, stock: &Stock<Node<W::Label>>, label: &W::Label) -> bool
+    ensures { result ≡ list_any (is_beaten_node (W.good labels.now) label.now) stock.now.made }
 {
-    nodes
-        .iter()
-        .any(|node| labels.is_as_good(&node.label, label))
+    for place in 0..stock.made_count() {
+        if labels.is_as_good(&stock.made_at(place).label, label) {
+            return true;
+        }
+    }
+    false
 }
 
 /// Whether a node stays beside a label, which does not beat it.
@@ -52,45 +54,65 @@ fn stays<W: Labels>(labels: &W, label: &W::Label, node: &Node<W::Label>) -> bool
     !(labels.is_as_good(label, &node.label) && labels.value(label) < labels.value(&node.label))
 }
 
-/// Takes out the nodes that a label beats.
-fn take_out<W: Labels>(labels: &W, nodes: &mut Vec<Node<W::Label>>, label: &W::Label)
-    ensures { nodes.new.items ≡ filter (stays_beside (W.good labels.now) (W.value_at labels.now) label.now) nodes.old.items }
+/// Takes out the made node at a place, where a label beats it.
+fn take_beaten<W: Labels>(
+    labels: &W,
+    stock: &mut Stock<Node<W::Label>>,
+    label: &W::Label,
+    place: usize,
+)
+    requires { place < length stock.old.made }
+    ensures kept { stock.new.kept ≡ stock.old.kept }
+    ensures made { stock.new.made ≡ without (stays_beside (W.good labels.now) (W.value_at labels.now) label.now) place stock.old.made }
 {
-    nodes.retain(|node| stays(labels, label, node));
+    if !stays(labels, label, stock.made_at(place)) {
+        stock.take_out(place);
+    }
+}
+
+/// Takes out the made nodes that a label beats.
+fn take_out<W: Labels>(labels: &W, stock: &mut Stock<Node<W::Label>>, label: &W::Label)
+    ensures kept { stock.new.kept ≡ stock.old.kept }
+    ensures made { stock.new.made ≡ filter (stays_beside (W.good labels.now) (W.value_at labels.now) label.now) stock.old.made }
+{
+    let mut place = stock.made_count();
+    while place > 0 {
+        place -= 1;
+        take_beaten(labels, stock, label, place);
+    }
 }
 
 /// Puts a node last, unless another one is at least as good, and takes out those that it beats.
 fn insert<W: Labels>(
     labels: &W,
-    nodes: &mut Vec<Node<W::Label>>,
+    stock: &mut Stock<Node<W::Label>>,
     node: Node<W::Label>,
 ) -> Result<(), Memory>
-    ensures { OnOk result (nodes.new.items ≡ insert_node (W.good labels.now) (W.value_at labels.now) nodes.old.items node) }
+    ensures kept { stock.new.kept ≡ stock.old.kept }
+    ensures made { OnOk result (stock.new.made ≡ insert_node (W.good labels.now) (W.value_at labels.now) stock.old.made node) }
 {
-    if is_beaten(labels, nodes.as_slice(), &node.label) {
+    if is_beaten(labels, stock, &node.label) {
         return Ok(());
     }
-    take_out(labels, nodes, &node.label);
-    match nodes.push(node) {
-        Ok(()) => Ok(()),
-        Err(_) => Err(Memory),
-    }
+    take_out(labels, stock, &node.label);
+    stock.push(node)
 }
 
 /// Puts the node of a label last, where there is a label.
 fn insert_some<W: Labels>(
     labels: &W,
-    nodes: &mut Vec<Node<W::Label>>,
+    stock: &mut Stock<Node<W::Label>>,
     label: Option<W::Label>,
     item: u32,
     before: u32,
 ) -> Result<(), Memory>
-    ensures { OnOk result (nodes.new.items ≡ fold (insert_node (W.good labels.now) (W.value_at labels.now)) nodes.old.items (node_of item before label)) }
+    ensures kept { stock.new.kept ≡ stock.old.kept }
+    ensures made { OnOk result (stock.new.made ≡ fold (insert_node (W.good labels.now) (W.value_at labels.now)) stock.old.made (node_of item before label)) }
 {
     match label {
         Some(label) => insert(
             labels,
-            nodes,
+            stock,
             Node {
                 label,
                 item,
@@ -104,25 +126,25 @@ fn insert_some<W: Labels>(
 /// Puts in the extensions of the nodes from a place to another one.
 fn extend_all<W: Labels>(
     labels: &W,
-    nodes: &[Node<W::Label>],
+    stock: &mut Stock<Node<W::Label>>,
     from: u32,
     end: u32,
     item: u32,
     limit: i64,
-    made: &mut Vec<Node<W::Label>>,
 ) -> Result<(), Memory>
     requires item { item < W.count labels.now }
     requires order { from ≤ end }
-    requires there { end ≤ length nodes.now }
-    requires few { length nodes.now < 4294967295 }
-    requires sound { AllSound (W.sound labels.now) nodes.now }
-    requires so_far { made.old.items ≡ level_so_far (limited (W.labelling labels.now) (W.may_close labels.now limit)) (W.good labels.now) (W.value_at labels.now) nodes.now item from }
-    ensures { OnOk result (made.new.items ≡ level_so_far (limited (W.labelling labels.now) (W.may_close labels.now limit)) (W.good labels.now) (W.value_at labels.now) nodes.now item end) }
+    requires there { end ≤ length stock.old.kept }
+    requires few { length stock.old.kept < 4294967295 }
+    requires sound { AllSound (W.sound labels.now) stock.old.kept }
+    requires so_far { stock.old.made ≡ level_so_far (limited (W.labelling labels.now) (W.may_close labels.now limit)) (W.good labels.now) (W.value_at labels.now) stock.old.kept item from }
+    ensures kept { stock.new.kept ≡ stock.old.kept }
+    ensures made { OnOk result (stock.new.made ≡ level_so_far (limited (W.labelling labels.now) (W.may_close labels.now limit)) (W.good labels.now) (W.value_at labels.now) stock.old.kept item end) }
 {
+    stock.reserve(end - from)?;
     for place in from..end {
-        let node = &nodes[place as usize];
-        let label = labels.extend(&node.label, item, limit);
-        insert_some(labels, made, label, item, place + 1)?;
+        let label = labels.extend(&stock.kept_at(place as usize).label, item, limit);
+        insert_some(labels, stock, label, item, place + 1)?;
     }
     Ok(())
 }
@@ -130,24 +152,24 @@ fn extend_all<W: Labels>(
 /// Puts in the extensions of a level's nodes, the first of which has this place, unless there is none.
 fn follow<W: Labels>(
     labels: &W,
-    nodes: &[Node<W::Label>],
+    stock: &mut Stock<Node<W::Label>>,
     level: &Level,
     from: u32,
     item: u32,
     limit: i64,
-    made: &mut Vec<Node<W::Label>>,
 ) -> Result<(), Memory>
     requires item { item < W.count labels.now }
     requires order { from ≤ level.now.end }
-    requires there { level.now.end ≤ length nodes.now }
-    requires few { length nodes.now < 4294967295 }
-    requires sound { AllSound (W.sound labels.now) nodes.now }
-    requires level { AllSound (IsOfLevel (W.sound labels.now) (W.last labels.now) (W.value_at labels.now) level.now) (take (level.now.end - from) (drop from nodes.now)) }
-    requires so_far { made.old.items ≡ level_so_far (limited (W.labelling labels.now) (W.may_close labels.now limit)) (W.good labels.now) (W.value_at labels.now) nodes.now item from }
-    ensures { OnOk result (made.new.items ≡ level_so_far (limited (W.labelling labels.now) (W.may_close labels.now limit)) (W.good labels.now) (W.value_at labels.now) nodes.now item level.now.end) }
+    requires there { level.now.end ≤ length stock.old.kept }
+    requires few { length stock.old.kept < 4294967295 }
+    requires sound { AllSound (W.sound labels.now) stock.old.kept }
+    requires level { AllSound (IsOfLevel (W.sound labels.now) (W.last labels.now) (W.value_at labels.now) level.now) (take (level.now.end - from) (drop from stock.old.kept)) }
+    requires so_far { stock.old.made ≡ level_so_far (limited (W.labelling labels.now) (W.may_close labels.now limit)) (W.good labels.now) (W.value_at labels.now) stock.old.kept item from }
+    ensures kept { stock.new.kept ≡ stock.old.kept }
+    ensures made { OnOk result (stock.new.made ≡ level_so_far (limited (W.labelling labels.now) (W.may_close labels.now limit)) (W.good labels.now) (W.value_at labels.now) stock.old.kept item level.now.end) }
 {
     if labels.may_follow(level.item, level.least, item, limit) {
-        extend_all(labels, nodes, from, level.end, item, limit, made)
+        extend_all(labels, stock, from, level.end, item, limit)
     } else {
         Ok(())
     }
@@ -156,23 +178,23 @@ fn follow<W: Labels>(
 /// Makes the nodes of the lists that end with an item, from the nodes of the items before it.
 fn make_level<W: Labels>(
     labels: &W,
-    nodes: &[Node<W::Label>],
+    stock: &mut Stock<Node<W::Label>>,
     levels: &[Level],
     item: u32,
     limit: i64,
-    made: &mut Vec<Node<W::Label>>,
 ) -> Result<(), Memory>
     requires item { item < W.count labels.now }
-    requires few { length nodes.now < 4294967295 }
-    requires sound { AllSound (W.sound labels.now) nodes.now }
-    requires levels { AreLevels (W.sound labels.now) (W.last labels.now) (W.value_at labels.now) 0 nodes.now levels.now }
-    requires empty { made.old.items ≡ [] }
-    ensures { OnOk result (made.new.items ≡ level_of (limited (W.labelling labels.now) (W.may_close labels.now limit)) (W.good labels.now) (W.value_at labels.now) nodes.now item) }
+    requires few { length stock.old.kept < 4294967295 }
+    requires sound { AllSound (W.sound labels.now) stock.old.kept }
+    requires levels { AreLevels (W.sound labels.now) (W.last labels.now) (W.value_at labels.now) 0 stock.old.kept levels.now }
+    requires empty { stock.old.made ≡ [] }
+    ensures kept { stock.new.kept ≡ stock.old.kept }
+    ensures made { OnOk result (stock.new.made ≡ level_of (limited (W.labelling labels.now) (W.may_close labels.now limit)) (W.good labels.now) (W.value_at labels.now) stock.old.kept item) }
 {
-    insert_some(labels, made, labels.start(item, limit), item, 0)?;
+    insert_some(labels, stock, labels.start(item, limit), item, 0)?;
     let mut from = 0;
     for level in levels {
-        follow(labels, nodes, level, from, item, limit, made)?;
+        follow(labels, stock, level, from, item, limit)?;
         from = level.end;
     }
     Ok(())
@@ -181,35 +203,35 @@ fn make_level<W: Labels>(
 /// The same, with no look at the nodes where no list of their values may go on with the item.
 fn make_item<W: Labels>(
     labels: &W,
-    nodes: &[Node<W::Label>],
+    stock: &mut Stock<Node<W::Label>>,
     levels: &[Level],
     least: i64,
     item: u32,
     limit: i64,
-    made: &mut Vec<Node<W::Label>>,
 ) -> Result<(), Memory>
     requires item { item < W.count labels.now }
-    requires few { length nodes.now < 4294967295 }
-    requires sound { AllSound (W.sound labels.now) nodes.now }
-    requires least { AllAtLeast (W.value_at labels.now) least nodes.now }
-    requires levels { AreLevels (W.sound labels.now) (W.last labels.now) (W.value_at labels.now) 0 nodes.now levels.now }
-    requires empty { made.old.items ≡ [] }
-    ensures { OnOk result (made.new.items ≡ level_of (limited (W.labelling labels.now) (W.may_close labels.now limit)) (W.good labels.now) (W.value_at labels.now) nodes.now item) }
+    requires few { length stock.old.kept < 4294967295 }
+    requires sound { AllSound (W.sound labels.now) stock.old.kept }
+    requires least { AllAtLeast (W.value_at labels.now) least stock.old.kept }
+    requires levels { AreLevels (W.sound labels.now) (W.last labels.now) (W.value_at labels.now) 0 stock.old.kept levels.now }
+    requires empty { stock.old.made ≡ [] }
+    ensures kept { stock.new.kept ≡ stock.old.kept }
+    ensures made { OnOk result (stock.new.made ≡ level_of (limited (W.labelling labels.now) (W.may_close labels.now limit)) (W.good labels.now) (W.value_at labels.now) stock.old.kept item) }
 {
     if labels.may_reach(least, item, limit) {
-        make_level(labels, nodes, levels, item, limit, made)
+        make_level(labels, stock, levels, item, limit)
     } else {
-        insert_some(labels, made, labels.start(item, limit), item, 0)
+        insert_some(labels, stock, labels.start(item, limit), item, 0)
     }
 }
 
-/// A value that none of the nodes' labels is below: the least of theirs.
-fn least_value<W: Labels>(labels: &W, nodes: &[Node<W::Label>]) -> i64
-    ensures { AllAtLeast (W.value_at labels.now) result nodes.now }
+/// A value that none of the made nodes' labels is below: the least of theirs.
+fn least_value<W: Labels>(labels: &W, stock: &Stock<Node<W::Label>>) -> i64
+    ensures { AllAtLeast (W.value_at labels.now) result stock.now.made }
 {
     let mut least = i64::MAX;
-    for node in nodes {
-        least = lower(least, labels.value(&node.label));
+    for place in 0..stock.made_count() {
+        least = lower(least, labels.value(&stock.made_at(place).label));
     }
     least
 }
@@ -234,26 +256,23 @@ fn push_level(levels: &mut Vec<Level>, level: Level) -> Result<(), Memory>
 
 /// Puts the level that was made behind the others, where it has nodes.
 fn keep_level<W: Labels>(labels: &W, item: u32, nodes: &mut Nodes<W::Label>) -> Result<(), Memory>
-    requires few { length nodes.old.nodes.items < 4294967295 }
-    requires least { AllAtLeast (W.value_at labels.now) nodes.old.least nodes.old.nodes.items }
-    requires levels { AreLevels (W.sound labels.now) (W.last labels.now) (W.value_at labels.now) 0 nodes.old.nodes.items nodes.old.levels.items }
-    requires made { AllSound (EndsAt (W.sound labels.now) (W.last labels.now) item) nodes.old.made.items }
-    ensures nodes { OnOk result (nodes.new.nodes.items ≡ nodes.old.nodes.items ++ nodes.old.made.items) }
-    ensures empty { OnOk result (nodes.new.made.items ≡ []) }
-    ensures few { OnOk result (length nodes.new.nodes.items < 4294967295) }
-    ensures least { OnOk result (AllAtLeast (W.value_at labels.now) nodes.new.least nodes.new.nodes.items) }
-    ensures levels { OnOk result (AreLevels (W.sound labels.now) (W.last labels.now) (W.value_at labels.now) 0 nodes.new.nodes.items nodes.new.levels.items) }
+    requires few { length nodes.old.stock.kept < 4294967295 }
+    requires least { AllAtLeast (W.value_at labels.now) nodes.old.least nodes.old.stock.kept }
+    requires levels { AreLevels (W.sound labels.now) (W.last labels.now) (W.value_at labels.now) 0 nodes.old.stock.kept nodes.old.levels.items }
+    requires made { AllSound (EndsAt (W.sound labels.now) (W.last labels.now) item) nodes.old.stock.made }
+    ensures nodes { OnOk result (nodes.new.stock.kept ≡ nodes.old.stock.kept ++ nodes.old.stock.made) }
+    ensures empty { OnOk result (nodes.new.stock.made ≡ []) }
+    ensures few { OnOk result (length nodes.new.stock.kept < 4294967295) }
+    ensures least { OnOk result (AllAtLeast (W.value_at labels.now) nodes.new.least nodes.new.stock.kept) }
+    ensures levels { OnOk result (AreLevels (W.sound labels.now) (W.last labels.now) (W.value_at labels.now) 0 nodes.new.stock.kept nodes.new.levels.items) }
 {
-    if nodes.made.is_empty() {
+    if nodes.stock.made_count() == 0 {
         return Ok(());
     }
-    let least = least_value(labels, nodes.made.as_slice());
-    match nodes.nodes.append(&mut nodes.made) {
-        Ok(()) => {}
-        Err(_) => return Err(Memory),
-    }
+    let least = least_value(labels, &nodes.stock);
+    nodes.stock.keep_made()?;
     nodes.least = lower(nodes.least, least);
-    let end = nodes.nodes.len();
+    let end = nodes.stock.kept_count();
     if end >= 4294967295 {
         return Err(Memory);
     }
@@ -276,37 +295,35 @@ fn add_item<W: Labels>(
     nodes: &mut Nodes<W::Label>,
 ) -> Result<(), Memory>
     requires item { item < W.count labels.now }
-    requires few { length nodes.old.nodes.items < 4294967295 }
-    requires nodes { nodes.old.nodes.items ≡ nodes_below (limited (W.labelling labels.now) (W.may_close labels.now limit)) (W.good labels.now) (W.value_at labels.now) item }
-    requires least { AllAtLeast (W.value_at labels.now) nodes.old.least nodes.old.nodes.items }
-    requires levels { AreLevels (W.sound labels.now) (W.last labels.now) (W.value_at labels.now) 0 nodes.old.nodes.items nodes.old.levels.items }
-    requires empty { nodes.old.made.items ≡ [] }
-    ensures nodes { OnOk result (nodes.new.nodes.items ≡ nodes_below (limited (W.labelling labels.now) (W.may_close labels.now limit)) (W.good labels.now) (W.value_at labels.now) (item + 1)) }
-    ensures empty { OnOk result (nodes.new.made.items ≡ []) }
-    ensures few { OnOk result (length nodes.new.nodes.items < 4294967295) }
-    ensures least { OnOk result (AllAtLeast (W.value_at labels.now) nodes.new.least nodes.new.nodes.items) }
-    ensures levels { OnOk result (AreLevels (W.sound labels.now) (W.last labels.now) (W.value_at labels.now) 0 nodes.new.nodes.items nodes.new.levels.items) }
+    requires few { length nodes.old.stock.kept < 4294967295 }
+    requires nodes { nodes.old.stock.kept ≡ nodes_below (limited (W.labelling labels.now) (W.may_close labels.now limit)) (W.good labels.now) (W.value_at labels.now) item }
+    requires least { AllAtLeast (W.value_at labels.now) nodes.old.least nodes.old.stock.kept }
+    requires levels { AreLevels (W.sound labels.now) (W.last labels.now) (W.value_at labels.now) 0 nodes.old.stock.kept nodes.old.levels.items }
+    requires empty { nodes.old.stock.made ≡ [] }
+    ensures nodes { OnOk result (nodes.new.stock.kept ≡ nodes_below (limited (W.labelling labels.now) (W.may_close labels.now limit)) (W.good labels.now) (W.value_at labels.now) (item + 1)) }
+    ensures empty { OnOk result (nodes.new.stock.made ≡ []) }
+    ensures few { OnOk result (length nodes.new.stock.kept < 4294967295) }
+    ensures least { OnOk result (AllAtLeast (W.value_at labels.now) nodes.new.least nodes.new.stock.kept) }
+    ensures levels { OnOk result (AreLevels (W.sound labels.now) (W.last labels.now) (W.value_at labels.now) 0 nodes.new.stock.kept nodes.new.levels.items) }
 {
     make_item(
         labels,
-        nodes.nodes.as_slice(),
+        &mut nodes.stock,
         nodes.levels.as_slice(),
         nodes.least,
         item,
         limit,
-        &mut nodes.made,
     )?;
     keep_level(labels, item, nodes)
 }
 
 /// Makes the nodes of all lists that are kept, in place of those that were there.
 pub fn fill<W: Labels>(labels: &W, limit: i64, nodes: &mut Nodes<W::Label>) -> Result<(), Memory>
-    ensures nodes { OnOk result (nodes.new.nodes.items ≡ nodes_below (limited (W.labelling labels.now) (W.may_close labels.now limit)) (W.good labels.now) (W.value_at labels.now) (W.count labels.now)) }
-    ensures few { OnOk result (length nodes.new.nodes.items < 4294967295) }
+    ensures nodes { OnOk result (nodes.new.stock.kept ≡ nodes_below (limited (W.labelling labels.now) (W.may_close labels.now limit)) (W.good labels.now) (W.value_at labels.now) (W.count labels.now)) }
+    ensures few { OnOk result (length nodes.new.stock.kept < 4294967295) }
 {
-    nodes.nodes.clear();
+    nodes.stock.clear();
     nodes.levels.clear();
-    nodes.made.clear();
     nodes.least = i64::MAX;
     for item in 0..labels.items() {
         add_item(labels, item, limit, nodes)?;

@@ -9,7 +9,7 @@ use Rattle.vdv451_text.specs.declared.table.Head.{Head}
 use Rattle.vdv451_text.specs.Plain.{are_plain_columns, is_plain_column, is_plain_field, is_plain_name, is_plain_row}
 use Rattle.number_tables.specs.Numbers.{AreFull, PlainNumbers, number_field, number_head, number_row, number_rows}
 
-same_lengths : (m n : ℕ) → m ≡ n → (m == n) ≡ true
+pub same_lengths : (m n : ℕ) → m ≡ n → (m == n) ≡ true
 same_lengths m n e = grind arith
 
 -- a column of a plain name is plain
@@ -39,7 +39,7 @@ plain_rows columns (row ∷ rows) full =
     (plain_row columns row (All-head (λ row. length row ≡ length columns) row rows full))
     (plain_rows columns rows (All-tail (λ row. length row ≡ length columns) row rows full))
 
-few_heads : (columns : List (List ℕ)) → (not (length columns == 0) && (nat_le (length columns) 200 && list_all is_plain_name columns)) ≡ true → are_plain_columns (map number_head columns) ≡ true
+pub few_heads : (columns : List (List ℕ)) → (not (length columns == 0) && (nat_le (length columns) 200 && list_all is_plain_name columns)) ≡ true → are_plain_columns (map number_head columns) ≡ true
 few_heads columns plain =
     let some = and_parts (not (length columns == 0)) _ plain in
     let few = and_parts (nat_le (length columns) 200) _ some.1 in

@@ -2,9 +2,11 @@
 #![tactic(auto)]
 
 mod rows;
+mod signed;
 mod tables;
 #[cfg(test)]
 mod tests;
 
 pub use rows::number_row;
+pub use signed::signed_row;
 pub use tables::number_table;

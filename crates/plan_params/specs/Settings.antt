@@ -1,5 +1,5 @@
 -- What the tables of this project say.
-use Rattle.std.specs.Prelude.{ℕ, nat_lt, List, [], ◌∷◌, map, slice_index, if◌then◌else◌, codes}
+use Rattle.std.specs.Prelude.{ℕ, ◌==◌, nat_lt, List, [], ◌∷◌, map, slice_index, if◌then◌else◌, codes}
 use Rattle.plan_core.specs.declared.types.Point.{Point}
 use Rattle.vdv452_tables.specs.declared.net.Net.{Net}
 use Rattle.vdv452_tables.specs.LookUps.{extra_of}
@@ -36,7 +36,8 @@ pool_of row = record {
   stand_rate = slice_index row 7;
 }
 
--- GRUPPE_NR, ONR_TYP_NR, ORT_NR, ANZAHL, FIX_KOSTEN, SATZ, ANMELDE_SEK, ABMELDE_SEK
+-- GRUPPE_NR, ONR_TYP_NR, ORT_NR, ANZAHL, FIX_KOSTEN, SATZ, ANMELDE_SEK, ABMELDE_SEK, ZEHN_STD, KURZE_RUHE; a row without the last two
+-- has no allowances
 abbrev pub group_of : List ℕ → Group
 group_of row = record {
   number = slice_index row 0;
@@ -46,6 +47,8 @@ group_of row = record {
   rate = slice_index row 5;
   sign_on = slice_index row 6;
   sign_off = slice_index row 7;
+  ten = slice_index row 8 == 1;
+  reduced = slice_index row 9 == 1;
 }
 
 -- LI_NR, FZG_TYP_NR

@@ -216,6 +216,8 @@ const GROUP: Group = Group {
     rate: 1,
     sign_on: 600,
     sign_off: 300,
+    ten: false,
+    reduced: false,
 };
 
 #[test]

@@ -22,7 +22,7 @@ use depot_network::PoolNet;
 use plan_core::{Bytes, Memory, Price, Seq};
 use plan_round::{RoundFault, round};
 use std::alloc::Global;
-use umlauf_write::{Answer, in_printed_order, plan_tables};
+use umlauf_write::{block_tables, in_printed_order};
 use vdv451_text::{Table, write_tables};
 use vdv452_tables::{Needs, Network};
 
@@ -98,8 +98,7 @@ fn blocks_text(alloc: Global, model: &Day, rec_frt: &Table, blocks: Plan) -> Res
 {
     // The trips of a day are few: it says so.
     let _ = model.trips();
-    let answer = Answer { blocks };
-    let tables = plan_tables(alloc, model, rec_frt, &answer)?;
+    let tables = block_tables(alloc, model, rec_frt, &blocks)?;
     write_tables(alloc, tables.as_slice())
 }
 

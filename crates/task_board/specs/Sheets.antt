@@ -147,13 +147,17 @@ Claims s v n w = (w.1 ≡ v.1) × Drew v.0 n w.0 × IfWhole w.0
 abbrev pub IsBelowSeen : Sheet → ℕ → ℤ → Type 0
 IsBelowSeen v k y = (x : ℤ) → Contains v.looks (k, x) ⊎ Contains v.lowered (k, x) → y ≤ℤ x
 
+-- to a desk that has the whole share the value is 0 or one by which it lowered the class itself
+abbrev pub IsOwnOld : Sheet → ℕ → ℤ → Type 0
+IsOwnOld v k y = v.share ≡ whole → (y ≡ pos 0) ⊎ Contains v.lowered (k, y)
+
 -- the class of the word was looked at
 abbrev pub Looks : Step (Unit {0}) → Me (Unit {0}) Sheet → ℕ → Me (Unit {0}) Sheet → Type 0
 Looks s v n w = (w.1 ≡ v.1) × ((x : ℤ) × Stands n x × (x ≤ℤ pos 0) × (w.0 ≡ looked v.0 (s.word - 1) x) × IsBelowSeen v.0 (s.word - 1) x × IfWhole w.0)
 
 -- the class of the word was lowered by the value that the operand stands for
 abbrev pub Lowers : Step (Unit {0}) → Me (Unit {0}) Sheet → ℕ → Me (Unit {0}) Sheet → Type 0
-Lowers s v n w = (w.1 ≡ v.1) × ((x : ℤ) × Stands s.first x × (w.0 ≡ lowered_by v.0 (s.word - 1) x) × IfWhole w.0) × ((y : ℤ) × Stands n y × (y ≤ℤ pos 0) × IsBelowSeen v.0 (s.word - 1) y)
+Lowers s v n w = (w.1 ≡ v.1) × ((x : ℤ) × Stands s.first x × (w.0 ≡ lowered_by v.0 (s.word - 1) x) × IfWhole w.0) × ((y : ℤ) × Stands n y × (y ≤ℤ pos 0) × IsBelowSeen v.0 (s.word - 1) y × IsOwnOld v.0 (s.word - 1) y)
 
 -- nothing is done, and a desk that has the whole share is told so
 abbrev pub Settles : Step (Unit {0}) → Me (Unit {0}) Sheet → ℕ → Me (Unit {0}) Sheet → Type 0

@@ -1,6 +1,6 @@
 //! The steps of a board.
 ghost use Rattle.std.specs.Prelude.{◌≡◌, ◌+◌, ◌-◌, ◌≤ℤ◌, ◌<◌, ◌≤◌, ◌↔◌, [], pos, true, All, IfOk, IfSome, IfNone};
-ghost use Rattle.task_board.specs.Sheets.{whole, opening_words, fresh, extent, split_left, split_right, joined, looked, lowered_by, drew, missed, Stands, IfWhole, HasAll, IsBelowSeen};
+ghost use Rattle.task_board.specs.Sheets.{whole, opening_words, fresh, extent, split_left, split_right, joined, looked, lowered_by, drew, missed, Stands, IfWhole, HasAll, IsBelowSeen, IsOwnOld};
 ghost use Rattle.task_board.specs.Desks.{extent_of, sheet_of, IsDeskOf};
 
 use crate::desk::{Board, Desk};
@@ -132,6 +132,7 @@ impl Desk {
         ensures lowered { sheet_of self.new ≡ lowered_by (sheet_of self.old) class value }
         ensures most { result ≤ℤ pos 0 }
         ensures seen { IsBelowSeen (sheet_of self.old) class result }
+        ensures old { IsOwnOld (sheet_of self.old) class result }
         ensures whole { IfWhole (sheet_of self.new) }
     {
         let shared = &board.table.shared;

@@ -2,3 +2,8 @@ pub mod Numbered
 pub mod Noted
 pub mod Order
 pub mod Plain
+pub mod FoundRows
+pub mod FoundPlain
+pub mod Rows
+pub mod Lasts
+pub mod BoundRows

@@ -21,7 +21,7 @@ use Rattle.number_tables.specs.Numbers.{AreFull}
 use Rattle.umlauf_write.specs.Tables.{block_columns, block_of, block_row, cost_columns, cost_row, format_at, is_in, numbered, trip_row, trip_table, uid_field, with_uid}
 
 -- rows of numbered items are full
-full_from : {A : Type 0} (columns : List (List ℕ)) (row : ℕ → A → List (Option ℕ)) → ((n : ℕ) (item : A) → length (row n item) ≡ length columns) → (number : ℕ) (items : List A) → AreFull columns (numbered row number items)
+pub full_from : {A : Type 0} (columns : List (List ℕ)) (row : ℕ → A → List (Option ℕ)) → ((n : ℕ) (item : A) → length (row n item) ≡ length columns) → (number : ℕ) (items : List A) → AreFull columns (numbered row number items)
 full_from columns row width number [] = λ k d within. absurd (omega (arith, within))
 full_from columns row width number (item ∷ items) = λ k. elim k as (λ k. (d : List (Option ℕ)) → k < length (numbered row number (item ∷ items)) → length (slice_index_or (numbered row number (item ∷ items)) k d) ≡ length columns) [
   | zero ↦ λ d within. width number item
@@ -58,7 +58,7 @@ zip_set (head ∷ heads) (old ∷ row) (suc place) field d within plain all =
 abbrev no_head : Head
 no_head = record { name = []; format = [] }
 
-with_uid_plain : (heads : List Head) (place : Option ℕ) (row : List Field) (number : ℕ) → IfSome place (λ p. p < length heads) → number < 2 ^ 63 → is_plain_row heads row ≡ true → is_plain_row heads (with_uid heads place row number) ≡ true
+pub with_uid_plain : (heads : List Head) (place : Option ℕ) (row : List Field) (number : ℕ) → IfSome place (λ p. p < length heads) → number < 2 ^ 63 → is_plain_row heads row ≡ true → is_plain_row heads (with_uid heads place row number) ≡ true
 with_uid_plain heads None row number within small plain = plain
 with_uid_plain heads (Some place) row number within small plain =
     let parts = and_parts (length heads == length row) (list_all is_plain_pair (zip heads row)) plain in
@@ -80,7 +80,7 @@ place_there name (head ∷ heads) =
     split (bytes_eq head.name name)
 
 -- numbers of blocks are small
-block_small : (number : ℕ) (blocks : List Column) (trip : ℕ) → block_of number blocks trip ≤ number + length blocks
+pub block_small : (number : ℕ) (blocks : List Column) (trip : ℕ) → block_of number blocks trip ≤ number + length blocks
 block_small number [] trip = omega arith
 block_small number (block ∷ blocks) trip =
     let Goal : Bool → Type 0 = λ b. (if b then number else block_of (number + 1) blocks trip) ≤ number + length (block ∷ blocks) in

@@ -4,15 +4,21 @@
 
 mod answer;
 mod blocks;
+mod bounds;
 mod copies;
+mod duties;
+mod found;
+mod legs;
 mod numbers;
 mod printed;
 mod tables;
 #[cfg(test)]
 mod tests;
+mod text;
 mod trips;
 
 pub use answer::Answer;
 pub use copies::{copied_columns, copied_row};
 pub use printed::in_printed_order;
-pub use tables::plan_tables;
+pub use tables::{block_tables, plan_tables};
+pub use text::{DutyRow, PlanFault, PlanText};

@@ -28,7 +28,7 @@ fn uid_field(alloc: Global, format: &[u8], number: u32) -> Result<Field, Memory>
 }
 
 /// A row once more, with the number of its block.
-fn with_uid(
+pub(crate) fn with_uid(
     alloc: Global,
     heads: &[Head],
     place: Option<usize>,

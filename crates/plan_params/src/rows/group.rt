@@ -22,6 +22,10 @@ pub struct Group {
     pub sign_on: u32,
     /// ABMELDE_SEK, the seconds of signing off, at most 172,800.
     pub sign_off: u32,
+    /// ZEHN_STD is 1: a duty may have ten hours of driving (article 6(1) of Regulation (EC) 561/2006).
+    pub ten: bool,
+    /// KURZE_RUHE is 1: a reduced daily rest may follow a duty (article 8(2)).
+    pub reduced: bool,
 }
 
 impl TableRow for Group {
@@ -36,6 +40,8 @@ impl TableRow for Group {
             rate: number_at(row, 5),
             sign_on: number_at(row, 6),
             sign_off: number_at(row, 7),
+            ten: number_at(row, 8) == 1,
+            reduced: number_at(row, 9) == 1,
         }
     }
 }

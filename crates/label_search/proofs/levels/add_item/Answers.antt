@@ -16,7 +16,7 @@ make_item-requires-clause-sound g c =
     let w = g.W.Labels in
     let test = w.may_close s c.args.limit in
     AllSound-is (limited (w.labelling s) test) (w.good s) (w.value_at s) (w.sound s) (limited-safe (w.labelling s) (w.sound s) test (g.met.W.Labels.safe s)) c.args.item
-    c.as_slice.result.now (c.as_slice.ensures.value ∙ c.requires.nodes)
+    c.args.nodes.now.stock.kept c.requires.nodes
 
 pub keep_level-requires-clause-made : goal.keep_level-requires-clause-made
 keep_level-requires-clause-made g c =
@@ -29,7 +29,7 @@ keep_level-requires-clause-made g c =
     let P : List (Node g.row.W-Label.Denot) → Type 0 = λ ns. AllSound (EndsAt (w.sound s) (w.last s) c.args.item) ns in
     let limit_fits : FitsSigned w64 c.args.limit = search rules in
     let z = to_z-of_z w64 c.args.limit limit_fits in
-    let made = rw z at c.in_ok-make_item.ensures in
+    let made = rw z at c.in_ok-make_item.ensures.made in
     subst P (sym made)
-    (made-ends v (w.good s) (w.value_at s) (w.sound s) (w.count s) (w.last s) safe step c.as_slice.result.now c.args.item
-    (AllSound-is v (w.good s) (w.value_at s) (w.sound s) safe c.args.item c.as_slice.result.now (c.as_slice.ensures.value ∙ c.requires.nodes)))
+    (made-ends v (w.good s) (w.value_at s) (w.sound s) (w.count s) (w.last s) safe step c.args.nodes.now.stock.kept c.args.item
+    (AllSound-is v (w.good s) (w.value_at s) (w.sound s) safe c.args.item c.args.nodes.now.stock.kept c.requires.nodes))

@@ -1,4 +1,5 @@
-use Rattle.std.proofs.Common.{◌≡◌, arith, refl, ap, ◌∙◌, w64, rules}
+use Rattle.label_search.specs.declared.node.Node.{Node}
+use Rattle.std.proofs.Common.{List, get_or, ◌≡◌, arith, refl, ap, ◌∙◌, w64, rules}
 use Rattle.std.proofs.lemmas.Int.{to_z-of_z}
 use Rattle.std.specs.Prelude.{FitsSigned}
 use Rattle.label_search.specs.Levels.{level_so_far}
@@ -10,8 +11,10 @@ use Rattle.label_search.proofs.levels.extend_all.Goals as goal
 
 pub extend-label-requires-clause-sound : goal.extend-label-requires-clause-sound
 extend-label-requires-clause-sound g c =
-    AllSound-get (g.W.Labels.sound c.args.labels.now) c.args.nodes.now c.loop-place.place c.index-nodes-place.result c.requires.sound
-    (let below = c.loop-place-test.true in let there = c.requires.there in omega arith) c.index-nodes-place.is
+    let node = c.kept_at.result.now in
+    let is : node ≡ get_or c.args.stock.now.kept c.loop-place.place node = c.kept_at.ensures ∙ ap (λ (l : List (Node g.row.W-Label.Denot)). get_or l c.loop-place.place node) c.loop-place.invariant.kept in
+    AllSound-get (g.W.Labels.sound c.args.labels.now) c.args.stock.now.kept c.loop-place.place node c.requires.sound
+    (let below = c.loop-place-test.true in let there = c.requires.there in omega arith) is
 
 pub loop-place-preserved : goal.loop-place-preserved
 loop-place-preserved g c =
@@ -22,20 +25,23 @@ loop-place-preserved g c =
     let v = limited (w.labelling s) (w.may_close s c.args.limit) in
     let made = rw z at c.loop-place.invariant.made in
     let label = rw z at c.extend-label.ensures in
+    let node = c.kept_at.result.now in
+    let is : node ≡ get_or c.args.stock.now.kept c.loop-place.place node = c.kept_at.ensures ∙ ap (λ (l : List (Node g.row.W-Label.Denot)). get_or l c.loop-place.place node) c.loop-place.invariant.kept in
     record {
       order = (let below = c.loop-place-test.true in omega arith);
-      made = rw z (c.in_ok-insert_some.ensures ∙
-          level-step (insert_node (w.good s) (w.value_at s)) v c.args.item c.loop-place.place c.loop-place.place c.args.nodes.now c.index-nodes-place.result
-          (node_of c.args.item 0 (v.start c.args.item)) c.loop-place.made.items c.extend-label.result
-          (let below = c.loop-place-test.true in let there = c.requires.there in omega arith) c.index-nodes-place.is refl label made);
+      kept = c.in_ok-insert_some.ensures.kept ∙ c.loop-place.invariant.kept;
+      made = rw z (c.in_ok-insert_some.ensures.made ∙
+          level-step (insert_node (w.good s) (w.value_at s)) v c.args.item c.loop-place.place c.loop-place.place c.args.stock.now.kept node
+          (node_of c.args.item 0 (v.start c.args.item)) c.loop-place.stock.made c.extend-label.result
+          (let below = c.loop-place-test.true in let there = c.requires.there in omega arith) is refl label made);
     }
 
-pub returns : goal.returns
-returns g c =
+pub returns-clause-made : goal.returns-clause-made
+returns-clause-made g c =
     let s = c.args.labels.now in
     let w = g.W.Labels in
     let limit_fits : FitsSigned w64 c.args.limit = search rules in
     let z = to_z-of_z w64 c.args.limit limit_fits in
     let end : c.loop-place.place ≡ c.args.end = (let past = c.loop-place-test.false in let order = c.loop-place.invariant.order in omega arith) in
     let made = rw z at c.loop-place.invariant.made in
-    made ∙ ap (level_so_far (limited (w.labelling s) (w.may_close s c.args.limit)) (w.good s) (w.value_at s) c.args.nodes.now c.args.item) end
+    made ∙ ap (level_so_far (limited (w.labelling s) (w.may_close s c.args.limit)) (w.good s) (w.value_at s) c.args.stock.now.kept c.args.item) end

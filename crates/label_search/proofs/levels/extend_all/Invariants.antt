@@ -8,5 +8,6 @@ invariant-loop-place g l =
     let w = g.W.Labels in
     record {
       order : l.place ≤ l.end;
-      made : l.made.items ≡ level_so_far (limited (w.labelling l.labels) (w.may_close l.labels l.fn.limit)) (w.good l.labels) (w.value_at l.labels) l.nodes l.item l.place;
+      kept : l.stock.kept ≡ l.fn.stock.kept;
+      made : l.stock.made ≡ level_so_far (limited (w.labelling l.labels) (w.may_close l.labels l.fn.limit)) (w.good l.labels) (w.value_at l.labels) l.fn.stock.kept l.item l.place;
     }

@@ -8,9 +8,9 @@ abbrev pub invariant-loop-item : goal.invariant-loop-item
 invariant-loop-item g l =
     let w = g.W.Labels in
     record {
-      few : length l.nodes.nodes.items < 4294967295;
-      nodes : l.nodes.nodes.items ≡ nodes_below (limited (w.labelling l.labels) (w.may_close l.labels l.fn.limit)) (w.good l.labels) (w.value_at l.labels) l.item;
-      least : AllAtLeast (w.value_at l.labels) l.nodes.least l.nodes.nodes.items;
-      levels : AreLevels (w.sound l.labels) (w.last l.labels) (w.value_at l.labels) 0 l.nodes.nodes.items l.nodes.levels.items;
-      empty : l.nodes.made.items ≡ [];
+      few : length l.nodes.stock.kept < 4294967295;
+      nodes : l.nodes.stock.kept ≡ nodes_below (limited (w.labelling l.labels) (w.may_close l.labels l.fn.limit)) (w.good l.labels) (w.value_at l.labels) l.item;
+      least : AllAtLeast (w.value_at l.labels) l.nodes.least l.nodes.stock.kept;
+      levels : AreLevels (w.sound l.labels) (w.last l.labels) (w.value_at l.labels) 0 l.nodes.stock.kept l.nodes.levels.items;
+      empty : l.nodes.stock.made ≡ [];
     }

@@ -10,12 +10,12 @@ pub returns-clause-levels : goal.returns-clause-levels
 returns-clause-levels g c =
     let s = c.args.labels.now in
     let w = g.W.Labels in
-    let l : Level = record { item = c.args.item; end = length c.append.new.self.items; least = c.least_value-least.result } in
+    let l : Level = record { item = c.args.item; end = length c.keep_made.new.self.kept; least = c.least_value-least.result } in
     let fits : FitsSigned w64 c.least_value-least.result = search rules in
-    let nodes : c.append.new.self.items ≡ c.args.nodes.now.nodes.items ++ c.args.nodes.now.made.items = search rules in
+    let nodes : c.keep_made.new.self.kept ≡ c.args.nodes.now.stock.kept ++ c.args.nodes.now.stock.made = search rules in
     let levels : c.push_level.new.levels.items ≡ c.args.nodes.now.levels.items ++ l ∷ [] = search rules in
-    let least : AllAtLeast (w.value_at s) c.least_value-least.result c.args.nodes.now.made.items = search rules in
-    levels-kept (w.sound s) (w.last s) (w.value_at s) c.args.nodes.now.nodes.items c.args.nodes.now.made.items c.append.new.self.items c.args.nodes.now.levels.items c.push_level.new.levels.items l
+    let least : AllAtLeast (w.value_at s) c.least_value-least.result c.args.nodes.now.stock.made = search rules in
+    levels-kept (w.sound s) (w.last s) (w.value_at s) c.args.nodes.now.stock.kept c.args.nodes.now.stock.made c.keep_made.new.self.kept c.args.nodes.now.levels.items c.push_level.new.levels.items l
     nodes levels refl c.requires.levels c.requires.made least
 
 pub returns-clause-least : goal.returns-clause-least
@@ -23,9 +23,9 @@ returns-clause-least g c =
     let s = c.args.labels.now in
     let w = g.W.Labels in
     let fits : FitsSigned w64 c.lower-nodes.result = search rules in
-    let nodes : c.append.new.self.items ≡ c.args.nodes.now.nodes.items ++ c.args.nodes.now.made.items = search rules in
-    let made : AllAtLeast (w.value_at s) c.least_value-least.result c.args.nodes.now.made.items = search rules in
+    let nodes : c.keep_made.new.self.kept ≡ c.args.nodes.now.stock.kept ++ c.args.nodes.now.stock.made = search rules in
+    let made : AllAtLeast (w.value_at s) c.least_value-least.result c.args.nodes.now.stock.made = search rules in
     let first : c.lower-nodes.result ≤ℤ c.args.nodes.now.least = search rules in
     let second : c.lower-nodes.result ≤ℤ c.least_value-least.result = search rules in
     rw (to_z-of_z w64 _ fits)
-    (least-more (w.value_at s) c.args.nodes.now.nodes.items c.args.nodes.now.made.items c.append.new.self.items c.args.nodes.now.least c.least_value-least.result c.lower-nodes.result nodes c.requires.least made first second)
+    (least-more (w.value_at s) c.args.nodes.now.stock.kept c.args.nodes.now.stock.made c.keep_made.new.self.kept c.args.nodes.now.least c.least_value-least.result c.lower-nodes.result nodes c.requires.least made first second)

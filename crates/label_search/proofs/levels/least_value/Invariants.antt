@@ -2,8 +2,9 @@ use Rattle.std.proofs.Common.{◌≤◌, length, take}
 use Rattle.label_search.specs.Nodes.{AllAtLeast}
 use Rattle.label_search.proofs.levels.least_value.Given as goal
 
-abbrev pub invariant-loop-node : goal.invariant-loop-node
-invariant-loop-node g l = record {
-  order : l.node-index ≤ length l.nodes;
-  least : AllAtLeast (g.W.Labels.value_at l.labels) l.least (take l.node-index l.nodes);
+-- no value of the nodes that are passed is below
+abbrev pub invariant-loop-place : goal.invariant-loop-place
+invariant-loop-place g l = record {
+  order : l.place ≤ length l.stock.made;
+  least : AllAtLeast (g.W.Labels.value_at l.labels) l.least (take l.place l.stock.made);
 }

@@ -1,6 +1,6 @@
 use Rattle.std.proofs.Common.{rules, arith, refl, w64, FitsSigned}
 use Rattle.std.proofs.lemmas.Int.{to_z-of_z}
-use Rattle.task_board.proofs.Steps.{lowers, seen_below}
+use Rattle.task_board.proofs.Steps.{lowers, seen_below, own_same}
 use Rattle.task_board.proofs.desk.Desk.lower.Goals as goal
 
 pub fetch_min-before-requires : goal.fetch_min-before-requires
@@ -14,3 +14,9 @@ returns-clause-seen c =
     let e = c.fetch_min-before.ensures.2.2 in
     let fits : FitsSigned w64 c.value_of.result = search rules in
     λ x s. simp to_z-of_z (seen_below c.args.self.now.seat.me.0 c.args.class _ _ e.0 c.value_of.result refl e.1 c.value_of.ensures e.3 x s)
+
+pub returns-clause-old : goal.returns-clause-old
+returns-clause-old c =
+    let e = c.fetch_min-before.ensures.2.2 in
+    let fits : FitsSigned w64 c.value_of.result = search rules in
+    λ all. simp to_z-of_z (own_same c.args.self.now.seat.me.0 c.args.class _ _ e.0 c.value_of.result refl e.1 c.value_of.ensures e.4 all)

@@ -1,0 +1,5 @@
+pub mod Times
+pub mod LegLists
+pub mod Pieces
+pub mod Few
+pub mod Ordered

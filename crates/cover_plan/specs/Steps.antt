@@ -1,0 +1,40 @@
+-- What holds between the steps of planning.
+use Rattle.std.specs.Prelude.{ℕ}
+use Rattle.cover_core.specs.declared.Plan.{Plan}
+use Rattle.cover_core.specs.Cover.{Problem}
+use Rattle.cover_core.specs.Plans.{IsPlan}
+use Rattle.dual_bound.specs.declared.kept.Kept.{Kept}
+use Rattle.plan_round.specs.Rounding.{whole, left}
+use Rattle.plan_round.specs.Faults.{RoundsTo}
+use Rattle.plan_round.specs.Laws.{HasRoomForEach, IsStuck}
+use Rattle.price_rounds.specs.Rounds.{after_rounds}
+use Rattle.cover_plan.specs.declared.fault.PlanFault.{PlanFault}
+use Rattle.cover_plan.specs.declared.fault.PlanFault.TheVariants as faults
+use Rattle.cover_plan.specs.Endings.{Numbers, IsKept, HasNoPlan}
+use Rattle.cover_plan.specs.Ends.{IsPaidOffer}
+
+-- why the first pass ends planning
+abbrev pub IsCountCause : Problem → Numbers → PlanFault → Type 0
+IsCountCause counted numbers (faults.NoPlan bound places) = (none : HasNoPlan counted numbers bound places) × IsPaidOffer counted none.count
+IsCountCause counted numbers (faults.NotPlaced item partial) = ⊥
+IsCountCause counted numbers faults.Memory = Unit {0}
+
+-- rounding of the second pass leaves an item
+pub record LeavesOf (costed : Problem) (numbers : Numbers) (item : ℕ) (partial : Plan) : Type 0 where
+  pub cost : Kept
+  pub kept : IsKept costed numbers cost
+  pub rounds : RoundsTo costed cost.prices.items (after_rounds costed numbers.rounds).pool (left item partial.columns)
+  pub stuck : IsStuck costed item partial.columns
+  pub no_room : ¬ HasRoomForEach costed
+
+-- why the second pass, rounding and exchange give no plan
+abbrev pub IsCostCause : Problem → Numbers → PlanFault → Type 0
+IsCostCause costed numbers (faults.NoPlan bound places) = ⊥
+IsCostCause costed numbers (faults.NotPlaced item partial) = LeavesOf costed numbers item partial
+IsCostCause costed numbers faults.Memory = Unit {0}
+
+-- a plan that the pool of the second pass was rounded to
+pub record HasPool (costed : Problem) (numbers : Numbers) (cost : Kept) (plan : Plan) : Type 0 where
+  pub kept : IsKept costed numbers cost
+  pub rounds : RoundsTo costed cost.prices.items (after_rounds costed numbers.rounds).pool (whole plan.columns)
+  pub is_plan : IsPlan costed plan.columns

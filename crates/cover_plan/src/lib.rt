@@ -1,0 +1,16 @@
+//! Planning of a set partitioning problem: a plan, a bound on the number of columns of every plan, and a bound on their costs.
+//!
+//! Blocks of vehicles and duties of drivers are planned by the same call. Two passes of price rounds give the bounds and a pool of
+//! columns; the pool is rounded to a plan, and exchange steps make it cheaper. How planning ends is defined without workers
+//! (`specs/Endings.antt`), and in one way alone ([`ends_once`]).
+#![tactic(auto)]
+
+mod fault;
+mod laws;
+mod making;
+mod planned;
+
+pub use fault::PlanFault;
+pub use laws::ends_once;
+pub use making::plan_of;
+pub use planned::Planned;

@@ -1,0 +1,158 @@
+//! Both passes, rounding and exchange.
+
+ghost use Rattle.std.specs.Prelude.{◌≡◌, ◌<◌, ◌≤◌, List, sum, IfOk, IfErr};
+ghost use Rattle.cover_core.specs.declared.Column.{Column as PlanColumn};
+ghost use Rattle.cover_core.specs.Plans.{IsPlan, AreColumns};
+ghost use Rattle.cover_core.specs.FirstLeast.{AreCheap};
+ghost use Rattle.cover_core.specs.Laws.{IsCountOf};
+ghost use Rattle.plan_round.specs.Laws.{HasRoomForEach};
+ghost use Rattle.worker_price.specs.Work.{ArePricesFor};
+ghost use Rattle.price_rounds.specs.Efforts.{IsEffort};
+ghost use Rattle.price_rounds.specs.Rounds.{after_rounds, IsBoundOf};
+ghost use Rattle.cover_plan.specs.Endings.{HasPlaces, IsKept, IsMade, IsPlanned, numbers_of};
+ghost use Rattle.cover_plan.specs.Ends.{IsCause, IsCountBoundOf, IsPaidOffer};
+ghost use Rattle.cover_plan.specs.Steps.{IsCountCause, IsCostCause, HasPool};
+
+use crate::fault::PlanFault;
+use crate::planned::Planned;
+use cover_core::{Columns, Plan, Pricer, plan_sizes};
+use dual_bound::Kept;
+use plan_core::{Gate, Memory};
+use plan_round::{RoundFault, round};
+use price_rounds::{Effort, pass};
+use std::alloc::Global;
+use std::thread::Threads;
+use tail_exchange::improve;
+
+/// The sum of all caps.
+fn places<C: Columns>(columns: &C) -> u64
+    ensures { result ≡ sum (C.problem columns.now).caps }
+{
+    let mut sum = 0;
+    for class in 0..columns.classes() {
+        sum += u64::from(columns.cap(class));
+    }
+    sum
+}
+
+/// The kept offer with each worth 1, where its bound is not above the sum of all caps.
+fn count_offer<R: Threads + Sync, P: Pricer + Sync, G: Gate + Sync>(
+    rt: &R,
+    alloc: Global,
+    counted: &P,
+    effort: &Effort,
+    gate: &G,
+) -> Result<Kept, PlanFault>
+    requires effort { IsEffort effort.now }
+    ensures counts { IfOk result (HasPlaces (P.problem counted.now) (numbers_of effort.now)) }
+    ensures paid { IfOk result (IsPaidOffer (P.problem counted.now)) }
+    ensures cause { IfErr result (IsCountCause (P.problem counted.now) (numbers_of effort.now)) }
+{
+    match pass(rt, alloc, counted, effort, gate) {
+        Err(Memory) => Err(PlanFault::Memory),
+        Ok((_pool, kept)) => {
+            let places = places(counted);
+            if places < kept.bound {
+                let bound = kept.bound;
+                Err(PlanFault::NoPlan { bound, places })
+            } else {
+                Ok(kept)
+            }
+        }
+    }
+}
+
+/// A rounded plan after its exchange steps.
+fn improved<R: Threads + Sync, P: Pricer + Sync>(
+    rt: &R,
+    alloc: Global,
+    costed: &P,
+    plan: Plan,
+    cost: Kept,
+    effort: &Effort,
+) -> Result<(Plan, Kept), PlanFault>
+    requires pool { HasPool (P.problem costed.now) (numbers_of effort.now) cost plan }
+    requires paid { IsPaidOffer (P.problem costed.now) cost }
+    requires bound { IsBoundOf (P.problem costed.now) cost.bound }
+    ensures made { IfOk result (λ r. IsMade (P.problem costed.now) (numbers_of effort.now) r.1 r.0.columns) }
+    ensures plan { IfOk result (λ r. IsPlan (P.problem costed.now) r.0.columns) }
+    ensures cheap { IfOk result (λ r. AreCheap r.0.columns) }
+    ensures paid { IfOk result (λ r. IsPaidOffer (P.problem costed.now) r.1) }
+    ensures bound { IfOk result (λ r. IsBoundOf (P.problem costed.now) r.1.bound) }
+    ensures cause { IfErr result (λ fault. fault ≡ PlanFault.Memory) }
+{
+    let mut plan = plan;
+    match improve(rt, alloc, costed, &mut plan, effort.exchange) {
+        Err(Memory) => Err(PlanFault::Memory),
+        Ok(_made) => Ok((plan, cost)),
+    }
+}
+
+/// The pass with costs, rounding and exchange.
+fn cost_plan<R: Threads + Sync, P: Pricer + Sync, G: Gate + Sync>(
+    rt: &R,
+    alloc: Global,
+    costed: &P,
+    effort: &Effort,
+    gate: &G,
+) -> Result<(Plan, Kept), PlanFault>
+    requires effort { IsEffort effort.now }
+    ensures made { IfOk result (λ r. IsMade (P.problem costed.now) (numbers_of effort.now) r.1 r.0.columns) }
+    ensures plan { IfOk result (λ r. IsPlan (P.problem costed.now) r.0.columns) }
+    ensures cheap { IfOk result (λ r. AreCheap r.0.columns) }
+    ensures paid { IfOk result (λ r. IsPaidOffer (P.problem costed.now) r.1) }
+    ensures bound { IfOk result (λ r. IsBoundOf (P.problem costed.now) r.1.bound) }
+    ensures cause { IfErr result (IsCostCause (P.problem costed.now) (numbers_of effort.now)) }
+{
+    match pass(rt, alloc, costed, effort, gate) {
+        Err(Memory) => Err(PlanFault::Memory),
+        Ok((pool, kept)) => match round(alloc, costed, &pool, &kept.prices) {
+            Err(RoundFault::NotPlaced { item, partial }) => Err(PlanFault::NotPlaced {
+                item,
+                partial,
+            }),
+            Err(RoundFault::Memory) => Err(PlanFault::Memory),
+            Ok(plan) => improved(rt, alloc, costed, plan, kept, effort),
+        },
+    }
+}
+
+/// Plans a problem: a pass with each worth 1, which bounds the number of columns of every plan; a pass with costs, which bounds their
+/// costs; then the pool of the second pass is rounded at its kept prices, and exchange steps make the plan cheaper.
+///
+/// `counted` is the problem with each worth 1 and `costed` the one with costs. What is given is defined without workers and gates
+/// (`specs/Endings.antt`), and the definition admits one ending alone.
+///
+/// # Errors
+///
+/// `NoPlan` exactly where the kept bound of the first pass is above the sum of all caps; then there is no plan. Else `NotPlaced` exactly
+/// where rounding leaves an item, which does not happen where each item alone has a worth in a class whose cap is at least the number of
+/// items. And `Memory`.
+pub fn plan_of<R: Threads + Sync, P: Pricer + Sync, G: Gate + Sync>(
+    rt: &R,
+    alloc: Global,
+    counted: &P,
+    costed: &P,
+    effort: &Effort,
+    gate: &G,
+) -> Result<Planned, PlanFault>
+    requires effort { IsEffort effort.now }
+    requires counts { IsCountOf (P.problem costed.now) (P.problem counted.now) }
+    ensures planned { IfOk result (λ r. IsPlanned (P.problem counted.now) (P.problem costed.now) (numbers_of effort.now) r.count r.cost r.plan.columns) }
+    ensures plan { IfOk result (λ r. IsPlan (P.problem costed.now) r.plan.columns) }
+    ensures cheap { IfOk result (λ r. AreCheap r.plan.columns) }
+    ensures count_bound { IfOk result (λ r. IsCountBoundOf (P.problem costed.now) r.count.bound) }
+    ensures cost_bound { IfOk result (λ r. IsBoundOf (P.problem costed.now) r.cost.bound) }
+    ensures count_paid { IfOk result (λ r. IsPaidOffer (P.problem counted.now) r.count) }
+    ensures cost_paid { IfOk result (λ r. IsPaidOffer (P.problem costed.now) r.cost) }
+    ensures cause { IfErr result (IsCause (P.problem counted.now) (P.problem costed.now) (numbers_of effort.now)) }
+{
+    plan_sizes::<P>();
+    match count_offer(rt, alloc, counted, effort, gate) {
+        Err(fault) => Err(fault),
+        Ok(count) => match cost_plan(rt, alloc, costed, effort, gate) {
+            Err(fault) => Err(fault),
+            Ok((plan, cost)) => Ok(Planned { plan, count, cost }),
+        },
+    }
+}

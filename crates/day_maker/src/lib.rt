@@ -1,0 +1,11 @@
+//! Days that are made from a number: a network of seven lines with trips at drawn departures, as tables of planning files.
+#![tactic(auto)]
+
+mod cells;
+mod drawing;
+mod making;
+mod parts;
+mod tables;
+mod trips;
+
+pub use making::make_tables;

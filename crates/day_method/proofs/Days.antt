@@ -1,0 +1,22 @@
+-- A day ends in one way alone.
+use Rattle.std.proofs.Common.{◌≡◌, ℕ, true, false, List, sym, ap, ◌∙◌, subst}
+use Rattle.cover_core.specs.declared.Column.{Column}
+use Rattle.dual_bound.specs.declared.kept.Kept.{Kept}
+use Rattle.cover_plan.specs.Endings.{Numbers, Ending, planned, no_plan, not_placed, EndsAs}
+use Rattle.cover_plan.proofs.Once.{one_ending}
+use Rattle.day_method.specs.Method.{DayProblems, SidePlan, DayEnding, with_duties, blocks_after, DutiesEndAs, GoesOn, DayEndsAs}
+
+one_duties : (day : DayProblems) (numbers : Numbers) (blocks : SidePlan) (one other : DayEnding) → DutiesEndAs day numbers blocks one → DutiesEndAs day numbers blocks other → one ≡ other
+one_duties day numbers blocks one other h k =
+    h.is ∙ (ap (λ (e : Ending). with_duties day blocks e) (one_ending (day.duties blocks.columns true) (day.duties blocks.columns false) numbers h.duties k.duties h.ends k.ends) ∙ sym k.is)
+
+one_further : (day : DayProblems) (numbers : Numbers) (blocks : Ending) (one other : DayEnding) → GoesOn day numbers blocks one → GoesOn day numbers blocks other → one ≡ other
+one_further day numbers (planned count cost columns) one other h k = one_duties day numbers (blocks_after day count cost columns) one other h k
+one_further day numbers (no_plan bound places) one other h k = h ∙ sym k
+one_further day numbers (not_placed item partial) one other h k = h ∙ sym k
+
+pub one_day : (day : DayProblems) (numbers : Numbers) (one other : DayEnding) → DayEndsAs day numbers one → DayEndsAs day numbers other → one ≡ other
+one_day day numbers one other h k =
+    let same : h.blocks ≡ k.blocks = one_ending (day.blocks true) (day.blocks false) numbers h.blocks k.blocks h.ends k.ends in
+    let P : Ending → Type 0 = λ e. GoesOn day numbers e one in
+    one_further day numbers k.blocks one other (subst P same h.goes_on) k.goes_on

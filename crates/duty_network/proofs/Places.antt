@@ -1,0 +1,20 @@
+-- Items at places.
+use Rattle.std.proofs.Common.{◌≡◌, ℕ, pos, ◌<◌, ◌≤◌, zero, suc, List, [], ◌∷◌, length, get_or, slice_get, refl, arith}
+use Rattle.std.specs.Prelude.{Some, None}
+use Rattle.plan_core.specs.declared.types.Price.{Price}
+use Rattle.cover_core.specs.Plans.{price_at}
+
+pub at-get : {A : Type 0} (xs : List A) (k : ℕ) (d : A) → k < length xs → slice_get xs k ≡ Some (get_or xs k d)
+at-get [] k d h = absurd (omega arith)
+at-get (x ∷ xs) zero d h = refl
+at-get (x ∷ xs) (suc k) d h = at-get xs k d (omega arith)
+
+pub at-none : {A : Type 0} (xs : List A) (k : ℕ) → length xs ≤ k → slice_get xs k ≡ None
+at-none [] k h = refl
+at-none (x ∷ xs) zero h = absurd (omega arith)
+at-none (x ∷ xs) (suc k) h = at-none xs k (omega arith)
+
+pub price_at-none : (prices : List Price) (k : ℕ) → length prices ≤ k → price_at prices k ≡ pos 0
+price_at-none [] k h = refl
+price_at-none (x ∷ xs) zero h = absurd (omega arith)
+price_at-none (x ∷ xs) (suc k) h = price_at-none xs k (omega arith)

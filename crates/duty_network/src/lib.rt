@@ -1,0 +1,13 @@
+//! What a list of pieces is worth as a duty of a group of drivers under Regulation (EC) 561/2006: crew scheduling as a set partitioning
+//! problem. Pieces are items, groups of drivers are classes.
+#![tactic(auto)]
+
+mod columns;
+mod courses;
+mod grid;
+mod layout;
+mod marks;
+mod net;
+mod numbering;
+
+pub use net::DutyNet;

@@ -1,0 +1,19 @@
+use Rattle.std.proofs.Common.{◌≡◌, ◌∙◌, Some, sym, length}
+use Rattle.duty_network.specs.Ranges.{MarkFits}
+use Rattle.label_search.proofs.Limits.{passed-Some}
+use Rattle.duty_pricing.specs.Laws.{duty-safe}
+use Rattle.duty_pricing.proofs.labels.DutyLabels.likely.Goals as goal
+
+pub floor-requires : goal.floor-requires
+floor-requires c =
+    let s = c.args.self.now in
+    let safe = duty-safe s.net.now s.prices.now s.class s.crew s.group s.fits s.ranges s.moderate in
+    let (made, low) = passed-Some _ _ c.in-Some.mark (sym c.start.ensures ∙ c.in-Some.is) in
+    safe.starts c.loop-item.item c.in-Some.mark made
+
+pub dive-requires : goal.dive-requires
+dive-requires c =
+    let s = c.args.self.now in
+    let safe = duty-safe s.net.now s.prices.now s.class s.crew s.group s.fits s.ranges s.moderate in
+    let (made, low) = passed-Some _ _ c.in-Some.mark (sym c.start.ensures ∙ c.in-Some.is) in
+    safe.starts c.loop-item.item c.in-Some.mark made

@@ -1,0 +1,5 @@
+use Rattle.duty_pricing.proofs.labels.DutyLabels.likely.Given as goal
+
+-- nothing has to last
+abbrev pub invariant-loop-item : goal.invariant-loop-item
+invariant-loop-item l = Unit {0}

@@ -1,0 +1,93 @@
+//! Limits under which the first least list is likely to be found: they change the time of a search alone.
+
+ghost use Rattle.std.specs.Prelude.{IfSome, length};
+ghost use Rattle.duty_network.specs.Ranges.{MarkFits};
+
+use crate::labels::DutyLabels;
+use cover_core::Mark;
+use label_search::{Labels, rest};
+
+/// The lower of two numbers.
+fn lower(a: i64, b: i64) -> i64 {
+    if a < b { a } else { b }
+}
+
+/// So many percent of the way from a number to a greater one.
+fn part_way(from: i64, to: i64, percent: i64) -> i64 {
+    from.saturating_add((to.saturating_sub(from) / 100).saturating_mul(percent))
+}
+
+impl DutyLabels<'_, '_> {
+    /// What a list closes with at least.
+    fn floor(&self, mark: &Mark) -> i64
+        requires { MarkFits (length self.now.net.now.pieces) mark.now }
+    {
+        mark.value + rest(self.rests, mark.piece)
+    }
+
+    /// The lower of two marks by what their lists close with at least.
+    fn lower_mark(&self, best: Option<Mark>, next: Option<Mark>) -> Option<Mark>
+        requires best { IfSome best (MarkFits (length self.now.net.now.pieces)) }
+        requires next { IfSome next (MarkFits (length self.now.net.now.pieces)) }
+        ensures { IfSome result (MarkFits (length self.now.net.now.pieces)) }
+    {
+        match (best, next) {
+            (best, None) => best,
+            (None, next) => next,
+            (Some(a), Some(b)) => {
+                if self.floor(&b) < self.floor(&a) {
+                    Some(b)
+                } else {
+                    Some(a)
+                }
+            }
+        }
+    }
+
+    /// Of the extensions of a mark within a limit the one that closes with the least at least.
+    fn dive_step(&self, mark: &Mark, limit: i64) -> Option<Mark>
+        requires { MarkFits (length self.now.net.now.pieces) mark.now }
+        ensures { IfSome result (MarkFits (length self.now.net.now.pieces)) }
+    {
+        let mut best = None;
+        for item in 0..self.items() {
+            best = self.lower_mark(best, self.extend(mark, item, limit));
+        }
+        best
+    }
+
+    /// The least value with which some of the lists that a dive from a mark goes through close, or the limit.
+    fn dive(&self, first: Mark, limit: i64) -> i64
+        requires { MarkFits (length self.now.net.now.pieces) first }
+    {
+        let mut mark = first;
+        let mut least = limit;
+        for _ in 0..self.items() {
+            if let Some(value) = self.close(&mark) {
+                least = lower(least, value);
+            }
+            match self.dive_step(&mark, least) {
+                Some(next) => mark = next,
+                None => return least,
+            }
+        }
+        least
+    }
+
+    /// Limits to be tried before this one: 60 and 80 percent of the way from the least floor to the value that dives find, and that value.
+    pub(crate) fn likely(&self, limit: i64) -> [i64; 3] {
+        let mut least = limit;
+        let mut floor = limit;
+        for item in 0..self.items() {
+            if let Some(mark) = self.start(item, limit) {
+                floor = lower(floor, self.floor(&mark));
+                least = lower(least, self.dive(mark, least));
+            }
+        }
+        [
+            part_way(floor, least, 60),
+            part_way(floor, least, 80),
+            least,
+        ]
+    }
+}

@@ -1,0 +1,114 @@
+//! The pricer of duties.
+
+ghost use Rattle.std.specs.Prelude.{◌≡◌, ◌<◌, ◌≤◌, length, IfOk, IfSome};
+ghost use Rattle.cover_core.specs.Best.{best_of, within};
+ghost use Rattle.cover_core.specs.FirstLeast.{AllWithin};
+ghost use Rattle.duty_network.specs.Duties.{duties};
+
+use crate::bounds::bounds;
+use crate::labels::DutyLabels;
+use cover_core::{Column, Columns, Pricer, Prices};
+use duty_network::DutyNet;
+use label_search::best_column;
+use plan_core::{Memory, Price};
+use std::alloc::Global;
+use std::marker::Model;
+
+/// Finds the duties of least value over the pieces of a net. It keeps nothing between calls.
+#[derive(Drop)]
+pub struct DutyPricer<'n> {
+    net: &'n DutyNet<'n>,
+}
+
+impl<'n> Model for DutyPricer<'n> {
+    ghost use Rattle.duty_network.specs.Duties.{DutyFacts};
+
+    ghost Value = { DutyFacts };
+
+    ghost view = { λ pricer. pricer.net.now };
+}
+
+impl<'n> DutyPricer<'n> {
+    /// A pricer of the duties of a net. It takes no memory.
+    pub fn new(net: &'n DutyNet<'n>) -> DutyPricer<'n>
+        ensures { result ≡ net.now }
+    {
+        DutyPricer { net }
+    }
+}
+
+/// The first least duty of a class and group, where its value is at most the limit.
+fn best_duty(
+    alloc: Global,
+    net: &DutyNet<'_>,
+    class: u32,
+    prices: &[Price],
+    group: u32,
+    limit: i64,
+) -> Result<Option<Column>, Memory>
+    requires class { class < length net.now.params.groups }
+    requires prices { length prices.now ≡ length net.now.pieces }
+    requires moderate { AllWithin 10000000000000 prices.now }
+    ensures best { IfOk result (λ answer. answer ≡ within limit prices.now (best_of (duties net.now) prices.now class group)) }
+    ensures bound { IfOk result (λ answer. IfSome answer (λ column. column.worth ≤ 4000000000)) }
+{
+    net.fits();
+    let crew = *net.group(class);
+    let rests = bounds(alloc, net, class, &crew, prices)?;
+    let labels = DutyLabels {
+        net,
+        class,
+        crew,
+        prices,
+        rests: rests.as_slice(),
+        group,
+    };
+    let likely = labels.likely(limit);
+    best_column(alloc, net, &labels, class, &likely, limit)
+}
+
+impl Columns for DutyPricer<'_> {
+    ghost use Rattle.duty_network.specs.Duties.{duties};
+    ghost use Rattle.duty_network.specs.Listed.{duties_listed};
+
+    ghost problem = { duties };
+
+    ghost listed = { duties_listed };
+
+    fn items(&self) -> u32 {
+        self.net.items()
+    }
+
+    fn classes(&self) -> u32 {
+        self.net.classes()
+    }
+
+    fn cap(&self, class: u32) -> u32 {
+        self.net.cap(class)
+    }
+
+    fn worth(&self, class: u32, list: &[u32]) -> Option<u64> {
+        self.net.worth(class, list)
+    }
+}
+
+impl Pricer for DutyPricer<'_> {
+    /// The first least of all lawful duties of a class whose first piece is in a group, under every limit.
+    fn best(
+        &self,
+        alloc: Global,
+        class: u32,
+        prices: &Prices,
+        group: u32,
+        limit: i64,
+    ) -> Result<Option<Column>, Memory> {
+        best_duty(
+            alloc,
+            self.net,
+            class,
+            prices.items.as_slice(),
+            group,
+            limit,
+        )
+    }
+}

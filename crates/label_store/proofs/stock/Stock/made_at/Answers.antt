@@ -1,0 +1,32 @@
+use Rattle.std.proofs.Common.{◌≡◌, ◌≢◌, ◌+◌, ◌<◌, ◌++◌, ◌∷◌, [], List, ℕ, Some, arith, ap, drop, length, refl, slice_get, subst, sym, take, ◌∙◌}
+use Rattle.std.specs.Prelude.{slice_index_or}
+use Rattle.std.proofs.lemmas.Option.{get_or_from_slice_get}
+use Rattle.label_region.specs.Shelf.{IsLive, Shelf, label_at}
+use Rattle.label_store.specs.Stocks.{IsStocked, Stock, shown, stock}
+use Rattle.label_store.proofs.Shown.{live-right, live-at, shown-at, shown-length}
+use Rattle.label_store.proofs.stock.Stock.made_at.Goals as goal
+
+pub index-requires : goal.index-requires
+index-requires g c =
+    let r = c.self.inside in
+    let live = live-right {X = g.row.T.Denot} r.region r.kept.items r.made.items c.self.invariant.live in
+    omega (arith, r.made.ok, shown-length r.region r.made.items live, ap (λ (s : Stock g.row.T.Denot). length s.made) c.self.view_is)
+
+pub get-requires : goal.get-requires
+get-requires g c =
+    let r = c.self.inside in
+    let live = live-right {X = g.row.T.Denot} r.region r.kept.items r.made.items c.self.invariant.live in
+    let below : c.args.place < length r.made.items = omega (arith, shown-length r.region r.made.items live, ap (λ (s : Stock g.row.T.Denot). length s.made) c.self.view_is) in
+    subst (λ (n : ℕ). IsLive r.region n) (sym c.index.ensures) (live-at r.region r.made.items c.args.place c.index.result.now live below)
+
+pub returns : goal.returns
+returns g c =
+    let r = c.self.inside in
+    let live = live-right {X = g.row.T.Denot} r.region r.kept.items r.made.items c.self.invariant.live in
+    let below : c.args.place < length r.made.items = omega (arith, shown-length r.region r.made.items live, ap (λ (s : Stock g.row.T.Denot). length s.made) c.self.view_is) in
+    let is : slice_get c.args.self.now.made c.args.place ≡ Some c.get.result.now =
+    ap (λ (s : Stock g.row.T.Denot). slice_get s.made c.args.place) (sym c.self.view_is)
+    ∙ shown-at r.region r.made.items c.args.place c.index.result.now live below
+    ∙ ap (label_at r.region) (sym c.index.ensures)
+    ∙ c.get.ensures in
+    sym (get_or_from_slice_get c.args.self.now.made c.args.place c.get.result.now c.get.result.now is)

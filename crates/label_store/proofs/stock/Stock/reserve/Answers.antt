@@ -1,0 +1,12 @@
+use Rattle.std.proofs.Common.{◌≡◌, ◌≢◌, ◌+◌, ◌++◌, ◌∷◌, [], List, ℕ, Some, arith, ap, drop, length, refl, slice_get, subst, sym, take, ◌∙◌}
+use Rattle.std.specs.Prelude.{slice_index_or}
+use Rattle.label_region.specs.Shelf.{IsLive, Shelf, label_at}
+use Rattle.label_store.specs.Stocks.{IsStocked, Stock, shown, stock}
+use Rattle.label_store.proofs.Shown.{live-spare, shown-spare}
+use Rattle.label_store.proofs.stock.Stock.reserve.Goals as goal
+
+pub invariant_of-self : goal.invariant_of-self
+invariant_of-self g c =
+    let r = c.self.inside in
+    let P : Shelf g.row.T.Denot → Type 0 = λ s. IsStocked s r.kept.items r.made.items in
+    subst P (sym c.reserve.ensures.nothing_else) (record { live = live-spare r.region c.reserve.new.self.spare (r.kept.items ++ r.made.items) c.self.invariant.live; once = c.self.invariant.once })

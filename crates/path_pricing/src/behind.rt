@@ -1,0 +1,149 @@
+//! What the continuations of a block add at least.
+
+ghost use Rattle.std.specs.Prelude.{◌≡◌, ◌<◌, ◌≤◌, ◌+◌, ◌-◌, ◌*◌, ◌+ℤ◌, ◌-ℤ◌, ◌≤ℤ◌, neg_ℤ, pos, ℕ, ℤ, IfOk, IfSome, Some, length, slice_get};
+ghost use Rattle.cover_core.specs.FirstLeast.{AllWithin};
+ghost use Rattle.cover_core.specs.Plans.{number_at, price_at};
+ghost use Rattle.plan_params.specs.Limits.{IsPool};
+ghost use Rattle.depot_network.specs.Open.{scaled};
+ghost use Rattle.depot_network.specs.Walk.{added, ended};
+ghost use Rattle.path_pricing.specs.Blocks.{AreBoundsFrom, ClosesAbove, IsDeep, StepsAbove};
+
+use depot_network::{PoolNet, price};
+use label_search::rest;
+use plan_core::{Memory, Price};
+use plan_params::Pool;
+use std::alloc::Global;
+
+/// More than any list closes with.
+const FAR: i64 = 100_000_000_000_000_000;
+
+/// The lower of two numbers.
+fn lower(a: i64, b: i64) -> i64
+    ensures first { result ≤ℤ a }
+    ensures second { result ≤ℤ b }
+    ensures least { (x : ℤ) → x ≤ℤ a → x ≤ℤ b → x ≤ℤ result }
+{
+    if a < b { a } else { b }
+}
+
+/// What a link adds, with the rest behind it.
+fn sum_over(cost: i64, price: i64, rest: i64) -> i64
+    requires cost_low { pos 0 ≤ℤ cost }
+    requires cost_high { cost ≤ℤ pos 3456000000000 }
+    requires price_low { neg_ℤ (pos 10000000000000) ≤ℤ price }
+    requires price_high { price ≤ℤ pos 10000000000000 }
+    requires rest_low { neg_ℤ (pos 30000000000000000) ≤ℤ rest }
+    requires rest_high { rest ≤ℤ pos 100000000000000000 }
+    ensures { result ≡ cost -ℤ price +ℤ rest }
+{
+    cost - price + rest
+}
+
+/// What is known so far of the rest behind a trip, with a further trip looked at.
+fn with_link(
+    net: &PoolNet<'_>,
+    class: u32,
+    pool: &Pool,
+    prices: &[Price],
+    rests: &[i64],
+    t: u32,
+    u: u32,
+    least: i64,
+) -> i64
+    requires there { slice_get net.now.day.params.pools class ≡ Some pool.now }
+    requires ranges { IsPool pool.now }
+    requires moderate { AllWithin 10000000000000 prices.now }
+    requires trip { t < length net.now.day.trips }
+    requires next { u < length net.now.day.trips }
+    requires later { t < u }
+    requires few { length net.now.day.trips ≤ 3000 }
+    requires deep { IsDeep (length net.now.day.trips) u (number_at rests.now u) }
+    requires least_deep { IsDeep (length net.now.day.trips) t least }
+    ensures least { result ≤ℤ least }
+    ensures step { (cost : ℕ) → added net.now.day pool.now t u ≡ Some cost → result ≤ℤ (scaled net.now.counts cost -ℤ price_at prices.now u +ℤ number_at rests.now u) }
+    ensures deep { IsDeep (length net.now.day.trips) t result }
+{
+    match net.link_value(class, pool, t, u) {
+        None => least,
+        Some(cost) => lower(least, sum_over(cost, price(prices, u), rest(rests, u))),
+    }
+}
+
+/// What the pull-in behind a trip adds.
+fn with_pull_in(net: &PoolNet<'_>, class: u32, pool: &Pool, t: u32) -> i64
+    requires there { slice_get net.now.day.params.pools class ≡ Some pool.now }
+    requires ranges { IsPool pool.now }
+    requires trip { t < length net.now.day.trips }
+    ensures closes { ClosesAbove net.now.day net.now.counts pool.now t result }
+    ensures deep { IsDeep (length net.now.day.trips) t result }
+{
+    match net.pull_in_value(class, pool, t) {
+        None => FAR,
+        Some(cost) => cost,
+    }
+}
+
+/// What the continuations behind a trip add at least, from what those behind later trips do.
+fn rest_behind(
+    net: &PoolNet<'_>,
+    class: u32,
+    pool: &Pool,
+    prices: &[Price],
+    rests: &[i64],
+    t: u32,
+) -> i64
+    requires there { slice_get net.now.day.params.pools class ≡ Some pool.now }
+    requires ranges { IsPool pool.now }
+    requires moderate { AllWithin 10000000000000 prices.now }
+    requires trip { t < length net.now.day.trips }
+    requires few { length net.now.day.trips ≤ 3000 }
+    requires deep { (u : ℕ) → t < u → IsDeep (length net.now.day.trips) u (number_at rests.now u) }
+    ensures closes { ClosesAbove net.now.day net.now.counts pool.now t result }
+    ensures steps { StepsAbove net.now.day net.now.counts prices.now pool.now rests.now t (length net.now.day.trips) result }
+    ensures deep { IsDeep (length net.now.day.trips) t result }
+{
+    let count = net.day().trips().len() as u32;
+    let mut least = with_pull_in(net, class, pool, t);
+    for u in t + 1..count {
+        least = with_link(net, class, pool, prices, rests, t, u, least);
+    }
+    least
+}
+
+/// So many numbers.
+fn blank(alloc: Global, count: usize) -> Result<Vec<i64>, Memory>
+    ensures { IfOk result (λ numbers. length numbers.items ≡ count) }
+{
+    let mut numbers = Vec::new(alloc);
+    match numbers.resize(count, 0) {
+        Ok(()) => Ok(numbers),
+        Err(_) => Err(Memory),
+    }
+}
+
+/// For each trip from one on what the continuations behind it add at least, as far as links go: nothing is known here of what may be driven
+/// between two cuts. There are at most 3,000 trips; prices are from -10,000,000,000,000 to 10,000,000,000,000. `Memory` is the only error.
+pub fn rests_from(
+    alloc: Global,
+    net: &PoolNet<'_>,
+    class: u32,
+    pool: &Pool,
+    prices: &[Price],
+    from: u32,
+) -> Result<Vec<i64>, Memory>
+    requires there { slice_get net.now.day.params.pools class ≡ Some pool.now }
+    requires ranges { IsPool pool.now }
+    requires moderate { AllWithin 10000000000000 prices.now }
+    requires from { from ≤ length net.now.day.trips }
+    ensures { IfOk result (λ rests. AreBoundsFrom net.now.day net.now.counts prices.now pool.now rests.items from) }
+{
+    let count = net.day().trips().len();
+    let mut rests = blank(alloc, count)?;
+    let mut t = count as u32;
+    while t > from {
+        t -= 1;
+        let rest = rest_behind(net, class, pool, prices, rests.as_slice(), t);
+        rests[t as usize] = rest;
+    }
+    Ok(rests)
+}

@@ -1,0 +1,4 @@
+pub mod Efforts
+pub mod Example
+pub mod Rounds
+pub mod Steps

@@ -1,0 +1,133 @@
+//! The table REC_FRT of the trips of an answer.
+
+ghost use Rattle.std.specs.Prelude.{◌≡◌, ◌<◌, ◌≤◌, ◌^◌, true, [], All, IsTrue, IfOk, codes, filter, length, unwrap_or};
+ghost use Rattle.std.specs.List.{find};
+ghost use Rattle.cover_core.specs.Cover.{AllBelow};
+ghost use Rattle.vdv451_text.specs.Plain.{is_plain_table};
+ghost use Rattle.vdv452_tables.specs.Cells.{whole_number as whole_number_of};
+ghost use Rattle.umlauf_write.specs.Tables.{numbered};
+ghost use Rattle.umlauf_write.specs.Trips.{HasOneRow, found_row, found_table as found_table_of, is_number as is_number_of, is_row_of as is_row_of_spec, number_in as number_in_spec, row_of as row_of_spec};
+
+use crate::copies::copied_columns;
+use crate::numbers::block_numbers;
+use crate::trips::with_uid;
+use cover_core::Column;
+use day_model::Day;
+use plan_core::{Memory, Seq};
+use std::alloc::Global;
+use vdv451_text::{Field, Head, Table, spelled_number};
+use vdv452_tables::column_place;
+
+/// The whole number of a field, if it has one.
+fn whole_number(field: &Field) -> Option<i64>
+    ensures { result ≡ whole_number_of field.now }
+{
+    match field {
+        Field::Num(number) => Some(*number),
+        Field::Text(text) => spelled_number(text.as_slice()),
+        Field::Raw(bytes) => spelled_number(bytes.as_slice()),
+        Field::Empty => None,
+    }
+}
+
+/// The whole number that a row has in a column, if it has one.
+fn number_in(heads: &[Head], row: &[Field], name: &[u8]) -> Option<i64>
+    ensures { result ≡ number_in_spec heads.now row.now name.now }
+{
+    let place = column_place(heads, name)?;
+    whole_number(row.get(place)?)
+}
+
+/// Whether a number is there and is this one.
+fn is_number(number: u64, found: Option<i64>) -> bool
+    ensures { result ≡ is_number_of number found }
+{
+    match found {
+        Some(found) => found >= 0 && found as u64 == number,
+        None => false,
+    }
+}
+
+/// Whether a row is that of a trip of a version.
+fn is_row_of(heads: &[Head], version: u32, fid: u64, row: &[Field]) -> bool
+    ensures { result ≡ is_row_of_spec heads.now version fid row.now }
+{
+    is_number(u64::from(version), number_in(heads, row, b"BASIS_VERSION"))
+        && is_number(fid, number_in(heads, row, b"FRT_FID"))
+}
+
+/// The row of a trip of a version, by looking through all rows.
+fn searched<'t>(heads: &[Head], rows: &'t [Seq<Field>], version: u32, fid: u64) -> &'t [Field]
+    requires one { length (filter (is_row_of_spec heads.now version fid) rows.now) ≡ 1 }
+    ensures { result.now ≡ unwrap_or (find (is_row_of_spec heads.now version fid) rows.now) [] }
+{
+    for row in rows {
+        if is_row_of(heads, version, fid, row.as_slice()) {
+            return row.as_slice();
+        }
+    }
+    unreachable!()
+}
+
+/// The row of a trip of a version. It mostly stands at the place that is told first.
+fn row_of<'t>(table: &'t Table, told: u32, version: u32, fid: u64) -> &'t [Field]
+    requires one { HasOneRow table.now version fid }
+    ensures { result.now ≡ row_of_spec table.now version fid }
+{
+    let heads = table.columns.as_slice();
+    let rows = table.rows.as_slice();
+    if let Some(row) = rows.get(told as usize) {
+        if is_row_of(heads, version, fid, row.as_slice()) {
+            return row.as_slice();
+        }
+    }
+    searched(heads, rows, version, fid)
+}
+
+/// The rows of the day's trips by number, with the numbers of their blocks.
+fn found_rows(
+    alloc: Global,
+    day: &Day,
+    table: &Table,
+    blocks: &[Column],
+) -> Result<Seq<Seq<Field>>, Memory>
+    requires plain { IsTrue (is_plain_table table.now) }
+    requires one { All (λ trip. HasOneRow table.now day.now.kind.version trip.fid) day.now.trips }
+    requires few { length blocks.now ≤ 3000 }
+    requires items { All (λ block. AllBelow (length day.now.trips) block.items) blocks.now }
+    ensures { IfOk result (λ rows. rows ≡ numbered (found_row table.now day.now.kind.version blocks.now) 0 day.now.trips) }
+{
+    let trips = day.trips();
+    let told = day.rows();
+    let version = day.kind().version;
+    let numbers = block_numbers(alloc, trips.len(), blocks)?;
+    let heads = table.columns.as_slice();
+    let uid = column_place(heads, b"UM_UID");
+    let mut rows = Seq::new(alloc);
+    for (number, trip) in trips.iter().enumerate() {
+        let row = row_of(table, told[number], version, trip.fid);
+        rows.push(with_uid(alloc, heads, uid, row, numbers[number])?)?;
+    }
+    Ok(rows)
+}
+
+/// The table REC_FRT with the rows of the day's trips by number, as they were read but for UM_UID, which has the numbers of their blocks.
+pub(crate) fn found_table(
+    alloc: Global,
+    day: &Day,
+    table: &Table,
+    blocks: &[Column],
+) -> Result<Table, Memory>
+    requires plain { IsTrue (is_plain_table table.now) }
+    requires one { All (λ trip. HasOneRow table.now day.now.kind.version trip.fid) day.now.trips }
+    requires few { length blocks.now ≤ 3000 }
+    requires items { All (λ block. AllBelow (length day.now.trips) block.items) blocks.now }
+    ensures table { IfOk result (λ written. written ≡ found_table_of day.now table.now blocks.now) }
+    ensures plain { IfOk result (λ written. is_plain_table written ≡ true) }
+{
+    Ok(Table {
+        name: table.name.clone()?,
+        columns: copied_columns(alloc, table.columns.as_slice())?,
+        rows: found_rows(alloc, day, table, blocks)?,
+    })
+}
