@@ -1,4 +1,4 @@
-//! How long the ways of trips are.
+//! How long the routes of trips are, in metres (REC_SEL of VDV 452).
 #![tactic(auto)]
 
 mod lengths;
