@@ -8,7 +8,7 @@ use Rattle.vdv452_tables.specs.declared.fault.Refusal.{Refusal}
 use Rattle.vdv452_tables.specs.declared.table.Found.{Found}
 use Rattle.vdv452_tables.specs.Answers.{IsRefusal}
 use Rattle.vdv452_tables.specs.TypedRows.{typed}
-use Rattle.vdv452_tables.specs.Found.{found_cell, found_cells, found_key, found_faults, found_row_fault, found_row_faults}
+use Rattle.vdv452_tables.specs.Found.{found_field, found_cell, found_cells, found_key, found_faults, found_row_fault, found_row_faults}
 use Rattle.vdv452_tables.specs.Rows.{cell_fault, fault, is_twice, key_fault, own_key, when}
 use Rattle.vdv452_tables.specs.declared.fault.TableKind.TheVariants.{KeyTwice}
 use Rattle.vdv452_tables.proofs.Refusals.{refusal_front, refusal_same, refusal_after}
@@ -52,13 +52,13 @@ module _ (row : List Field) (found : List Found) (i : ℕ) (entry : Found) (at :
       by false beside = ap (λ k. k ++ found_key (drop (i + 1) found) row) (append-nil key) ∙ other_step key whole beside so_far
 
   module _ (table : List ℕ) (number : ℕ) (whole : List TableFault) (so_far : found_faults table number row (drop i found) ≡ whole) where
-    split : cell_fault table number entry.column (slice_get row entry.place) ++ found_faults table number row (drop (i + 1) found) ≡ whole
+    split : cell_fault table number entry.column (found_field row entry) ++ found_faults table number row (drop (i + 1) found) ≡ whole
     split = ap (found_faults table number row) (sym at) ∙ so_far
 
-    pub faults_step : cell_fault table number entry.column (slice_get row entry.place) ≡ [] → found_faults table number row (drop (i + 1) found) ≡ whole
+    pub faults_step : cell_fault table number entry.column (found_field row entry) ≡ [] → found_faults table number row (drop (i + 1) found) ≡ whole
     faults_step right = ap (λ fs. fs ++ found_faults table number row (drop (i + 1) found)) (sym right) ∙ split
 
-    pub cell_refused : (refusal : Refusal) → IsRefusal (cell_fault table number entry.column (slice_get row entry.place)) refusal → IsRefusal whole refusal
+    pub cell_refused : (refusal : Refusal) → IsRefusal (cell_fault table number entry.column (found_field row entry)) refusal → IsRefusal whole refusal
     cell_refused refusal given = refusal_same _ whole refusal split (refusal_front _ (found_faults table number row (drop (i + 1) found)) refusal given)
 
 module _ (found : List Found) (rows : List (List Field)) (i : ℕ) (row : List Field) (at : drop i rows ≡ row ∷ drop (i + 1) rows) where

@@ -1,5 +1,6 @@
 -- The columns of a schema with their places in a table.
-use Rattle.std.specs.Prelude.{ℕ, ◌+◌, List, [], ◌∷◌, ◌++◌, map, filter, Option, Some, None, slice_get}
+use Rattle.std.specs.Prelude.{ℕ, ◌+◌, List, [], ◌∷◌, ◌++◌, map, filter, Option, slice_get}
+use Rattle.std.specs.Option.{option_and_then}
 use Rattle.vdv451_text.specs.declared.table.Field.{Field}
 use Rattle.vdv451_text.specs.declared.table.Head.{Head}
 use Rattle.vdv452_tables.specs.declared.cell.Cell.{Cell}
@@ -8,17 +9,18 @@ use Rattle.vdv452_tables.specs.declared.schema.Column.{Column}
 use Rattle.vdv452_tables.specs.declared.table.Found.{Found}
 use Rattle.vdv452_tables.specs.Rows.{place_of, cell_in, cell_fault, key_fault, own_key}
 
-abbrev pub found_one : Column → Option ℕ → List Found
-found_one column None = []
-found_one column (Some place) = record { column = column; place = place } ∷ []
+-- each column with its place in the table, if the table has it
+abbrev pub found_column : List Head → Column → Found
+found_column heads column = record { column = column; place = place_of column.name heads }
 
--- the columns that the table has
 abbrev pub found_columns : List Head → List Column → List Found
-found_columns heads [] = []
-found_columns heads (column ∷ columns) = found_one column (place_of column.name heads) ++ found_columns heads columns
+found_columns heads = map (found_column heads)
+
+abbrev pub found_field : List Field → Found → Option Field
+found_field row found = option_and_then (slice_get row) found.place
 
 abbrev pub found_cell : List Field → Found → Cell
-found_cell row found = cell_in found.column (slice_get row found.place)
+found_cell row found = cell_in found.column (found_field row found)
 
 -- a row's values in the columns
 abbrev pub found_cells : List Found → List Field → List Cell
@@ -29,7 +31,7 @@ found_key found row = map (found_cell row) (filter (λ (f : Found). f.column.is_
 
 abbrev pub found_faults : List ℕ → ℕ → List Field → List Found → List TableFault
 found_faults table place row [] = []
-found_faults table place row (f ∷ found) = cell_fault table place f.column (slice_get row f.place) ++ found_faults table place row found
+found_faults table place row (f ∷ found) = cell_fault table place f.column (found_field row f) ++ found_faults table place row found
 
 -- of a row first the values, then the key
 abbrev pub found_row_fault : List ℕ → List Found → List (List Cell) → ℕ → List Field → List TableFault

@@ -7,7 +7,7 @@ use Rattle.vdv452_tables.specs.declared.schema.Schema.{Schema}
 
 -- a column of the key
 abbrev pub key_of : List ℕ → Domain → Column
-key_of name domain = record { name = name; domain = domain; is_key = true; may_be_empty = false }
+key_of name domain = record { name = name; domain = domain; is_key = true; may_be_empty = false; may_be_missing = false }
 
 -- a number of 32 bits in the key
 abbrev pub key : List ℕ → Column
@@ -23,7 +23,7 @@ word_key name = key_of name AnyWord
 
 -- a column beside the key
 abbrev pub plain : List ℕ → Domain → Column
-plain name domain = record { name = name; domain = domain; is_key = false; may_be_empty = false }
+plain name domain = record { name = name; domain = domain; is_key = false; may_be_empty = false; may_be_missing = false }
 
 -- a number of 32 bits
 abbrev pub number : List ℕ → Column
@@ -47,11 +47,15 @@ rate name = plain name (UpTo 10000)
 
 -- metres, or nothing where they are not known
 abbrev pub some_metres : List ℕ → Column
-some_metres name = record { name = name; domain = UpTo 1000000; is_key = false; may_be_empty = true }
+some_metres name = record { name = name; domain = UpTo 1000000; is_key = false; may_be_empty = true; may_be_missing = false }
 
 -- a column that must be there; its values may be anything
 abbrev pub unseen : List ℕ → Column
-unseen name = record { name = name; domain = Unseen; is_key = false; may_be_empty = true }
+unseen name = record { name = name; domain = Unseen; is_key = false; may_be_empty = true; may_be_missing = false }
+
+-- 0 or 1; 0 where the field is empty or the table lacks the column
+abbrev pub flag : List ℕ → Column
+flag name = record { name = name; domain = UpTo 1; is_key = false; may_be_empty = true; may_be_missing = true }
 
 abbrev pub needed : List ℕ → List Column → Schema
 needed name columns = record { name = name; is_optional = false; columns = columns }
@@ -169,5 +173,6 @@ drivers =
     (codes "X_FAHRER")
     (
     key (codes "GRUPPE_NR") ∷ number (codes "ONR_TYP_NR") ∷ number (codes "ORT_NR") ∷ count (codes "ANZAHL") ∷ fixed_costs (codes "FIX_KOSTEN")
-    ∷ rate (codes "SATZ") ∷ seconds (codes "ANMELDE_SEK") ∷ seconds (codes "ABMELDE_SEK") ∷ []
+    ∷ rate (codes "SATZ") ∷ seconds (codes "ANMELDE_SEK") ∷ seconds (codes "ABMELDE_SEK") ∷ flag (codes "ZEHN_STD")
+    ∷ flag (codes "KURZE_RUHE") ∷ []
     )

@@ -52,6 +52,7 @@ pub struct Column {
     pub domain: Domain,
     pub is_key: bool,
     pub may_be_empty: bool,
+    pub may_be_missing: bool,
 }
 
 /// A table that is read.
@@ -69,6 +70,7 @@ pub(crate) struct Outline<'a> {
     pub domain: Domain,
     pub is_key: bool,
     pub may_be_empty: bool,
+    pub may_be_missing: bool,
 }
 
 /// A number of 32 bits in the key.
@@ -80,6 +82,7 @@ fn key(name: &[u8]) -> Outline<'_>
         domain: Domain::UpTo(GREATEST),
         is_key: true,
         may_be_empty: false,
+        may_be_missing: false,
     }
 }
 
@@ -92,6 +95,7 @@ fn trip_key(name: &[u8]) -> Outline<'_>
         domain: Domain::LongUpTo(GREATEST_TRIP),
         is_key: true,
         may_be_empty: false,
+        may_be_missing: false,
     }
 }
 
@@ -104,6 +108,7 @@ fn word_key(name: &[u8]) -> Outline<'_>
         domain: Domain::AnyWord,
         is_key: true,
         may_be_empty: false,
+        may_be_missing: false,
     }
 }
 
@@ -116,6 +121,7 @@ fn plain(name: &[u8], domain: Domain) -> Outline<'_>
         domain: domain,
         is_key: false,
         may_be_empty: false,
+        may_be_missing: false,
     }
 }
 
@@ -163,6 +169,7 @@ fn some_metres(name: &[u8]) -> Outline<'_>
         domain: Domain::UpTo(GREATEST_LENGTH),
         is_key: false,
         may_be_empty: true,
+        may_be_missing: false,
     }
 }
 
@@ -175,6 +182,20 @@ fn unseen(name: &[u8]) -> Outline<'_>
         domain: Domain::Unseen,
         is_key: false,
         may_be_empty: true,
+        may_be_missing: false,
+    }
+}
+
+/// 0 or 1; 0 where the field is empty or the table lacks the column.
+fn flag(name: &[u8]) -> Outline<'_>
+    ensures { column_of result ≡ schema.flag name.now }
+{
+    Outline {
+        name,
+        domain: Domain::UpTo(1),
+        is_key: false,
+        may_be_empty: true,
+        may_be_missing: true,
     }
 }
 
@@ -186,6 +207,7 @@ fn copied(alloc: Global, outline: &Outline<'_>) -> Result<Column, Memory>
         domain: outline.domain,
         is_key: outline.is_key,
         may_be_empty: outline.may_be_empty,
+        may_be_missing: outline.may_be_missing,
     })
 }
 

@@ -6,7 +6,7 @@ ghost use Rattle.std.specs.Option.{option_copied};
 ghost use Rattle.vdv452_tables.specs.Answers.{IsRefusal};
 ghost use Rattle.vdv452_tables.specs.TypedRows.{typed};
 ghost use Rattle.vdv452_tables.specs.Cells.{cell_of as value_of, same_cells};
-ghost use Rattle.vdv452_tables.specs.Found.{found_columns, found_cells, found_key, found_faults, found_row_fault, found_row_faults};
+ghost use Rattle.vdv452_tables.specs.Found.{found_columns, found_cells, found_field, found_key, found_faults, found_row_fault, found_row_faults};
 ghost use Rattle.vdv452_tables.specs.Rows.{cell_in, cell_fault, field_fault, has_name, missing_column, is_twice, own_key, place_of as first_place, rows_of, table_faults, rows_in, faults_in, when};
 
 use crate::cell::{Cell, bytes_of, cell_of, is_empty_field};
@@ -18,11 +18,11 @@ use plan_core::{Memory, Seq};
 use std::alloc::Global;
 use vdv451_text::{Field, Head, Table};
 
-/// A column of a schema, and where it stands in a table.
+/// A column of a schema, and where it stands in a table, if it is there.
 #[derive(Drop)]
 pub(crate) struct Found {
     pub column: Column,
-    pub place: usize,
+    pub place: Option<usize>,
 }
 
 /// Where the first column of a name stands among the columns of a table, from 0; None where none has it.
@@ -46,10 +46,11 @@ fn copied_column(alloc: Global, column: &Column) -> Result<Column, Memory>
         domain: column.domain,
         is_key: column.is_key,
         may_be_empty: column.may_be_empty,
+        may_be_missing: column.may_be_missing,
     })
 }
 
-/// The columns with their places, or the first one that is missing.
+/// The columns with their places, or the first one that must be there and is missing.
 fn find_columns(
     alloc: Global,
     table: &[u8],
@@ -62,16 +63,15 @@ fn find_columns(
 {
     let mut found = Vec::new(alloc);
     for column in columns {
-        match column_place(heads, column.name.as_slice()) {
-            Some(place) => found.push(Found {
-                column: copied_column(alloc, column)?,
-                place,
-            })?,
-            None => {
-                let name = column.name.as_slice();
-                return Err(refusal_of(alloc, TableKind::NoColumn, table, name, 0));
-            }
+        let name = column.name.as_slice();
+        let place = column_place(heads, name);
+        if place.is_none() && !column.may_be_missing {
+            return Err(refusal_of(alloc, TableKind::NoColumn, table, name, 0));
         }
+        found.push(Found {
+            column: copied_column(alloc, column)?,
+            place,
+        })?;
     }
     Ok(found)
 }
@@ -119,11 +119,14 @@ fn read_cell(
     }
 }
 
-/// The field at a place of a row.
-fn field_at(row: &[Field], place: usize) -> Option<&Field>
-    ensures { option_copied result ≡ slice_get row.now place }
+/// The field of a row in a column, if there is one.
+fn field_at<'a>(row: &'a [Field], entry: &Found) -> Option<&'a Field>
+    ensures { option_copied result ≡ found_field row.now entry.now }
 {
-    row.get(place)
+    match entry.place {
+        Some(place) => row.get(place),
+        None => None,
+    }
 }
 
 /// How many columns are in the key.
@@ -155,7 +158,7 @@ fn read_key(
 {
     let mut key = Vec::with_capacity(alloc, key_count(found))?;
     for entry in found {
-        let field = field_at(row, entry.place);
+        let field = field_at(row, entry);
         let cell = read_cell(alloc, table, number, &entry.column, field)?;
         keep_in_key(&mut key, entry.column.is_key, cell)?;
     }
@@ -234,7 +237,7 @@ fn row_cells(alloc: Global, found: &[Found], row: &[Field]) -> Result<Seq<Cell>,
 {
     let mut cells = Vec::with_capacity(alloc, found.len())?;
     for entry in found {
-        let field = field_at(row, entry.place);
+        let field = field_at(row, entry);
         cells.push(right_cell(alloc, &entry.column, field)?)?;
     }
     Ok(Seq::from_vec(cells))

@@ -3,7 +3,7 @@
 ghost use Rattle.std.specs.Prelude.{◌≡◌, IfOk};
 ghost use Rattle.vdv452_tables.specs.Schema as schema;
 
-use super::{Schema, count, fixed_costs, key, needed, number, optional, rate, seconds};
+use super::{Schema, count, fixed_costs, flag, key, needed, number, optional, rate, seconds};
 use plan_core::Memory;
 use std::alloc::Global;
 
@@ -68,7 +68,8 @@ pub(crate) fn ways(alloc: Global) -> Result<Schema, Memory>
     optional(alloc, b"X_WEG", &outlines)
 }
 
-/// X_FAHRER: the groups of drivers, with their costs.
+/// X_FAHRER: the groups of drivers, with their costs and allowances. The two columns of allowances
+/// may be missing.
 pub(crate) fn drivers(alloc: Global) -> Result<Schema, Memory>
     ensures { IfOk result (λ found. found ≡ schema.drivers) }
 {
@@ -81,6 +82,8 @@ pub(crate) fn drivers(alloc: Global) -> Result<Schema, Memory>
         rate(b"SATZ"),
         seconds(b"ANMELDE_SEK"),
         seconds(b"ABMELDE_SEK"),
+        flag(b"ZEHN_STD"),
+        flag(b"KURZE_RUHE"),
     ];
     needed(alloc, b"X_FAHRER", &outlines)
 }
