@@ -34,7 +34,19 @@ const LINES: &[u8] =
 
 /// The tables of this project: X_ABLOESE is absent, and X_PLAN has two rows that are the same.
 const SETTINGS: &[u8] =
-    b"tbl; X_PLAN\natr; UEB_BEREICH_NR; UEB_FGR_NR; WENDE_SEK; MAX_WARTE_SEK; UEBERGABE_SEK\nfrm; num[9.0]; num[9.0]; num[9.0]; num[9.0]; num[9.0]\nrec; 5; 3; 60; 3600; 300\nrec; 5; 3; 60; 3600; 300\nend; 2\ntbl; X_HOF\natr; HOF_NR; ONR_TYP_NR; ORT_NR; FZG_TYP_NR; ANZAHL; FIX_KOSTEN; LEER_SATZ; STAND_SATZ\nfrm; num[9.0]; num[9.0]; num[9.0]; num[9.0]; num[9.0]; num[9.0]; num[9.0]; num[9.0]\nrec; 1; 2; 20; 2; 4; 100; 1; 3\nend; 1\ntbl; X_LINIE_FZG\natr; LI_NR; FZG_TYP_NR\nfrm; num[9.0]; num[9.0]\nrec; 7; 2\nend; 1\ntbl; X_WEG\natr; ONR_TYP_NR; ORT_NR; ZIEL_TYP; ZIEL_NR; WEG_SEK\nfrm; num[9.0]; num[9.0]; num[9.0]; num[9.0]; num[9.0]\nrec; 1; 10; 2; 20; 120\nend; 1\ntbl; X_FAHRER\natr; GRUPPE_NR; ONR_TYP_NR; ORT_NR; ANZAHL; FIX_KOSTEN; SATZ; ANMELDE_SEK; ABMELDE_SEK\nfrm; num[9.0]; num[9.0]; num[9.0]; num[9.0]; num[9.0]; num[9.0]; num[9.0]; num[9.0]\nrec; 1; 1; 10; 9; 50; 3; 300; 200\nend; 1\n";
+    b"tbl; X_PLAN\natr; UEB_BEREICH_NR; UEB_FGR_NR; WENDE_SEK; MAX_WARTE_SEK; UEBERGABE_SEK\nfrm; num[9.0]; num[9.0]; num[9.0]; num[9.0]; num[9.0]\nrec; 5; 3; 60; 3600; 300\nrec; 5; 3; 60; 3600; 300\nend; 2\ntbl; X_HOF\natr; HOF_NR; ONR_TYP_NR; ORT_NR; FZG_TYP_NR; ANZAHL; FIX_KOSTEN; LEER_SATZ; STAND_SATZ\nfrm; num[9.0]; num[9.0]; num[9.0]; num[9.0]; num[9.0]; num[9.0]; num[9.0]; num[9.0]\nrec; 1; 2; 20; 2; 4; 100; 1; 3\nend; 1\ntbl; X_LINIE_FZG\natr; LI_NR; FZG_TYP_NR\nfrm; num[9.0]; num[9.0]\nrec; 7; 2\nend; 1\ntbl; X_WEG\natr; ONR_TYP_NR; ORT_NR; ZIEL_TYP; ZIEL_NR; WEG_SEK\nfrm; num[9.0]; num[9.0]; num[9.0]; num[9.0]; num[9.0]\nrec; 1; 10; 2; 20; 120\nend; 1\n";
+
+/// The columns of X_FAHRER that must be there.
+const GROUPS: &[u8] =
+    b"tbl; X_FAHRER\natr; GRUPPE_NR; ONR_TYP_NR; ORT_NR; ANZAHL; FIX_KOSTEN; SATZ; ANMELDE_SEK; ABMELDE_SEK";
+
+/// A group without columns of allowances.
+const PLAIN: &[u8] =
+    b"\nfrm; num[9.0]; num[9.0]; num[9.0]; num[9.0]; num[9.0]; num[9.0]; num[9.0]; num[9.0]\nrec; 1; 1; 10; 9; 50; 3; 300; 200\nend; 1\n";
+
+/// The columns of allowances, the second one first, and a group whose fields of them follow.
+const ALLOWED: &[u8] =
+    b"; KURZE_RUHE; ZEHN_STD\nfrm; num[9.0]; num[9.0]; num[9.0]; num[9.0]; num[9.0]; num[9.0]; num[9.0]; num[9.0]; num[1.0]; num[1.0]\nrec; 1; 1; 10; 9; 50; 3; 300; 200; ";
 
 const HERE: Point = Point { typ: 1, nr: 10 };
 
@@ -119,8 +131,8 @@ fn reads_a_day_or_names_its_first_fault(rt: HostRuntime) -> Result<(), Memory> {
     Ok(())
 }
 
-/// A network whose REC_ORT has this second row.
-fn network_tables(alloc: Global, point: &[u8]) -> Result<Seq<Table>, Memory> {
+/// A network whose X_FAHRER goes on so and whose REC_ORT has this second row.
+fn network_tables(alloc: Global, groups: [&[u8]; 2], point: &[u8]) -> Result<Seq<Table>, Memory> {
     let parts = [
         DAYS,
         TRIPS,
@@ -128,6 +140,9 @@ fn network_tables(alloc: Global, point: &[u8]) -> Result<Seq<Table>, Memory> {
         b"end; 2\n",
         LINES,
         SETTINGS,
+        GROUPS,
+        groups[0],
+        groups[1],
         POINTS,
         point,
         TIMES,
@@ -174,7 +189,7 @@ fn has_settings(net: &Network) -> bool {
 #[test]
 fn looks_up_what_the_rows_say(rt: HostRuntime) -> Result<(), Memory> {
     let alloc = rt.alloc();
-    let tables = network_tables(alloc, b"rec; 1; 1; 20\n")?;
+    let tables = network_tables(alloc, [PLAIN, b""], b"rec; 1; 1; 20\n")?;
     let variant = Bytes::from_vec(Vec::from_slice(alloc, b"H")?);
     assert!(rt; have_few_rows(tables.as_slice()));
     match read_tables(alloc, tables.as_slice(), Needs::All) {
@@ -196,11 +211,48 @@ fn is_second_point(refused: &TableFault) -> bool {
 #[test]
 fn a_point_may_not_stand_twice(rt: HostRuntime) -> Result<(), Memory> {
     let alloc = rt.alloc();
-    let tables = network_tables(alloc, b"rec; 1; 1; 10\n")?;
+    let tables = network_tables(alloc, [PLAIN, b""], b"rec; 1; 1; 10\n")?;
     assert!(rt; have_few_rows(tables.as_slice()));
     match read_tables(alloc, tables.as_slice(), Needs::All) {
         Ok(_) => assert!(rt; false),
         Err(refused) => assert!(rt; is_second_point(&refused)),
+    }
+    Ok(())
+}
+
+fn has_group(net: &Network, ten: u32, reduced: u32) -> bool {
+    let [group] = net.extra("X_FAHRER") else {
+        return false;
+    };
+    group.as_slice() == [1, 1, 10, 9, 50, 3, 300, 200, ten, reduced].as_slice()
+}
+
+fn is_no_flag(refused: &TableFault) -> bool {
+    refused.kind == TableKind::Range
+        && refused.row == 1
+        && refused.table.as_slice() == b"X_FAHRER".as_slice()
+        && refused.column.as_slice() == b"ZEHN_STD".as_slice()
+}
+
+#[test]
+fn allowances_may_be_missing_or_empty(rt: HostRuntime) -> Result<(), Memory> {
+    let alloc = rt.alloc();
+    let cases: [([&[u8]; 2], Option<(u32, u32)>); 4] = [
+        ([PLAIN, b""], Some((0, 0))),
+        ([ALLOWED, b"; 1\nend; 1\n"], Some((1, 0))),
+        ([ALLOWED, b"1; 0\nend; 1\n"], Some((0, 1))),
+        ([ALLOWED, b"1; 2\nend; 1\n"], None),
+    ];
+    for (groups, flags) in cases {
+        let tables = network_tables(alloc, groups, b"rec; 1; 1; 20\n")?;
+        assert!(rt; have_few_rows(tables.as_slice()));
+        match read_tables(alloc, tables.as_slice(), Needs::All) {
+            Ok(net) => match flags {
+                Some((ten, reduced)) => assert!(rt; has_group(&net, ten, reduced)),
+                None => assert!(rt; false),
+            },
+            Err(refused) => assert!(rt; flags.is_none() && is_no_flag(&refused)),
+        }
     }
     Ok(())
 }
