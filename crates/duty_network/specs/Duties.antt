@@ -109,6 +109,10 @@ caps_of groups = map (λ (g : Group). g.cap) groups
 abbrev pub duties : DutyFacts → Problem
 duties d = record { items = length d.pieces; caps = caps_of d.params.groups; worth = duty_worth d }
 
+-- the duties over some pieces with these settings, counted or with their costs
+abbrev pub duties_of : ParamRows → List Piece → Bool → Problem
+duties_of params pieces counts = duties (record { pieces = pieces; params = params; counts = counts })
+
 -- The same by numbers.
 abbrev pub with_piece : {A : Type 0} → DutyFacts → ℕ → (Piece → Option A) → Option A
 with_piece d p f = option_and_then f (slice_get d.pieces p)

@@ -5,3 +5,4 @@ pub mod Ranges
 pub mod Layout
 pub mod Courses
 pub mod Listed
+pub mod Counted

@@ -5,9 +5,11 @@
 mod columns;
 mod courses;
 mod grid;
+mod laws;
 mod layout;
 mod marks;
 mod net;
 mod numbering;
 
+pub use laws::counted_duties;
 pub use net::DutyNet;
