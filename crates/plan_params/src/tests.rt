@@ -8,7 +8,7 @@ use std::alloc::Global;
 use vdv451_text::{Field, Head, Table};
 use vdv452_tables::{Needs, Network, read_tables};
 
-/// The rows of the tables of this project, one behind another.
+/// The rows of the tables of this project, one behind another; X_FAHRER lacks ZEHN_STD.
 #[derive(Clone, Copy)]
 struct Rows<'a> {
     plan: &'a [i64],
@@ -26,7 +26,7 @@ fn worked() -> Rows<'static> {
         line_types: &[],
         reliefs: &[1, 2],
         ways: &[1, 2, 2, 9, 1_200, 2, 9, 1, 2, 1_200],
-        drivers: &[1, 2, 9, 2, 500, 1, 600, 300],
+        drivers: &[1, 2, 9, 2, 500, 1, 600, 300, 1],
     }
 }
 
@@ -119,7 +119,8 @@ fn add_own(alloc: Global, tables: &mut Vec<Table>, rows: Rows<'_>) -> Result<(),
     add(alloc, tables, b"X_ABLOESE", names, rows.reliefs)?;
     let names = b"ONR_TYP_NR ORT_NR ZIEL_TYP ZIEL_NR WEG_SEK ";
     add(alloc, tables, b"X_WEG", names, rows.ways)?;
-    let names = b"GRUPPE_NR ONR_TYP_NR ORT_NR ANZAHL FIX_KOSTEN SATZ ANMELDE_SEK ABMELDE_SEK ";
+    let names =
+        b"GRUPPE_NR ONR_TYP_NR ORT_NR ANZAHL FIX_KOSTEN SATZ ANMELDE_SEK ABMELDE_SEK KURZE_RUHE ";
     add(alloc, tables, b"X_FAHRER", names, rows.drivers)
 }
 
@@ -217,7 +218,7 @@ const GROUP: Group = Group {
     sign_on: 600,
     sign_off: 300,
     ten: false,
-    reduced: false,
+    reduced: true,
 };
 
 #[test]
@@ -305,7 +306,7 @@ fn a_row_may_name_what_is_not_there(rt: HostRuntime) -> Result<(), Memory> {
     assert!(rt; is_refused(alloc, rows, ParamKind::UnknownPoint, b"X_ABLOESE", 2)?);
 
     let ways = &[1, 2, 2, 8, 1_200];
-    let drivers = &[1, 2, 8, 2, 500, 1, 600, 300];
+    let drivers = &[1, 2, 8, 2, 500, 1, 600, 300, 0];
     let rows = Rows { drivers, ..good };
     assert!(rt; is_refused(alloc, rows, ParamKind::UnknownPoint, b"X_FAHRER", 1)?);
 
