@@ -3,5 +3,6 @@ pub mod Driving
 pub mod Walk
 pub mod Open
 pub mod Listed
+pub mod Counted
 pub mod BlockMarks
 pub mod MarkExamples

@@ -3,6 +3,7 @@
 #![tactic(auto)]
 
 mod cost;
+mod laws;
 mod network;
 mod open;
 mod opening;
@@ -10,6 +11,7 @@ mod step;
 #[cfg(test)]
 mod tests;
 
+pub use laws::counted_blocks;
 pub use network::PoolNet;
 pub use open::OpenBlock;
 pub use opening::price;
