@@ -14,7 +14,10 @@ use Rattle.day_model.specs.Facts.{DayFacts, admits}
 use Rattle.day_model.specs.Links.{given, link, pull_in, pull_out, with_pool, with_trip}
 use Rattle.day_model.specs.Blocks.{link_cost}
 use Rattle.mark_cover.specs.Marking.{Marking, IsOrdered, IsPlaced}
-use Rattle.depot_network.specs.BlockMarks.{most_driving, scaled, trip_seconds, mark, kept, first_mark, moves_of, is_cut_stand, driven_on, extended_over, extended_mark, closed_value, is_as_good, block_marking}
+use Rattle.day_model.specs.Pieces.{longest_driving}
+use Rattle.depot_network.specs.Driving.{trip_seconds}
+use Rattle.depot_network.specs.Open.{scaled}
+use Rattle.depot_network.specs.BlockMarks.{mark, kept, first_mark, moves_of, is_cut_stand, driven_on, extended_over, extended_mark, closed_value, is_as_good, block_marking}
 
 some_same : {A : Type 0} (x y : A) → Some x ≡ Some y → x ≡ y
 some_same {A = A} x y e = let f : Option A → A = λ o. unwrap_or o x in ap f e
@@ -63,30 +66,30 @@ parts-good a b h =
     (and_true (nat_eq a.class b.class) (nat_eq a.trip b.trip) (grind (arith, nat_tests)) (grind (arith, nat_tests)))
     (and_true (nat_le a.driving b.driving) (int_le a.value b.value) (grind (arith, nat_tests)) (grind (arith, ints)))
 
-below-limit : (m n : ℕ) → m ≤ n → nat_le n most_driving ≡ true → nat_le m most_driving ≡ true
+below-limit : (m n : ℕ) → m ≤ n → nat_le n longest_driving ≡ true → nat_le m longest_driving ≡ true
 below-limit m n h k = grind (arith, nat_tests)
 
 -- less driving and a smaller value open what more of both open
 driven-kept : (cut : Bool) (first first' second second' class class' k : ℕ) (value value' : ℤ) (b : BlockMark) → class ≡ class' → first ≤ first' → second ≤ second' → (cut ≡ true → second ≡ second') →
     value ≤ℤ value' → driven_on cut first' second' class' value' k ≡ Some b → (a : BlockMark) × (driven_on cut first second class value k ≡ Some a) × (is_as_good a b ≡ true)
 driven-kept true first first' second second' class class' k value value' b same less more equal low e =
-    let (limit, rest) = given_some (nat_le first' most_driving) (kept (mark class' k second' value')) b e in
-    let (limit2, is) = given_some (nat_le second' most_driving) (Some (mark class' k second' value')) b rest in
+    let (limit, rest) = given_some (nat_le first' longest_driving) (kept (mark class' k second' value')) b e in
+    let (limit2, is) = given_some (nat_le second' longest_driving) (Some (mark class' k second' value')) b rest in
     let b_is = some_same (mark class' k second' value') b is in
     let a = mark class k second value in
     let P : BlockMark → Type 0 = λ x. is_as_good a x ≡ true in (
       a,
-      given_onto (nat_le first most_driving) (kept a) (below-limit first first' less limit) ∙ given_onto (nat_le second most_driving) (Some a) (below-limit second second' more limit2),
+      given_onto (nat_le first longest_driving) (kept a) (below-limit first first' less limit) ∙ given_onto (nat_le second longest_driving) (Some a) (below-limit second second' more limit2),
       subst P b_is (parts-good a (mark class' k second' value') (record { class = same; trip = refl; driving = more; value = low })),
     )
 driven-kept false first first' second second' class class' k value value' b same less more equal low e =
-    let (limit, is) = given_some (nat_le (first' + second') most_driving) (Some (mark class' k (first' + second') value')) b e in
+    let (limit, is) = given_some (nat_le (first' + second') longest_driving) (Some (mark class' k (first' + second') value')) b e in
     let b_is = some_same (mark class' k (first' + second') value') b is in
     let a = mark class k (first + second) value in
     let sum : first + second ≤ first' + second' = omega arith in
     let P : BlockMark → Type 0 = λ x. is_as_good a x ≡ true in (
       a,
-      given_onto (nat_le (first + second) most_driving) (Some a) (below-limit (first + second) (first' + second') sum limit),
+      given_onto (nat_le (first + second) longest_driving) (Some a) (below-limit (first + second) (first' + second') sum limit),
       subst P b_is (parts-good a (mark class' k (first' + second') value') (record { class = same; trip = refl; driving = sum; value = low })),
     )
 
@@ -154,13 +157,13 @@ closed-kept : (day : DayFacts) (counts : Bool) (a b : BlockMark) (v : ℤ) → i
     (u : ℤ) × (closed_value day counts a ≡ Some u) × (u ≤ℤ v)
 closed-kept day counts a b v good e =
     let better = good-parts a b good in
-    let pools = and_then_some (λ (pool : Pool). with_trip day b.trip (λ t. option_and_then (λ inward. given (nat_le (b.driving + inward) most_driving) (Some (b.value +ℤ scaled counts (pool.dead_rate * inward)))) (pull_in day pool t))) (slice_get day.params.pools b.class) v e in
+    let pools = and_then_some (λ (pool : Pool). with_trip day b.trip (λ t. option_and_then (λ inward. given (nat_le (b.driving + inward) longest_driving) (Some (b.value +ℤ scaled counts (pool.dead_rate * inward)))) (pull_in day pool t))) (slice_get day.params.pools b.class) v e in
     let pool = pools.0 in
-    let trips = and_then_some (λ (t : Trip). option_and_then (λ inward. given (nat_le (b.driving + inward) most_driving) (Some (b.value +ℤ scaled counts (pool.dead_rate * inward)))) (pull_in day pool t)) (slice_get day.trips b.trip) v pools.2 in
+    let trips = and_then_some (λ (t : Trip). option_and_then (λ inward. given (nat_le (b.driving + inward) longest_driving) (Some (b.value +ℤ scaled counts (pool.dead_rate * inward)))) (pull_in day pool t)) (slice_get day.trips b.trip) v pools.2 in
     let t = trips.0 in
-    let ins = and_then_some (λ inward. given (nat_le (b.driving + inward) most_driving) (Some (b.value +ℤ scaled counts (pool.dead_rate * inward)))) (pull_in day pool t) v trips.2 in
+    let ins = and_then_some (λ inward. given (nat_le (b.driving + inward) longest_driving) (Some (b.value +ℤ scaled counts (pool.dead_rate * inward)))) (pull_in day pool t) v trips.2 in
     let inward = ins.0 in
-    let tested = given_some (nat_le (b.driving + inward) most_driving) (Some (b.value +ℤ scaled counts (pool.dead_rate * inward))) v ins.2 in
+    let tested = given_some (nat_le (b.driving + inward) longest_driving) (Some (b.value +ℤ scaled counts (pool.dead_rate * inward))) v ins.2 in
     let total = some_same (b.value +ℤ scaled counts (pool.dead_rate * inward)) v tested.1 in
     let driving = better.driving in
     let value = better.value in
@@ -168,10 +171,10 @@ closed-kept day counts a b v good e =
     let Q : ℕ → Type 0 = λ i. slice_get day.trips i ≡ Some t in
     let u = a.value +ℤ scaled counts (pool.dead_rate * inward) in (
       u,
-      ap (option_and_then (λ (p : Pool). with_trip day a.trip (λ s. option_and_then (λ i. given (nat_le (a.driving + i) most_driving) (Some (a.value +ℤ scaled counts (p.dead_rate * i)))) (pull_in day p s)))) (subst P (sym better.class) pools.1) ∙
-          (ap (option_and_then (λ (s : Trip). option_and_then (λ i. given (nat_le (a.driving + i) most_driving) (Some (a.value +ℤ scaled counts (pool.dead_rate * i)))) (pull_in day pool s))) (subst Q (sym better.trip) trips.1) ∙
-          (ap (option_and_then (λ i. given (nat_le (a.driving + i) most_driving) (Some (a.value +ℤ scaled counts (pool.dead_rate * i))))) ins.1 ∙
-          given_onto (nat_le (a.driving + inward) most_driving) (Some u) (below-limit (a.driving + inward) (b.driving + inward) (omega arith) tested.0))),
+      ap (option_and_then (λ (p : Pool). with_trip day a.trip (λ s. option_and_then (λ i. given (nat_le (a.driving + i) longest_driving) (Some (a.value +ℤ scaled counts (p.dead_rate * i)))) (pull_in day p s)))) (subst P (sym better.class) pools.1) ∙
+          (ap (option_and_then (λ (s : Trip). option_and_then (λ i. given (nat_le (a.driving + i) longest_driving) (Some (a.value +ℤ scaled counts (pool.dead_rate * i)))) (pull_in day pool s))) (subst Q (sym better.trip) trips.1) ∙
+          (ap (option_and_then (λ i. given (nat_le (a.driving + i) longest_driving) (Some (a.value +ℤ scaled counts (pool.dead_rate * i))))) ins.1 ∙
+          given_onto (nat_le (a.driving + inward) longest_driving) (Some u) (below-limit (a.driving + inward) (b.driving + inward) (omega arith) tested.0))),
       omega (arith, ints),
     )
 
@@ -197,14 +200,14 @@ blocks-ordered day counts prices = record {
 -- what is driven on has the class and the trip
 driven-place : (cut : Bool) (first second class k : ℕ) (value : ℤ) (b : BlockMark) → driven_on cut first second class value k ≡ Some b → (b.class ≡ class) × (b.trip ≡ k)
 driven-place true first second class k value b e =
-    let (limit, rest) = given_some (nat_le first most_driving) (kept (mark class k second value)) b e in
-    let (limit2, is) = given_some (nat_le second most_driving) (Some (mark class k second value)) b rest in
+    let (limit, rest) = given_some (nat_le first longest_driving) (kept (mark class k second value)) b e in
+    let (limit2, is) = given_some (nat_le second longest_driving) (Some (mark class k second value)) b rest in
     let same = some_same (mark class k second value) b is in
     let f : BlockMark → ℕ = λ m. m.class in
     let g : BlockMark → ℕ = λ m. m.trip in
     (sym (ap f same), sym (ap g same))
 driven-place false first second class k value b e =
-    let (limit, is) = given_some (nat_le (first + second) most_driving) (Some (mark class k (first + second) value)) b e in
+    let (limit, is) = given_some (nat_le (first + second) longest_driving) (Some (mark class k (first + second) value)) b e in
     let same = some_same (mark class k (first + second) value) b is in
     let f : BlockMark → ℕ = λ m. m.class in
     let g : BlockMark → ℕ = λ m. m.trip in
@@ -224,7 +227,7 @@ first-place day counts prices class k b e =
     let outs = and_then_some (λ out. kept (mark class k (out + trip_seconds t) (cond counts (pos 1000) (pos (1000 * (pool.fixed + pool.dead_rate * out))) -ℤ price_at prices k))) (pull_out day pool t) b tested.1 in
     let out = outs.0 in
     let made = mark class k (out + trip_seconds t) (cond counts (pos 1000) (pos (1000 * (pool.fixed + pool.dead_rate * out))) -ℤ price_at prices k) in
-    let (limit, is) = given_some (nat_le (out + trip_seconds t) most_driving) (Some made) b outs.2 in
+    let (limit, is) = given_some (nat_le (out + trip_seconds t) longest_driving) (Some made) b outs.2 in
     let same = some_same made b is in
     let f : BlockMark → ℕ = λ m. m.class in
     let g : BlockMark → ℕ = λ m. m.trip in

@@ -1,38 +1,27 @@
 -- The marks of open blocks: lists of trips that may go on, with the driving since the last cut and the value so far.
-use Rattle.std.specs.Prelude.{ℕ, ℤ, pos, ◌+ℤ◌, ◌-ℤ◌, int_le, ◌+◌, ◌*◌, Bool, cond, ◌&&◌, ◌||◌, nat_lt, nat_le, nat_eq, List, length, Option, Some, None, option_and_then, slice_get, if◌then◌else◌}
-use Rattle.std.specs.Int.RustNames.{unsigned_abs}
+use Rattle.std.specs.Prelude.{ℕ, ℤ, pos, ◌+ℤ◌, ◌-ℤ◌, int_le, ◌+◌, ◌*◌, Bool, cond, ◌&&◌, nat_lt, nat_le, nat_eq, List, length, Option, Some, None, option_and_then, slice_get, if◌then◌else◌}
 use Rattle.plan_core.specs.declared.Price.{Price}
 use Rattle.plan_core.specs.declared.types.Point.{Point}
 use Rattle.cover_core.specs.declared.marks.BlockMark.{BlockMark}
 use Rattle.cover_core.specs.Plans.{price_at}
-use Rattle.vdv452_tables.specs.Keys.{point_eq}
 use Rattle.trip_times.specs.declared.trip.Trip.{Trip}
 use Rattle.plan_params.specs.declared.rows.pool.Pool.{Pool}
 use Rattle.day_model.specs.declared.link.Link.{Link}
 use Rattle.day_model.specs.declared.link.Link.TheVariants.{Direct, Depot}
-use Rattle.day_model.specs.Facts.{DayFacts, admits, is_relief}
+use Rattle.day_model.specs.Facts.{DayFacts, admits}
 use Rattle.day_model.specs.Links.{given, link, pull_in, pull_out, with_pool, with_trip}
 use Rattle.day_model.specs.Blocks.{link_cost}
+use Rattle.day_model.specs.Pieces.{longest_driving}
 use Rattle.mark_cover.specs.Marking.{Marking}
-
--- Regulation (EC) 561/2006, article 7: a piece has at most four and a half hours of driving
-abbrev pub most_driving : ℕ
-most_driving = 16200
-
--- a thousand times a cost, or nothing where blocks are counted
-abbrev pub scaled : Bool → ℕ → ℤ
-scaled counts cost = cond counts (pos 0) (pos (1000 * cost))
-
--- how long a trip takes
-abbrev pub trip_seconds : Trip → ℕ
-trip_seconds t = unsigned_abs (t.end.0 -ℤ t.begin.0)
+use Rattle.depot_network.specs.Driving.{is_cut_at, trip_seconds}
+use Rattle.depot_network.specs.Open.{scaled}
 
 abbrev pub mark : ℕ → ℕ → ℕ → ℤ → BlockMark
 mark class trip driving value = record { class = class; trip = trip; driving = driving; value = value }
 
 -- a mark whose driving keeps the limit
 abbrev pub kept : BlockMark → Option BlockMark
-kept m = given (nat_le m.driving most_driving) (Some m)
+kept m = given (nat_le m.driving longest_driving) (Some m)
 
 -- the mark of a block of one trip: the pull-out and the trip are driven
 abbrev pub first_mark : DayFacts → Bool → List Price → ℕ → ℕ → Option BlockMark
@@ -54,12 +43,12 @@ moves_of pool u (Depot inward outward stand) = record { at = pool.depot; stand =
 
 -- the stand is a cut where it is not 0, lasts at least the handover time, and lies at a relief point or at the depot
 abbrev pub is_cut_stand : DayFacts → Pool → Moves → Bool
-is_cut_stand day pool m = nat_le 1 m.stand && nat_le day.params.settings.handover m.stand && (is_relief day m.at || point_eq m.at pool.depot)
+is_cut_stand day pool m = is_cut_at day pool m.at m.stand
 
 -- with a cut the first part ends there and each part keeps the limit; without one their sum does
 abbrev pub driven_on : Bool → ℕ → ℕ → ℕ → ℤ → ℕ → Option BlockMark
 driven_on cut first second class value k =
-    if cut then given (nat_le first most_driving) (kept (mark class k second value)) else kept (mark class k (first + second) value)
+    if cut then given (nat_le first longest_driving) (kept (mark class k second value)) else kept (mark class k (first + second) value)
 
 abbrev pub extended_over : DayFacts → Bool → List Price → Pool → BlockMark → ℕ → Trip → Link → Option BlockMark
 extended_over day counts prices pool m k u l =
@@ -77,7 +66,7 @@ extended_mark day counts prices m k =
 abbrev pub closed_value : DayFacts → Bool → BlockMark → Option ℤ
 closed_value day counts m =
     with_pool day m.class (λ pool. with_trip day m.trip (λ t. option_and_then (λ inward.
-    given (nat_le (m.driving + inward) most_driving) (Some (m.value +ℤ scaled counts (pool.dead_rate * inward)))) (pull_in day pool t)))
+    given (nat_le (m.driving + inward) longest_driving) (Some (m.value +ℤ scaled counts (pool.dead_rate * inward)))) (pull_in day pool t)))
 
 -- class and trip are equal, and driving and value are not greater
 abbrev pub is_as_good : BlockMark → BlockMark → Bool
