@@ -10,6 +10,8 @@ mod layout;
 mod marks;
 mod net;
 mod numbering;
+#[cfg(test)]
+mod tests;
 
 pub use laws::counted_duties;
 pub use net::DutyNet;
