@@ -1,0 +1,4 @@
+pub mod Counted
+pub mod Sides
+pub mod Printing
+pub mod OneAnswer

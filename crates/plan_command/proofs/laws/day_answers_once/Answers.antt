@@ -1,0 +1,14 @@
+use Rattle.std.proofs.Common.{true, false}
+use Rattle.plan_command.specs.Planning.{day_problems}
+use Rattle.plan_command.proofs.OneAnswer.{one_text, one_cause, text_or_cause}
+use Rattle.plan_command.proofs.laws.day_answers_once.Goals as goal
+
+pub returns-clause-text : goal.returns-clause-text
+returns-clause-text c = λ facts. one_text facts (c.day_ends_once.ensures (day_problems facts))
+
+pub returns-clause-cause : goal.returns-clause-cause
+returns-clause-cause c = λ facts.
+    one_cause facts (c.day_ends_once.ensures (day_problems facts)) (c.ends_once.ensures (record { day = facts; counts = true }) (record { day = facts; counts = false }))
+
+pub returns-clause-either : goal.returns-clause-either
+returns-clause-either c = λ facts. text_or_cause facts (c.day_ends_once.ensures (day_problems facts))

@@ -1,0 +1,4 @@
+pub mod Planning
+pub mod PlanText
+pub mod Steps
+pub mod Once

@@ -1,0 +1,20 @@
+//! The plan of a day and its text: vehicle blocks of the trips, driver duties over the pieces that the blocks are cut into, and bounds on
+//! the numbers and costs of both.
+//!
+//! [`plan_day`] plans both sides by the method of `day_method`, and [`plan_text`] writes the tables of the plan in the text form of
+//! VDV 451. `specs/PlanText.antt` says what the text is: the blocks and duties are plans, lawful and within vehicles and drivers, and no
+//! plan has fewer vehicles or lower costs than the printed bounds. No worker occurs there, and a day has one text or one cause alone
+//! ([`day_answers_once`]).
+#![tactic(auto)]
+
+mod day_plan;
+mod fault;
+mod laws;
+mod planning;
+mod writing;
+
+pub use day_plan::DayPlan;
+pub use fault::{ItemName, PlanFault};
+pub use laws::day_answers_once;
+pub use planning::plan_day;
+pub use writing::plan_text;

@@ -1,0 +1,258 @@
+//! The blocks and duties of a day.
+
+ghost use Rattle.std.specs.Prelude.{◌≡◌, ◌<◌, ◌≤◌, ℕ, true, false, List, All, IfOk, IfErr, length};
+ghost use Rattle.cover_core.specs.declared.Column.{Column as PlanColumn};
+ghost use Rattle.cover_core.specs.FirstLeast.{AreCheap};
+ghost use Rattle.cover_core.specs.Laws.{IsCountOf};
+ghost use Rattle.cover_core.specs.Plans.{IsPlan};
+ghost use Rattle.price_rounds.specs.Efforts.{IsEffort};
+ghost use Rattle.cover_plan.specs.Endings.{numbers_of};
+ghost use Rattle.cover_plan.specs.Ends.{IsCause};
+ghost use Rattle.depot_network.specs.Network.{blocks_of};
+ghost use Rattle.block_cut.specs.Cuts.{IsShift, pieces_of_plan};
+ghost use Rattle.plan_params.specs.Limits.{HaveRanges};
+ghost use Rattle.duty_network.specs.Duties.{duties as duties_of, is_count};
+ghost use Rattle.plan_command.specs.Planning.{ArePlannedBlocks, IsDayPlan, IsPlanCauseOver, IsPlannedSide, side_of};
+ghost use Rattle.plan_command.specs.Steps.{IsBlocksFault, IsDutiesFault, IsItemBelow};
+
+use crate::day_plan::DayPlan;
+use crate::fault::{ItemName, PlanFault};
+use block_cut::cut;
+use cover_core::{Plan, Pricer, Worth};
+use cover_plan::{PlanFault as CoverFault, Planned, plan_of};
+use day_method::Side;
+use day_model::Day;
+use depot_network::PoolNet;
+use duty_network::DutyNet;
+use duty_pricing::DutyPricer;
+use path_pricing::PathPricer;
+use plan_core::{Gate, Memory, Piece, Seq};
+use plan_params::Params;
+use price_rounds::Effort;
+use std::alloc::Global;
+use std::thread::Threads;
+use umlauf_write::in_printed_order;
+
+/// One side of a day: its plan in printed order, with the offers that bound it.
+fn planned_side<R: Threads + Sync, P: Pricer + Sync, G: Gate + Sync>(
+    rt: &R,
+    alloc: Global,
+    counted: &P,
+    costed: &P,
+    effort: &Effort,
+    gate: &G,
+) -> Result<Planned, CoverFault>
+    requires effort { IsEffort effort.now }
+    requires counts { IsCountOf (P.problem costed.now) (P.problem counted.now) }
+    ensures side { IfOk result (λ planned. IsPlannedSide (P.problem counted.now) (P.problem costed.now) (numbers_of effort.now) (side_of planned)) }
+    ensures cheap { IfOk result (λ planned. AreCheap planned.plan.columns) }
+    ensures cause { IfErr result (IsCause (P.problem counted.now) (P.problem costed.now) (numbers_of effort.now)) }
+{
+    match plan_of(rt, alloc, counted, costed, effort, gate) {
+        Err(fault) => Err(fault),
+        Ok(Planned { plan, count, cost }) => match in_printed_order(plan) {
+            Err(Memory) => Err(CoverFault::Memory),
+            Ok(plan) => Ok(Planned { plan, count, cost }),
+        },
+    }
+}
+
+/// Why a day has no blocks.
+fn blocks_fault(model: &Day, fault: CoverFault) -> PlanFault
+    requires item { IsItemBelow (length model.now.trips) fault }
+    ensures { IsBlocksFault model.now.trips fault result }
+{
+    let side = Side::Vehicles;
+    match fault {
+        CoverFault::NoPlan { bound, places } => PlanFault::NoPlan {
+            side,
+            bound,
+            places,
+        },
+        CoverFault::NotPlaced { item, partial } => PlanFault::NotPlaced {
+            side,
+            item,
+            name: ItemName::Trip {
+                fid: model.trip(item).fid,
+            },
+            partial,
+        },
+        CoverFault::Memory => PlanFault::Memory,
+    }
+}
+
+/// The blocks of a day.
+fn planned_blocks<R: Threads + Sync, G: Gate + Sync>(
+    rt: &R,
+    alloc: Global,
+    model: &Day,
+    effort: &Effort,
+    gate: &G,
+) -> Result<Planned, PlanFault>
+    requires effort { IsEffort effort.now }
+    ensures blocks { IfOk result (λ blocks. ArePlannedBlocks model.now (numbers_of effort.now) (side_of blocks)) }
+    ensures cheap { IfOk result (λ blocks. AreCheap blocks.plan.columns) }
+    ensures cause { IfErr result (IsPlanCauseOver model.now (numbers_of effort.now)) }
+{
+    let count_net = PoolNet::new(model, Worth::Count);
+    let cost_net = PoolNet::new(model, Worth::Cost);
+    let counted = PathPricer::new(&count_net);
+    let costed = PathPricer::new(&cost_net);
+    match planned_side(rt, alloc, &counted, &costed, effort, gate) {
+        Ok(blocks) => Ok(blocks),
+        Err(fault) => Err(blocks_fault(model, fault)),
+    }
+}
+
+/// The duties over pieces, each worth its cost or 1.
+fn duty_net<'p>(
+    alloc: Global,
+    pieces: &Seq<Piece>,
+    params: &'p Params,
+    worth: Worth,
+) -> Result<DutyNet<'p>, Memory>
+    requires few { length pieces.now ≤ 3000 }
+    requires shifts { All IsShift pieces.now }
+    requires params { HaveRanges params.now }
+    ensures { IfOk result (λ net. net ≡ record { pieces = pieces.now; params = params.now; counts = is_count worth }) }
+{
+    let pieces = pieces.with_items(pieces.as_slice())?;
+    DutyNet::new(alloc, pieces, params, worth)
+}
+
+/// The duties over pieces.
+fn planned_duties<R: Threads + Sync, G: Gate + Sync>(
+    rt: &R,
+    alloc: Global,
+    pieces: &Seq<Piece>,
+    params: &Params,
+    effort: &Effort,
+    gate: &G,
+) -> Result<Planned, CoverFault>
+    requires effort { IsEffort effort.now }
+    requires few { length pieces.now ≤ 3000 }
+    requires shifts { All IsShift pieces.now }
+    requires params { HaveRanges params.now }
+    ensures duties { IfOk result (λ duties. IsPlannedSide (duties_of (record { pieces = pieces.now; params = params.now; counts = true })) (duties_of (record { pieces = pieces.now; params = params.now; counts = false })) (numbers_of effort.now) (side_of duties)) }
+    ensures cheap { IfOk result (λ duties. AreCheap duties.plan.columns) }
+    ensures cause { IfErr result (IsCause (duties_of (record { pieces = pieces.now; params = params.now; counts = true })) (duties_of (record { pieces = pieces.now; params = params.now; counts = false })) (numbers_of effort.now)) }
+{
+    let count_net = match duty_net(alloc, pieces, params, Worth::Count) {
+        Ok(net) => net,
+        Err(Memory) => return Err(CoverFault::Memory),
+    };
+    let cost_net = match duty_net(alloc, pieces, params, Worth::Cost) {
+        Ok(net) => net,
+        Err(Memory) => return Err(CoverFault::Memory),
+    };
+    let counted = DutyPricer::new(&count_net);
+    let costed = DutyPricer::new(&cost_net);
+    planned_side(rt, alloc, &counted, &costed, effort, gate)
+}
+
+/// Why there are no duties over pieces.
+fn duties_fault(pieces: &[Piece], fault: CoverFault) -> PlanFault
+    requires item { IsItemBelow (length pieces.now) fault }
+    ensures { IsDutiesFault pieces.now fault result }
+{
+    let side = Side::Drivers;
+    match fault {
+        CoverFault::NoPlan { bound, places } => PlanFault::NoPlan {
+            side,
+            bound,
+            places,
+        },
+        CoverFault::NotPlaced { item, partial } => {
+            let piece = pieces[item as usize];
+            PlanFault::NotPlaced {
+                side,
+                item,
+                name: ItemName::Piece {
+                    block: piece.block,
+                    index: piece.index,
+                },
+                partial,
+            }
+        }
+        CoverFault::Memory => PlanFault::Memory,
+    }
+}
+
+/// The pieces of the blocks of a day.
+fn block_pieces(alloc: Global, model: &Day, blocks: &Plan) -> Result<Seq<Piece>, Memory>
+    requires plan { IsPlan (blocks_of model.now false) blocks.now.columns }
+    ensures pieces { IfOk result (λ pieces. pieces ≡ pieces_of_plan model.now blocks.now.columns) }
+    ensures shifts { IfOk result (λ pieces. All IsShift pieces) }
+    ensures few { IfOk result (λ pieces. length pieces ≤ 3000) }
+{
+    // The trips of a day are few: it says so.
+    let _ = model.trips();
+    cut(alloc, model, blocks)
+}
+
+/// The plan of a day from its blocks.
+fn with_duties<R: Threads + Sync, G: Gate + Sync>(
+    rt: &R,
+    alloc: Global,
+    model: &Day,
+    blocks: Planned,
+    effort: &Effort,
+    gate: &G,
+) -> Result<DayPlan, PlanFault>
+    requires effort { IsEffort effort.now }
+    requires blocks { ArePlannedBlocks model.now (numbers_of effort.now) (side_of blocks) }
+    requires cheap { AreCheap blocks.plan.columns }
+    ensures plan { IfOk result (λ plan. IsDayPlan model.now (numbers_of effort.now) (side_of plan.blocks) (side_of plan.duties)) }
+    ensures pieces { IfOk result (λ plan. plan.pieces ≡ pieces_of_plan model.now plan.blocks.plan.columns) }
+    ensures few { IfOk result (λ plan. length plan.pieces ≤ 3000) }
+    ensures shifts { IfOk result (λ plan. All IsShift plan.pieces) }
+    ensures cheap_blocks { IfOk result (λ plan. AreCheap plan.blocks.plan.columns) }
+    ensures cheap_duties { IfOk result (λ plan. AreCheap plan.duties.plan.columns) }
+    ensures cause { IfErr result (IsPlanCauseOver model.now (numbers_of effort.now)) }
+{
+    let pieces = match block_pieces(alloc, model, &blocks.plan) {
+        Ok(pieces) => pieces,
+        Err(Memory) => return Err(PlanFault::Memory),
+    };
+    match planned_duties(rt, alloc, &pieces, model.params(), effort, gate) {
+        Ok(duties) => Ok(DayPlan {
+            blocks,
+            pieces,
+            duties,
+        }),
+        Err(fault) => Err(duties_fault(pieces.as_slice(), fault)),
+    }
+}
+
+/// Plans a day: vehicle blocks of its trips, and driver duties over the pieces that the blocks are cut into.
+///
+/// For each side there is a pass with each worth 1, which bounds the number of columns of every plan; a pass with costs, which bounds
+/// their costs; rounding and exchange. What is given is defined without workers and gates, and the definition admits one plan or one
+/// refusal alone. The effort is in its ranges.
+///
+/// # Errors
+///
+/// `NoPlan` exactly where the kept bound on the number of a side is above its vehicles or drivers; then there are no blocks of the day, or
+/// no duties over the pieces of the blocks that were planned. `NotPlaced` exactly where rounding leaves a trip or a piece, which does not
+/// happen where each of them alone has a worth in a pool or group that is large enough for all. Blocks come before duties. And `Memory`.
+pub fn plan_day<R: Threads + Sync, G: Gate + Sync>(
+    rt: &R,
+    alloc: Global,
+    model: &Day,
+    effort: &Effort,
+    gate: &G,
+) -> Result<DayPlan, PlanFault>
+    requires effort { IsEffort effort.now }
+    ensures plan { IfOk result (λ plan. IsDayPlan model.now (numbers_of effort.now) (side_of plan.blocks) (side_of plan.duties)) }
+    ensures pieces { IfOk result (λ plan. plan.pieces ≡ pieces_of_plan model.now plan.blocks.plan.columns) }
+    ensures few { IfOk result (λ plan. length plan.pieces ≤ 3000) }
+    ensures shifts { IfOk result (λ plan. All IsShift plan.pieces) }
+    ensures cheap_blocks { IfOk result (λ plan. AreCheap plan.blocks.plan.columns) }
+    ensures cheap_duties { IfOk result (λ plan. AreCheap plan.duties.plan.columns) }
+    ensures cause { IfErr result (IsPlanCauseOver model.now (numbers_of effort.now)) }
+{
+    match planned_blocks(rt, alloc, model, effort, gate) {
+        Ok(blocks) => with_duties(rt, alloc, model, blocks, effort, gate),
+        Err(fault) => Err(fault),
+    }
+}
