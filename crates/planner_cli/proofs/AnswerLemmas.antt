@@ -1,15 +1,16 @@
 -- From what is read and what the tables answer to the answer of the command.
-use Rattle.std.proofs.Common.{◌≡◌, ℕ, ◌⊎◌, inl, inr, List, Option, Result, Ok, Err, IfSome, MatchResult, refl, sym, subst}
+use Rattle.std.proofs.Common.{◌≡◌, ℕ, ◌⊎◌, inl, inr, List, take, Option, Some, Result, Ok, Err, IfSome, MatchResult, refl, sym, subst}
 use Rattle.std.specs.Prelude.{IfOk, IfErr}
 use Rattle.vdv451_text.specs.declared.table.Table.{Table}
+use Rattle.vdv451_text.specs.declared.fault.TextFault.{TextFault}
 use Rattle.vdv451_text.specs.declared.fault.TextKind.{TextKind}
 use Rattle.planner_cli.specs.declared.words.Command.{Command}
 use Rattle.planner_cli.specs.declared.words.Command.TheVariants.{Day, Plan, Trips}
 use Rattle.planner_cli.specs.declared.status.Status.{Status}
 use Rattle.planner_cli.specs.declared.status.Status.TheVariants as statuses
 use Rattle.planner_cli.specs.declared.status.InputFault.TheVariants as inputs
-use Rattle.planner_cli.specs.Inputs.{HasTextFault, IsFileCause, IsUnread, SpellTables, most_bytes, refused_text}
-use Rattle.planner_cli.specs.Run.{IsAnswer, IsAnswerCause, IsCause, IsRefusal, IsRefused, IsTablesRefusal, IsText}
+use Rattle.planner_cli.specs.Inputs.{HasTextFault, IsFileCause, IsUnread, SpellTables, held_under, most_bytes, refused_text}
+use Rattle.planner_cli.specs.Run.{IsAnswer, IsAnswerCause, IsCause, IsRefusal, IsRefused, IsTablesRefusal, IsText, names_for, told_for}
 use Rattle.planner_cli.proofs.InputLemmas.{if_told, of_told}
 use Rattle.planner_cli.specs.Model.{IsModelCause}
 use Rattle.planner_cli.specs.PlanText.{IsPlanCause}
@@ -31,19 +32,32 @@ memory_is_unread : (s : Status) → s ≡ statuses.Memory → IsUnread s
 memory_is_unread s e = subst IsUnread (sym e) tt
 
 -- a refusal is one of a text, or of the tables
-pub parts_of : (command : Command) → (contents : List (List ℕ)) (day : ℕ) (status : Status) → IsRefusal command contents day status → IsTablesRefusal command contents day status ⊎ ((file line : ℕ) × (kind : TextKind) × (status ≡ refused_text file line kind) × HasTextFault 1 most_bytes contents file line kind)
-parts_of command contents day (statuses.Input (inputs.Text file fault)) r = inr (file, fault.line, fault.kind, refl, r)
-parts_of command contents day (statuses.Input (inputs.Table fault)) r = inl r
-parts_of command contents day (statuses.Input (inputs.Trips count)) r = inl r
-parts_of command contents day (statuses.Input (inputs.Params fault)) r = inl r
-parts_of command contents day (statuses.Input (inputs.Trip fid fault)) r = inl r
-parts_of command contents day (statuses.Day fault) r = inl r
-parts_of command contents day (statuses.NotPlaced side item fid partial) r = inl r
-parts_of command contents day statuses.Memory r = absurd r
-parts_of command contents day statuses.Ok r = absurd r
-parts_of command contents day statuses.Usage r = absurd r
-parts_of command contents day (statuses.ReadFault file) r = absurd r
-parts_of command contents day statuses.WriteFault r = absurd r
+pub record IsTextStatus (status : Status) : Type 0 where
+  pub file : ℕ
+  pub fault : TextFault
+  pub is : status ≡ statuses.Input (inputs.Text file fault)
+
+pub record IsOtherStatus (status : Status) : Type 0 where
+  pub names : (names : List (List ℕ)) → names_for names status ≡ names
+  pub refusal : (command : Command) (contents : List (List ℕ)) (day : ℕ) → IsRefusal command contents day status → IsTablesRefusal command contents day status
+
+pub parts_of : (status : Status) → IsTextStatus status ⊎ IsOtherStatus status
+parts_of (statuses.Input (inputs.Text file fault)) = inl (record { file = file; fault = fault; is = refl })
+parts_of (statuses.Input (inputs.Table fault)) = inr (record { names = λ names. refl; refusal = λ command contents day r. r })
+parts_of (statuses.Input (inputs.Trips count)) = inr (record { names = λ names. refl; refusal = λ command contents day r. r })
+parts_of (statuses.Input (inputs.Params fault)) = inr (record { names = λ names. refl; refusal = λ command contents day r. r })
+parts_of (statuses.Input (inputs.Trip fid fault)) = inr (record { names = λ names. refl; refusal = λ command contents day r. r })
+parts_of (statuses.Day fault) = inr (record { names = λ names. refl; refusal = λ command contents day r. r })
+parts_of (statuses.NotPlaced side item fid partial) = inr (record { names = λ names. refl; refusal = λ command contents day r. r })
+parts_of statuses.Memory = inr (record { names = λ names. refl; refusal = λ command contents day r. absurd r })
+parts_of statuses.Ok = inr (record { names = λ names. refl; refusal = λ command contents day r. absurd r })
+parts_of statuses.Usage = inr (record { names = λ names. refl; refusal = λ command contents day r. absurd r })
+parts_of (statuses.ReadFault file) = inr (record { names = λ names. refl; refusal = λ command contents day r. absurd r })
+parts_of statuses.WriteFault = inr (record { names = λ names. refl; refusal = λ command contents day r. absurd r })
+
+-- what all files tell is what the refusal of tables speaks of
+told_others : (held : List ℕ → Option (List ℕ)) (names contents : List (List ℕ)) (status : Status) → IsOtherStatus status → told_for held names status ≡ Some contents → held_under held names ≡ Some contents
+told_others held names contents status other told = let P : List (List ℕ) → Type 0 = λ ns. held_under held ns ≡ Some contents in subst P (other.names names) told
 
 -- the tables refuse by their first fault, the number of trips or the day
 abbrev IsTableStatus : Status → Type 0
@@ -101,44 +115,55 @@ is_of_tables Day tables day status c = model_is_of_tables tables day status c
 is_of_tables Plan tables day status c = plan_is_of_tables tables day status c
 
 -- the tables' cause is the command's
-pub cause_of : (command : Command) (told : Option (List (List ℕ))) (tables : List Table) (day : ℕ) (R : ℕ → Type 0) (status : Status) → IsTableStatus status → IfSome told (λ contents. SpellTables most_bytes contents tables) → IsCause command tables day status → IsAnswerCause (λ s. IfSome told (λ contents. IsRefusal command contents day s)) R status
-cause_of command told tables day R (statuses.Input (inputs.Table fault)) t spelled c = if_told told (λ contents. IsRefusal command contents day (statuses.Input (inputs.Table fault))) (λ contents e. record { tables = tables; spelled = of_told told (λ contents. SpellTables most_bytes contents tables) contents e spelled; cause = c })
-cause_of command told tables day R (statuses.Input (inputs.Trips count)) t spelled c = if_told told (λ contents. IsRefusal command contents day (statuses.Input (inputs.Trips count))) (λ contents e. record { tables = tables; spelled = of_told told (λ contents. SpellTables most_bytes contents tables) contents e spelled; cause = c })
-cause_of command told tables day R (statuses.Input (inputs.Params fault)) t spelled c = if_told told (λ contents. IsRefusal command contents day (statuses.Input (inputs.Params fault))) (λ contents e. record { tables = tables; spelled = of_told told (λ contents. SpellTables most_bytes contents tables) contents e spelled; cause = c })
-cause_of command told tables day R (statuses.Input (inputs.Trip fid fault)) t spelled c = if_told told (λ contents. IsRefusal command contents day (statuses.Input (inputs.Trip fid fault))) (λ contents e. record { tables = tables; spelled = of_told told (λ contents. SpellTables most_bytes contents tables) contents e spelled; cause = c })
-cause_of command told tables day R (statuses.Day fault) t spelled c = if_told told (λ contents. IsRefusal command contents day (statuses.Day fault)) (λ contents e. record { tables = tables; spelled = of_told told (λ contents. SpellTables most_bytes contents tables) contents e spelled; cause = c })
-cause_of command told tables day R (statuses.NotPlaced side item fid partial) t spelled c = if_told told (λ contents. IsRefusal command contents day (statuses.NotPlaced side item fid partial)) (λ contents e. record { tables = tables; spelled = of_told told (λ contents. SpellTables most_bytes contents tables) contents e spelled; cause = c })
-cause_of command told tables day R (statuses.Input (inputs.Text file fault)) t spelled c = absurd t
-cause_of command told tables day R statuses.Memory t spelled c = absurd t
-cause_of command told tables day R statuses.Ok t spelled c = absurd t
-cause_of command told tables day R statuses.Usage t spelled c = absurd t
-cause_of command told tables day R (statuses.ReadFault file) t spelled c = absurd t
-cause_of command told tables day R statuses.WriteFault t spelled c = absurd t
+pub cause_of : (command : Command) (held : List ℕ → Option (List ℕ)) (names : List (List ℕ)) (tables : List Table) (day : ℕ) (R : ℕ → Type 0) (status : Status) → IsTableStatus status → IfSome (held_under held names) (λ contents. SpellTables most_bytes contents tables) → IsCause command tables day status → IsAnswerCause (λ s. IfSome (told_for held names s) (λ contents. IsRefusal command contents day s)) R status
+cause_of command held names tables day R (statuses.Input (inputs.Table fault)) t spelled c = if_told (held_under held names) (λ contents. IsRefusal command contents day (statuses.Input (inputs.Table fault))) (λ contents e. record { tables = tables; spelled = of_told (held_under held names) (λ contents. SpellTables most_bytes contents tables) contents e spelled; cause = c })
+cause_of command held names tables day R (statuses.Input (inputs.Trips count)) t spelled c = if_told (held_under held names) (λ contents. IsRefusal command contents day (statuses.Input (inputs.Trips count))) (λ contents e. record { tables = tables; spelled = of_told (held_under held names) (λ contents. SpellTables most_bytes contents tables) contents e spelled; cause = c })
+cause_of command held names tables day R (statuses.Input (inputs.Params fault)) t spelled c = if_told (held_under held names) (λ contents. IsRefusal command contents day (statuses.Input (inputs.Params fault))) (λ contents e. record { tables = tables; spelled = of_told (held_under held names) (λ contents. SpellTables most_bytes contents tables) contents e spelled; cause = c })
+cause_of command held names tables day R (statuses.Input (inputs.Trip fid fault)) t spelled c = if_told (held_under held names) (λ contents. IsRefusal command contents day (statuses.Input (inputs.Trip fid fault))) (λ contents e. record { tables = tables; spelled = of_told (held_under held names) (λ contents. SpellTables most_bytes contents tables) contents e spelled; cause = c })
+cause_of command held names tables day R (statuses.Day fault) t spelled c = if_told (held_under held names) (λ contents. IsRefusal command contents day (statuses.Day fault)) (λ contents e. record { tables = tables; spelled = of_told (held_under held names) (λ contents. SpellTables most_bytes contents tables) contents e spelled; cause = c })
+cause_of command held names tables day R (statuses.NotPlaced side item fid partial) t spelled c = if_told (held_under held names) (λ contents. IsRefusal command contents day (statuses.NotPlaced side item fid partial)) (λ contents e. record { tables = tables; spelled = of_told (held_under held names) (λ contents. SpellTables most_bytes contents tables) contents e spelled; cause = c })
+cause_of command held names tables day R (statuses.Input (inputs.Text file fault)) t spelled c = absurd t
+cause_of command held names tables day R statuses.Memory t spelled c = absurd t
+cause_of command held names tables day R statuses.Ok t spelled c = absurd t
+cause_of command held names tables day R statuses.Usage t spelled c = absurd t
+cause_of command held names tables day R (statuses.ReadFault file) t spelled c = absurd t
+cause_of command held names tables day R statuses.WriteFault t spelled c = absurd t
 
-refused_cause : (command : Command) → (told : Option (List (List ℕ))) (tables : List Table) (day : ℕ) (R : ℕ → Type 0) (status : Status) → IfSome told (λ contents. SpellTables most_bytes contents tables) → IsRefused command tables day status → IsAnswerCause (λ s. IfSome told (λ contents. IsRefusal command contents day s)) R status
-refused_cause command told tables day R status spelled (inl memory) = let P : Status → Type 0 = IsAnswerCause (λ s. IfSome told (λ contents. IsRefusal command contents day s)) R in subst P (sym memory) tt
-refused_cause command told tables day R status spelled (inr c) = cause_of command told tables day R status (is_of_tables command tables day status c) spelled c
+refused_cause : (command : Command) → (held : List ℕ → Option (List ℕ)) (names : List (List ℕ)) (tables : List Table) (day : ℕ) (R : ℕ → Type 0) (status : Status) → IfSome (held_under held names) (λ contents. SpellTables most_bytes contents tables) → IsRefused command tables day status → IsAnswerCause (λ s. IfSome (told_for held names s) (λ contents. IsRefusal command contents day s)) R status
+refused_cause command held names tables day R status spelled (inl memory) = let P : Status → Type 0 = IsAnswerCause (λ s. IfSome (told_for held names s) (λ contents. IsRefusal command contents day s)) R in subst P (sym memory) tt
+refused_cause command held names tables day R status spelled (inr c) = cause_of command held names tables day R status (is_of_tables command tables day status c) spelled c
 
 -- where all files were read, these are the clauses of the command's answer
-pub read_written : (command : Command) → (told : Option (List (List ℕ))) (tables : List Table) (day : ℕ) (r : Result (List ℕ) Status) → IfSome told (λ contents. SpellTables most_bytes contents tables) → IfOk r (IsText command tables day) → IfOk r (λ bytes. IfSome told (λ contents. IsAnswer command contents day bytes))
-read_written command told tables day (Ok bytes) spelled written = if_told told (λ contents. IsAnswer command contents day bytes) (λ contents e. record { tables = tables; spelled = of_told told (λ contents. SpellTables most_bytes contents tables) contents e spelled; written = written })
-read_written command told tables day (Err s) spelled written = tt
+pub read_written : (command : Command) → (held : List ℕ → Option (List ℕ)) (names : List (List ℕ)) (tables : List Table) (day : ℕ) (r : Result (List ℕ) Status) → IfSome (held_under held names) (λ contents. SpellTables most_bytes contents tables) → IfOk r (IsText command tables day) → IfOk r (λ bytes. IfSome (held_under held names) (λ contents. IsAnswer command contents day bytes))
+read_written command held names tables day (Ok bytes) spelled written = if_told (held_under held names) (λ contents. IsAnswer command contents day bytes) (λ contents e. record { tables = tables; spelled = of_told (held_under held names) (λ contents. SpellTables most_bytes contents tables) contents e spelled; written = written })
+read_written command held names tables day (Err s) spelled written = tt
 
-pub read_cause : (command : Command) → (told : Option (List (List ℕ))) (tables : List Table) (day : ℕ) (R : ℕ → Type 0) (r : Result (List ℕ) Status) → IfSome told (λ contents. SpellTables most_bytes contents tables) → IfErr r (IsRefused command tables day) → IfErr r (IsAnswerCause (λ s. IfSome told (λ contents. IsRefusal command contents day s)) R)
-read_cause command told tables day R (Ok bytes) spelled cause = tt
-read_cause command told tables day R (Err s) spelled cause = refused_cause command told tables day R s spelled cause
+pub read_cause : (command : Command) → (held : List ℕ → Option (List ℕ)) (names : List (List ℕ)) (tables : List Table) (day : ℕ) (R : ℕ → Type 0) (r : Result (List ℕ) Status) → IfSome (held_under held names) (λ contents. SpellTables most_bytes contents tables) → IfErr r (IsRefused command tables day) → IfErr r (IsAnswerCause (λ s. IfSome (told_for held names s) (λ contents. IsRefusal command contents day s)) R)
+read_cause command held names tables day R (Ok bytes) spelled cause = tt
+read_cause command held names tables day R (Err s) spelled cause = refused_cause command held names tables day R s spelled cause
 
 tables_refused : (command : Command) → (tables : List Table) (day : ℕ) (r : Result (List ℕ) Status) (status : Status) → IfOk r (IsText command tables day) → IfErr r (IsRefused command tables day) → IsCause command tables day status → MatchResult r (λ bytes. ⊥) (λ s. IsUnread s ⊎ (s ≡ status))
 tables_refused command tables day (Ok bytes) status written cause c = no_cause command tables day bytes status written c
 tables_refused command tables day (Err s) status written (inl memory) c = inl (memory_is_unread s memory)
 tables_refused command tables day (Err s) status written (inr d) c = inr (same_cause command tables day s status d c)
 
-pub read_refused : (command : Command) → (contents : List (List ℕ)) (tables : List Table) (day : ℕ) (r : Result (List ℕ) Status) (status : Status) → ((others : List Table) → SpellTables most_bytes contents others → tables ≡ others) → ((file line : ℕ) (kind : TextKind) → ¬ HasTextFault 1 most_bytes contents file line kind) → IfOk r (IsText command tables day) → IfErr r (IsRefused command tables day) → IsRefusal command contents day status → MatchResult r (λ bytes. ⊥) (λ s. IsUnread s ⊎ (s ≡ status))
-read_refused command contents tables day r status only none written cause refusal =
-    elim (parts_of command contents day status refusal) [
-      | inl t ↦ let P : List Table → Type 0 = λ ts. IsCause command ts day status in tables_refused command tables day r status written cause (subst P (sym (only t.tables t.spelled)) t.cause)
-      | inr f ↦ absurd (none f.0 f.1 f.2 f.4)
-    ]
+pub read_refused : (command : Command) → (held : List ℕ → Option (List ℕ)) (names : List (List ℕ)) (tables : List Table) (day : ℕ) (r : Result (List ℕ) Status) (status : Status)
+    → ((others : List Table) → IfSome (held_under held names) (λ contents. SpellTables most_bytes contents others → tables ≡ others))
+    → ((file line : ℕ) (kind : TextKind) → IfSome (held_under held (take file names)) (λ contents. HasTextFault 1 most_bytes contents file line kind → ⊥))
+    → IfOk r (IsText command tables day) → IfErr r (IsRefused command tables day) → IfSome (told_for held names status) (λ contents. IsRefusal command contents day status → MatchResult r (λ bytes. ⊥) (λ s. IsUnread s ⊎ (s ≡ status)))
+read_refused command held names tables day r status only none written cause = elim (parts_of status) [
+  | inl t ↦
+      let text : Status = statuses.Input (inputs.Text t.file t.fault) in
+      let Goal : Status → Type 0 = λ status. IfSome (told_for held names status) (λ contents. IsRefusal command contents day status → MatchResult r (λ bytes. ⊥) (λ s. IsUnread s ⊎ (s ≡ status))) in
+      let at : Goal text = if_told (held_under held (take t.file names)) (λ contents. IsRefusal command contents day text → MatchResult r (λ bytes. ⊥) (λ s. IsUnread s ⊎ (s ≡ text))) (λ contents told refusal.
+      absurd (of_told (held_under held (take t.file names)) (λ contents. HasTextFault 1 most_bytes contents t.file t.fault.line t.fault.kind → ⊥) contents told (none t.file t.fault.line t.fault.kind) refusal)) in
+      subst Goal (sym t.is) at
+  | inr other ↦ if_told (told_for held names status) (λ contents. IsRefusal command contents day status → MatchResult r (λ bytes. ⊥) (λ s. IsUnread s ⊎ (s ≡ status))) (λ contents told refusal.
+      let t = other.refusal command contents day refusal in
+      let same = of_told (held_under held names) (λ contents. SpellTables most_bytes contents t.tables → tables ≡ t.tables) contents (told_others held names contents status other told) (only t.tables) t.spelled in
+      let P : List Table → Type 0 = λ ts. IsCause command ts day status in
+      tables_refused command tables day r status written cause (subst P (sym same) t.cause))
+]
 
 pub read_complete : (command : Command) → (contents : List (List ℕ)) (tables : List Table) (day : ℕ) (r : Result (List ℕ) Status) (bytes : List ℕ) → ((others : List Table) → SpellTables most_bytes contents others → tables ≡ others) → IfErr r (IsRefused command tables day) → IsAnswer command contents day bytes → MatchResult r (λ found. Unit {0}) IsUnread
 read_complete command contents tables day (Ok found) bytes only cause answer = tt
@@ -148,23 +173,31 @@ read_complete command contents tables day (Err s) bytes only (inr d) answer =
     absurd (no_cause command tables day bytes s (subst P (sym (only answer.tables answer.spelled)) answer.written) d)
 
 -- where a file was refused
-pub unread_answer : (command : Command) → (told : Option (List (List ℕ))) (day : ℕ) (R : ℕ → Type 0) (status : Status) → IsFileCause (λ file line kind. IfSome told (λ contents. HasTextFault 1 most_bytes contents file line kind)) R status → IsAnswerCause (λ s. IfSome told (λ contents. IsRefusal command contents day s)) R status
-unread_answer command told day R statuses.Memory cause = tt
-unread_answer command told day R (statuses.ReadFault file) cause = cause
-unread_answer command told day R (statuses.Input (inputs.Text file fault)) cause = cause
-unread_answer command told day R (statuses.Input (inputs.Table fault)) cause = absurd cause
-unread_answer command told day R (statuses.Input (inputs.Trips count)) cause = absurd cause
-unread_answer command told day R (statuses.Input (inputs.Params fault)) cause = absurd cause
-unread_answer command told day R (statuses.Input (inputs.Trip fid fault)) cause = absurd cause
-unread_answer command told day R (statuses.Day fault) cause = absurd cause
-unread_answer command told day R (statuses.NotPlaced side item fid partial) cause = absurd cause
-unread_answer command told day R statuses.Ok cause = absurd cause
-unread_answer command told day R statuses.Usage cause = absurd cause
-unread_answer command told day R statuses.WriteFault cause = absurd cause
+pub unread_answer : (command : Command) → (held : List ℕ → Option (List ℕ)) (names : List (List ℕ)) (day : ℕ) (R : ℕ → Type 0) (status : Status) → IsFileCause (λ file line kind. IfSome (held_under held (take file names)) (λ contents. HasTextFault 1 most_bytes contents file line kind)) R status → IsAnswerCause (λ s. IfSome (told_for held names s) (λ contents. IsRefusal command contents day s)) R status
+unread_answer command held names day R statuses.Memory cause = tt
+unread_answer command held names day R (statuses.ReadFault file) cause = cause
+unread_answer command held names day R (statuses.Input (inputs.Text file fault)) cause = cause
+unread_answer command held names day R (statuses.Input (inputs.Table fault)) cause = absurd cause
+unread_answer command held names day R (statuses.Input (inputs.Trips count)) cause = absurd cause
+unread_answer command held names day R (statuses.Input (inputs.Params fault)) cause = absurd cause
+unread_answer command held names day R (statuses.Input (inputs.Trip fid fault)) cause = absurd cause
+unread_answer command held names day R (statuses.Day fault) cause = absurd cause
+unread_answer command held names day R (statuses.NotPlaced side item fid partial) cause = absurd cause
+unread_answer command held names day R statuses.Ok cause = absurd cause
+unread_answer command held names day R statuses.Usage cause = absurd cause
+unread_answer command held names day R statuses.WriteFault cause = absurd cause
 
-pub unread_refused : (command : Command) → (contents : List (List ℕ)) (day : ℕ) (s status : Status) → ((tables : List Table) → SpellTables most_bytes contents tables → IsUnread s) → ((file line : ℕ) (kind : TextKind) → HasTextFault 1 most_bytes contents file line kind → IsUnread s ⊎ (s ≡ refused_text file line kind)) → IsRefusal command contents day status → IsUnread s ⊎ (s ≡ status)
-unread_refused command contents day s status only exact refusal =
-    elim (parts_of command contents day status refusal) [
-      | inl t ↦ inl (only t.tables t.spelled)
-      | inr f ↦ let P : Status → Type 0 = λ t. IsUnread s ⊎ (s ≡ t) in subst P (sym f.3) (exact f.0 f.1 f.2 f.4)
-    ]
+pub unread_refused : (command : Command) → (held : List ℕ → Option (List ℕ)) (names : List (List ℕ)) (day : ℕ) (s status : Status)
+    → ((tables : List Table) → IfSome (held_under held names) (λ contents. SpellTables most_bytes contents tables → IsUnread s))
+    → ((file line : ℕ) (kind : TextKind) → IfSome (held_under held (take file names)) (λ contents. HasTextFault 1 most_bytes contents file line kind → IsUnread s ⊎ (s ≡ refused_text file line kind)))
+    → IfSome (told_for held names status) (λ contents. IsRefusal command contents day status → IsUnread s ⊎ (s ≡ status))
+unread_refused command held names day s status only exact = elim (parts_of status) [
+  | inl t ↦
+      let text : Status = statuses.Input (inputs.Text t.file t.fault) in
+      let Goal : Status → Type 0 = λ status. IfSome (told_for held names status) (λ contents. IsRefusal command contents day status → IsUnread s ⊎ (s ≡ status)) in
+      let at : Goal text = exact t.file t.fault.line t.fault.kind in
+      subst Goal (sym t.is) at
+  | inr other ↦ if_told (told_for held names status) (λ contents. IsRefusal command contents day status → IsUnread s ⊎ (s ≡ status)) (λ contents told refusal.
+      let t = other.refusal command contents day refusal in
+      inl (of_told (held_under held names) (λ contents. SpellTables most_bytes contents t.tables → IsUnread s) contents (told_others held names contents status other told) (only t.tables) t.spelled))
+]

@@ -1,7 +1,8 @@
 -- Files that are read one after another.
-use Rattle.std.proofs.Common.{◌≡◌, ℕ, zero, suc, ◌+◌, ◌-◌, ◌<◌, ◌≤◌, ◌⊎◌, inl, inr, List, [], ◌∷◌, ◌++◌, length, drop, Option, Some, None, IfSome, refl, sym, ◌∙◌, ap, subst, arith, append_assoc, slice_index_or}
+use Rattle.std.proofs.Common.{◌≡◌, ℕ, zero, suc, ◌+◌, ◌-◌, ◌<◌, ◌≤◌, ◌⊎◌, inl, inr, List, [], ◌∷◌, ◌++◌, length, take, drop, Option, Some, None, IfSome, refl, sym, ◌∙◌, ap, subst, arith, append_assoc, slice_index_or}
 use Rattle.std.proofs.Common.{Bool, true, false, ◌&&◌}
-use Rattle.std.proofs.lemmas.List.{get_or_default}
+use Rattle.std.proofs.lemmas.List.{get_or_default, length-take-le, take_all}
+use Rattle.std.proofs.lemmas.Bool.{cases_lt}
 use Rattle.std.proofs.lemmas.List.Folds.{list_all-append}
 use Rattle.std.specs.Option.{option_map, option_and_then}
 use Rattle.vdv451_text.specs.Plain.{are_plain, is_plain_table}
@@ -9,6 +10,7 @@ use Rattle.plan_core.specs.Outside.{Rose}
 use Rattle.vdv451_text.specs.declared.table.Table.{Table}
 use Rattle.vdv451_text.specs.declared.fault.TextKind.{TextKind}
 use Rattle.vdv451_text.specs.Faults.{Gives, HasFault}
+use Rattle.vdv451_text.proofs.Readings.{reads_fault, reads_given}
 use Rattle.planner_cli.specs.declared.status.Status.{Status}
 use Rattle.planner_cli.specs.declared.status.Status.TheVariants as statuses
 use Rattle.planner_cli.specs.declared.status.InputFault.TheVariants as inputs
@@ -204,11 +206,108 @@ given_so now name bytes left size first told found only exact =
 rose_since : (before between now : ℕ) → before ≤ between → Rose between now → Rose before now
 rose_since before between now h rose = omega (arith, h, rose)
 
-pub read_fault : (before between now : List ℕ → ℕ) (names : List (List ℕ)) (i file : ℕ) (name : List ℕ) → name ≡ slice_index_or names i name → i < length names → ((other : List ℕ) → before other ≤ between other) → (file ≡ i + 1) × Rose (between name) (now name) → IsReadFault names before now file
-read_fault before between now names i file name is within later (at, rose) =
+pub read_fault : (held : List ℕ → Option (List ℕ)) (before between now : List ℕ → ℕ) (names : List (List ℕ)) (i file : ℕ) (name : List ℕ) → name ≡ slice_index_or names i name → i < length names → ((other : List ℕ) → before other ≤ between other)
+    → ((count : ℕ) (contents : List (List ℕ)) → held_under held (take count names) ≡ Some contents → count ≤ i → (all : List Table) × SpellTables most_bytes contents all)
+    → (file ≡ i + 1) × Rose (between name) (now name) → IsReadFault held names before now file
+read_fault held before between now names i file name is within later spelled (at, rose) =
     let same : slice_index_or names (file - 1) [] ≡ name = ap (λ k. slice_index_or names k []) (omega (arith, at)) ∙ get_or_default names i [] name within ∙ sym is in
     record {
       first = omega (arith, at);
       last = omega (arith, at, within);
       rose = rw same (rose_since (before name) (between name) (now name) (later name) rose);
+      order = λ count few. if_told (held_under held (take count names)) (λ contents. (all : List Table) × SpellTables most_bytes contents all) (λ contents told. spelled count contents told (omega (arith, at, few)));
     }
+
+-- a text that spells tables has no fault
+right_text : (most : ℕ) (bytes : List ℕ) (tables : List Table) (line : ℕ) (kind : TextKind) → Gives most bytes tables → HasFault most bytes line kind → ⊥
+right_text most bytes tables line kind gives fault =
+    let both = sym (reads_given most bytes tables gives) ∙ reads_fault most bytes line kind fault in
+    cc
+
+pub right_texts : (number most : ℕ) (contents : List (List ℕ)) (tables : List Table) (file line : ℕ) (kind : TextKind) → SpellTables most contents tables → HasTextFault number most contents file line kind → ⊥
+right_texts number most [] tables file line kind spell fault = fault
+right_texts number most (bytes ∷ files) tables file line kind spell (inl now) = right_text most bytes spell.0 line kind spell.2 now.1
+right_texts number most (bytes ∷ files) tables file line kind spell (inr later) = right_texts (number + 1) (most - length bytes) files spell.1 file line kind spell.3 later.2
+
+-- the name at a place is among the first names
+pub place_of_first : (names : List (List ℕ)) (count i : ℕ) (d : List ℕ) → i < count → i < length names → (slice_index_or (take count names) i d ≡ slice_index_or names i d) × (i < length (take count names))
+place_of_first [] count i d few within = absurd (omega (arith, within))
+place_of_first (name ∷ names) zero i d few within = absurd (omega (arith, few))
+place_of_first (name ∷ names) (suc count) zero d few within = (refl, omega arith)
+place_of_first (name ∷ names) (suc count) (suc i) d few within =
+    let rest = place_of_first names count i d (omega (arith, few)) (omega (arith, within)) in
+    let more = rest.1 in
+    (rest.0, omega (arith, more))
+
+-- What is read of the first i files, beside what the first count of them hold: they are being read, or they spell tables.
+pub record IsReadTo (contents : List (List ℕ)) (count i left : ℕ) (tables : List Table) : Type 0 where
+  pub so : i ≤ count → IsReadSo contents i left tables
+  pub spelled : count ≤ i → (all : List Table) × SpellTables most_bytes contents all
+
+pub none_to : (held : List ℕ → Option (List ℕ)) (names contents : List (List ℕ)) (count : ℕ) → held_under held (take count names) ≡ Some contents → IsReadTo contents count 0 most_bytes []
+none_to held names contents count told = record {
+  so = λ few. none_so contents;
+  spelled = λ few.
+      let none : count ≡ 0 = omega (arith, few) in
+      let P : ℕ → Type 0 = λ k. held_under held (take k names) ≡ Some contents in
+      let told_none : Some [] ≡ Some contents = subst P none told in
+      let empty : contents ≡ [] = cc in
+      let Q : List (List ℕ) → Type 0 = λ c. SpellTables most_bytes c [] in
+      ([], subst Q (sym empty) refl);
+}
+
+-- of the first count names one is at a place
+pub held_to : (held now : List ℕ → Option (List ℕ)) (names contents : List (List ℕ)) (count i : ℕ) (name : List ℕ) → ((other : List ℕ) → now other ≡ held other) → name ≡ slice_index_or names i name → held_under held (take count names) ≡ Some contents → i < count → i < length names → (bytes : List ℕ) × (now name ≡ Some bytes) × (drop i contents ≡ bytes ∷ drop (i + 1) contents)
+held_to held now names contents count i name same is told few within =
+    let at = place_of_first names count i name few within in
+    held_at held now (take count names) contents i name same (is ∙ sym at.0) told at.1
+
+ended_to : (held : List ℕ → Option (List ℕ)) (names contents : List (List ℕ)) (count : ℕ) → held_under held (take count names) ≡ Some contents → count ≤ length names → drop count contents ≡ []
+ended_to held names contents count told few =
+    let all = all_held held (take count names) contents told in
+    let P : ℕ → Type 0 = λ k. drop k contents ≡ [] in
+    subst P (length-take-le count names few) all
+
+pub next_to : (held now : List ℕ → Option (List ℕ)) (names contents : List (List ℕ)) (count i left size : ℕ) (name : List ℕ) (tables first : List Table) → ((other : List ℕ) → now other ≡ held other) → name ≡ slice_index_or names i name → i < length names
+    → IfSome (now name) (λ h. (size ≡ length h) × Gives left h first)
+    → ((tables : List Table) → IfSome (now name) (λ h. Gives left h tables → first ≡ tables))
+    → ((line : ℕ) (kind : TextKind) → IfSome (now name) (λ h. HasFault left h line kind → ⊥))
+    → held_under held (take count names) ≡ Some contents → IsReadTo contents count i left tables → IsReadTo contents count (i + 1) (left - size) (tables ++ first)
+next_to held now names contents count i left size name tables first same is within found only exact told to =
+    let so : i + 1 ≤ count → IsReadSo contents (i + 1) (left - size) (tables ++ first) = λ few.
+    let at = held_to held now names contents count i name same is told (omega (arith, few)) within in
+    let given = given_so now name at.0 left size first at.1 found only exact in
+    rw given.0 (more_so contents i left tables first at.0 at.2 given.1 (to.so (omega (arith, few)))) in
+    record {
+      so = so;
+      spelled = λ few. elim (cases_lt i count) [
+        | inl more ↦
+            let end : count ≡ i + 1 = omega (arith, few, more) in
+            let ended : drop (i + 1) contents ≡ [] = let P : ℕ → Type 0 = λ k. drop k contents ≡ [] in subst P end (ended_to held names contents count told (omega (arith, end, within))) in
+            (tables ++ first, whole_so contents (i + 1) (left - size) (tables ++ first) ended (so (omega (arith, more))))
+        | inr before ↦ to.spelled before
+      ];
+    }
+
+-- at the end of the names
+pub whole_to : (held : List ℕ → Option (List ℕ)) (names contents : List (List ℕ)) (left : ℕ) (tables : List Table) → ((count : ℕ) (contents : List (List ℕ)) → held_under held (take count names) ≡ Some contents → IsReadTo contents count (length names) left tables) → held_under held names ≡ Some contents → IsReadSo contents (length names) left tables
+whole_to held names contents left tables to told =
+    let P : List (List ℕ) → Type 0 = λ ns. held_under held ns ≡ Some contents in
+    let told_all : held_under held (take (length names) names) ≡ Some contents = subst P (sym (take_all (length names) names (omega arith))) told in
+    (to (length names) contents told_all).so (omega arith)
+
+pub right_to : (held : List ℕ → Option (List ℕ)) (names contents : List (List ℕ)) (count left : ℕ) (tables : List Table) (file line : ℕ) (kind : TextKind) → ((count : ℕ) (contents : List (List ℕ)) → held_under held (take count names) ≡ Some contents → IsReadTo contents count (length names) left tables) → held_under held (take count names) ≡ Some contents → HasTextFault 1 most_bytes contents file line kind → ⊥
+right_to held names contents count left tables file line kind to told fault = elim (cases_lt (length names) count) [
+  | inl more ↦
+      let P : List (List ℕ) → Type 0 = λ ns. held_under held ns ≡ Some contents in
+      let told_all : held_under held names ≡ Some contents = subst P (take_all count names (omega (arith, more))) told in
+      none_wrong contents (length names) left tables file line kind (all_held held names contents told_all) ((to count contents told).so (omega (arith, more))) fault
+  | inr few ↦
+      let spelled = (to count contents told).spelled few in
+      right_texts 1 most_bytes contents spelled.0 file line kind spelled.1 fault
+]
+
+pub told_whole : (held : List ℕ → Option (List ℕ)) (names contents : List (List ℕ)) → held_under held names ≡ Some contents → held_under held (take (length names) names) ≡ Some contents
+told_whole held names contents told =
+    let P : List (List ℕ) → Type 0 = λ ns. held_under held ns ≡ Some contents in
+    subst P (sym (take_all (length names) names (omega arith))) told

@@ -7,7 +7,8 @@ pub mod PieceLemmas
 pub mod RequestLemmas
 pub mod RunLemmas
 pub mod TripLemmas
-pub mod WordLemmas
+pub mod OptionLemmas
 pub mod ModelOutcomes
 pub mod ModelLemmas
 pub mod PlanLemmas
+pub mod OneText

@@ -39,7 +39,7 @@ use Rattle.planner_cli.specs.Trips.{IsDayFault}
 use Rattle.planner_cli.proofs.Outcomes.{kind_no_fault, kinds_same, none_some, one_day_fault, some_same}
 
 -- the first reason against a day does not hang on its weekday
-rows_same : (net : Net) (day : ℕ) (a b : DayKind) (xs ys : List ℕ) → IsKindOf net day a → IsKindOf net day b → AreDayRows net.trips a.version a.kind xs → AreDayRows net.trips b.version b.kind ys → xs ≡ ys
+pub rows_same : (net : Net) (day : ℕ) (a b : DayKind) (xs ys : List ℕ) → IsKindOf net day a → IsKindOf net day b → AreDayRows net.trips a.version a.kind xs → AreDayRows net.trips b.version b.kind ys → xs ≡ ys
 rows_same net day a b xs ys p q rows rows' =
     let same = kinds_same net day a b p q in
     let P : ℕ → Type 0 = λ v. AreDayRows net.trips v a.kind xs in

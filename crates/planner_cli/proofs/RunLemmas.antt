@@ -1,44 +1,94 @@
 -- Where no count rises an answer that is unread is want of memory.
-use Rattle.std.proofs.Common.{◌≡◌, ℕ, zero, suc, ◌-◌, ◌<◌, ◌⊎◌, inl, inr, List, [], ◌∷◌, length, Option, Some, None, IfSome, IsSomeAnd, refl, arith, slice_index_or}
+use Rattle.std.proofs.Common.{◌≡◌, ℕ, zero, suc, ◌-◌, ◌<◌, ◌⊎◌, inl, inr, List, [], ◌∷◌, ◌++◌, length, take, Option, Some, None, IfSome, IsSomeAnd, refl, sym, ◌∙◌, ap, subst, arith, slice_index_or}
+use Rattle.std.proofs.lemmas.Bool.{cases_lt}
+use Rattle.vdv451_text.specs.declared.table.Table.{Table}
+use Rattle.vdv451_text.specs.declared.fault.TextKind.{TextKind}
 use Rattle.plan_core.specs.Outside.{Rose}
 use Rattle.planner_cli.specs.declared.status.Status.{Status}
 use Rattle.planner_cli.specs.declared.status.Status.TheVariants as statuses
-use Rattle.planner_cli.specs.Inputs.{IsReadFault, IsUnread, NoneRose}
-use Rattle.planner_cli.specs.Run.{IsAnswerCause}
+use Rattle.planner_cli.specs.declared.status.InputFault.TheVariants as inputs
+use Rattle.planner_cli.specs.Inputs.{HasTextFault, IsReadFault, IsUnread, NoneRose, SpellTables, held_under, most_bytes}
+use Rattle.planner_cli.specs.Run.{IsAnswer, IsAnswerCause, IsRefusal, names_for, told_for}
+use Rattle.planner_cli.specs.declared.words.Command.{Command}
+use Rattle.planner_cli.proofs.AnswerLemmas.{IsOtherStatus, IsTextStatus, parts_of}
+use Rattle.planner_cli.proofs.InputLemmas.{if_told, of_told, place_of_first, right_texts}
 
 none_rose_at : (names : List (List ℕ)) (before now : List ℕ → ℕ) (i : ℕ) → NoneRose names before now → i < length names → ¬ Rose (before (slice_index_or names i [])) (now (slice_index_or names i []))
 none_rose_at [] before now i none within = absurd (omega (arith, within))
 none_rose_at (name ∷ names) before now zero none within = none.0
 none_rose_at (name ∷ names) before now (suc i) none within = none_rose_at names before now i none.1 (omega (arith, within))
 
-no_read_fault : (names : List (List ℕ)) (before now : List ℕ → ℕ) (file : ℕ) → NoneRose names before now → IsReadFault names before now file → ⊥
-no_read_fault names before now file none fault =
+no_read_fault : (held : List ℕ → Option (List ℕ)) (names : List (List ℕ)) (before now : List ℕ → ℕ) (file : ℕ) → NoneRose names before now → IsReadFault held names before now file → ⊥
+no_read_fault held names before now file none fault =
     let first = fault.first in
     let last = fault.last in
     none_rose_at names before now (file - 1) none (omega (arith, first, last)) fault.rose
 
-unread_memory : (refusal : Status → Type 0) (names : List (List ℕ)) (before now : List ℕ → ℕ) (s : Status) → IsAnswerCause refusal (IsReadFault names before now) s → NoneRose names before now → IsUnread s → s ≡ statuses.Memory
-unread_memory refusal names before now statuses.Memory cause none unread = refl
-unread_memory refusal names before now (statuses.ReadFault file) cause none unread = absurd (no_read_fault names before now file none cause)
-unread_memory refusal names before now statuses.Ok cause none unread = absurd unread
-unread_memory refusal names before now statuses.Usage cause none unread = absurd unread
-unread_memory refusal names before now (statuses.Input fault) cause none unread = absurd unread
-unread_memory refusal names before now (statuses.Day fault) cause none unread = absurd unread
-unread_memory refusal names before now (statuses.NotPlaced side item fid partial) cause none unread = absurd unread
-unread_memory refusal names before now statuses.WriteFault cause none unread = absurd unread
+-- nor is one of a file behind the one whose text has a fault
+no_later_fault : (held : List ℕ → Option (List ℕ)) (names contents : List (List ℕ)) (before now : List ℕ → ℕ) (wrong line file : ℕ) (kind : TextKind) → held_under held (take wrong names) ≡ Some contents → HasTextFault 1 most_bytes contents wrong line kind → NoneRose (take wrong names) before now → IsReadFault held names before now file → ⊥
+no_later_fault held names contents before now wrong line file kind told text none fault =
+    let first = fault.first in
+    let last = fault.last in
+    elim (cases_lt wrong file) [
+      | inl later ↦
+          let spelled = of_told (held_under held (take wrong names)) (λ contents. (all : List Table) × SpellTables most_bytes contents all) contents told (fault.order wrong later) in
+          right_texts 1 most_bytes contents spelled.0 wrong line kind spelled.1 text
+      | inr sooner ↦
+          let at = place_of_first names wrong (file - 1) [] (omega (arith, first, sooner)) (omega (arith, first, last)) in
+          let P : List ℕ → Type 0 = λ name. Rose (before name) (now name) in
+          none_rose_at (take wrong names) before now (file - 1) none at.1 (subst P (sym at.0) fault.rose)
+    ]
+
+unread_memory : (refusal : Status → Type 0) (read : ℕ → Type 0) (s : Status) → IsAnswerCause refusal read s → ((file : ℕ) → ¬ read file) → IsUnread s → s ≡ statuses.Memory
+unread_memory refusal read statuses.Memory cause none unread = refl
+unread_memory refusal read (statuses.ReadFault file) cause none unread = absurd (none file cause)
+unread_memory refusal read statuses.Ok cause none unread = absurd unread
+unread_memory refusal read statuses.Usage cause none unread = absurd unread
+unread_memory refusal read (statuses.Input fault) cause none unread = absurd unread
+unread_memory refusal read (statuses.Day fault) cause none unread = absurd unread
+unread_memory refusal read (statuses.NotPlaced side item fid partial) cause none unread = absurd unread
+unread_memory refusal read statuses.WriteFault cause none unread = absurd unread
 
 -- what a told content calls for
+record IsToldSo {A : Type 0} (o : Option A) (P : A → Type 0) : Type 0 where
+  pub content : A
+  pub is : o ≡ Some content
+  pub holds : P content
+
+some_told : {A : Type 0} (o : Option A) (P : A → Type 0) → IsSomeAnd o P → IsToldSo o P
+some_told None P some = absurd some
+some_told (Some x) P some = record { content = x; is = refl; holds = some }
+
 pub called_for : {A : Type 0} (told : Option A) (P : A → Type 0) (Q : Type 0) → IsSomeAnd told P → IfSome told (λ x. P x → Q) → Q
 called_for None P Q some all = absurd some
 called_for (Some x) P Q some all = all some
 
-pub refused_run : {A : Type 0} (told : Option A) (P : A → Type 0) (refusal : Status → Type 0) (names : List (List ℕ)) (before now : List ℕ → ℕ) (s status : Status) → IfSome told (λ x. P x → IsUnread s ⊎ (s ≡ status)) → IsAnswerCause refusal (IsReadFault names before now) s → IsSomeAnd told P → NoneRose names before now → (s ≡ status) ⊎ (s ≡ statuses.Memory)
-refused_run told P refusal names before now s status all cause some none =
-    elim (called_for told P (IsUnread s ⊎ (s ≡ status)) some all) [
-      | inl unread ↦ inr (unread_memory refusal names before now s cause none unread)
+-- no read fault is answered where a refusal is called for, and no count rose under the names that it speaks of
+none_read : (command : Command) (held : List ℕ → Option (List ℕ)) (names : List (List ℕ)) (day : ℕ) (before now : List ℕ → ℕ) (status : Status) → IsSomeAnd (told_for held names status) (λ contents. IsRefusal command contents day status) → NoneRose (names_for names status) before now → (file : ℕ) → ¬ IsReadFault held names before now file
+none_read command held names day before now status some none = elim (parts_of status) [
+  | inl t ↦
+      let Goal : Status → Type 0 = λ status. IsSomeAnd (told_for held names status) (λ contents. IsRefusal command contents day status) → NoneRose (names_for names status) before now → (file : ℕ) → ¬ IsReadFault held names before now file in
+      let at : Goal (statuses.Input (inputs.Text t.file t.fault)) = λ some none file fault.
+      let told = some_told (held_under held (take t.file names)) (λ contents. HasTextFault 1 most_bytes contents t.file t.fault.line t.fault.kind) some in
+      no_later_fault held names told.content before now t.file t.fault.line file t.fault.kind told.is told.holds none fault in
+      subst Goal (sym t.is) at some none
+  | inr other ↦
+      let P : List (List ℕ) → Type 0 = λ ns. NoneRose ns before now in
+      λ file fault. no_read_fault held names before now file (subst P (other.names names) none) fault
+]
+
+pub refused_run : (command : Command) (held : List ℕ → Option (List ℕ)) (names : List (List ℕ)) (day : ℕ) (before now : List ℕ → ℕ) (s status : Status) → IfSome (told_for held names status) (λ contents. IsRefusal command contents day status → IsUnread s ⊎ (s ≡ status))
+    → IsAnswerCause (λ s. IfSome (told_for held names s) (λ contents. IsRefusal command contents day s)) (IsReadFault held names before now) s → IsSomeAnd (told_for held names status) (λ contents. IsRefusal command contents day status) → NoneRose (names_for names status) before now → (s ≡ status) ⊎ (s ≡ statuses.Memory)
+refused_run command held names day before now s status all cause some none =
+    elim (called_for (told_for held names status) (λ contents. IsRefusal command contents day status) (IsUnread s ⊎ (s ≡ status)) some all) [
+      | inl unread ↦ inr (unread_memory (λ s. IfSome (told_for held names s) (λ contents. IsRefusal command contents day s)) (IsReadFault held names before now) s cause (none_read command held names day before now status some none) unread)
       | inr same ↦ inl same
     ]
 
-pub complete_run : {A B : Type 0} (told : Option A) (P : A → B → Type 0) (refusal : Status → Type 0) (names : List (List ℕ)) (before now : List ℕ → ℕ) (s : Status) → ((b : B) → IfSome told (λ x. P x b → IsUnread s)) → IsAnswerCause refusal (IsReadFault names before now) s → IsSomeAnd told (λ x. (b : B) × P x b) → NoneRose names before now → s ≡ statuses.Memory
-complete_run None P refusal names before now s all cause some none = absurd some
-complete_run (Some x) P refusal names before now s all cause some none = unread_memory refusal names before now s cause none (all some.0 some.1)
+pub complete_run : (command : Command) (held : List ℕ → Option (List ℕ)) (names : List (List ℕ)) (day : ℕ) (before now : List ℕ → ℕ) (s : Status) → ((bytes : List ℕ) → IfSome (held_under held names) (λ contents. IsAnswer command contents day bytes → IsUnread s))
+    → IsAnswerCause (λ s. IfSome (told_for held names s) (λ contents. IsRefusal command contents day s)) (IsReadFault held names before now) s → IsSomeAnd (held_under held names) (λ contents. (bytes : List ℕ) × IsAnswer command contents day bytes) → NoneRose names before now → s ≡ statuses.Memory
+complete_run command held names day before now s all cause some none =
+    let told = some_told (held_under held names) (λ contents. (bytes : List ℕ) × IsAnswer command contents day bytes) some in
+    let text = told.holds in
+    let unread = of_told (held_under held names) (λ contents. IsAnswer command contents day text.0 → IsUnread s) told.content told.is (all text.0) text.1 in
+    unread_memory (λ s. IfSome (told_for held names s) (λ contents. IsRefusal command contents day s)) (IsReadFault held names before now) s cause (λ file fault. no_read_fault held names before now file none fault) unread

@@ -1,5 +1,5 @@
 -- What the planning files hold, the tables that they spell, and their first fault of text.
-use Rattle.std.specs.Prelude.{◌≡◌, ℕ, ◌+◌, ◌-◌, ◌≤◌, ◌⊎◌, List, [], ◌∷◌, ◌++◌, length, Option, Some, slice_index_or}
+use Rattle.std.specs.Prelude.{◌≡◌, ◌≢◌, ℕ, ◌+◌, ◌-◌, ◌<◌, ◌≤◌, ◌⊎◌, List, [], ◌∷◌, ◌++◌, length, take, Option, Some, IfSome, slice_index_or}
 use Rattle.std.specs.Option.{option_map, option_and_then}
 use Rattle.plan_core.specs.Outside.{Rose}
 use Rattle.vdv451_text.specs.declared.table.Table.{Table}
@@ -34,11 +34,16 @@ HasTextFault number most (bytes ∷ files) file line kind =
     ((file ≡ number) × HasFault most bytes line kind)
     ⊎ ((tables : List Table) × Gives most bytes tables × HasTextFault (number + 1) (most - length bytes) files file line kind)
 
--- the count of faults rose under the name of the file with this number, counted from 1
-pub record IsReadFault (names : List (List ℕ)) (before now : List ℕ → ℕ) (file : ℕ) : Type 0 where
+-- the files before this one, as far as they are told, spell tables
+abbrev pub SpellBefore : (List ℕ → Option (List ℕ)) → List (List ℕ) → ℕ → Type 0
+SpellBefore held names file = (count : ℕ) → count < file → IfSome (held_under held (take count names)) (λ contents. (tables : List Table) × SpellTables most_bytes contents tables)
+
+-- The count of faults rose under the name of the file with this number, counted from 1, and the texts of the files before it are right.
+pub record IsReadFault (held : List ℕ → Option (List ℕ)) (names : List (List ℕ)) (before now : List ℕ → ℕ) (file : ℕ) : Type 0 where
   pub first : 1 ≤ file
   pub last : file ≤ length names
   pub rose : Rose (before (slice_index_or names (file - 1) [])) (now (slice_index_or names (file - 1) []))
+  pub order : SpellBefore held names file
 
 -- no count of faults rose under these names
 abbrev pub NoneRose : List (List ℕ) → (List ℕ → ℕ) → (List ℕ → ℕ) → Type 0

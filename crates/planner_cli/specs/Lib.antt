@@ -2,6 +2,7 @@ pub mod Codes
 pub mod DayText
 pub mod Inputs
 pub mod Model
+pub mod Options
 pub mod PlanText
 pub mod Run
 pub mod Taken

@@ -1,5 +1,5 @@
 -- What the top call answers, from the words, from what the files hold and from the counts of faults.
-use Rattle.std.specs.Prelude.{◌≡◌, ℕ, ◌⊎◌, List, ◌++◌, Option, Some, IfSome}
+use Rattle.std.specs.Prelude.{◌≡◌, ℕ, ◌⊎◌, List, ◌++◌, take, Option, Some, IfSome}
 use Rattle.plan_core.specs.Outside.{Rose}
 use Rattle.vdv451_text.specs.declared.table.Table.{Table}
 use Rattle.planner_cli.specs.declared.status.Status.{Status}
@@ -95,3 +95,28 @@ IsWritten old new faults_before faults_now text (statuses.ReadFault file) = ⊥
 -- what the files named by a request hold, where all of them tell it
 abbrev pub told : (List ℕ → Option (List ℕ)) → Request → Option (List (List ℕ))
 told held request = held_under held request.names
+
+-- the names of the files that a refusal speaks of: those up to the one whose text has the fault, or all
+abbrev pub names_for : List (List ℕ) → Status → List (List ℕ)
+names_for names (statuses.Input (inputs.Text file fault)) = take file names
+names_for names (statuses.Input (inputs.Table fault)) = names
+names_for names (statuses.Input (inputs.Trips count)) = names
+names_for names (statuses.Input (inputs.Params fault)) = names
+names_for names (statuses.Input (inputs.Trip fid fault)) = names
+names_for names (statuses.Day fault) = names
+names_for names (statuses.NotPlaced side item fid partial) = names
+names_for names statuses.Memory = names
+names_for names statuses.Ok = names
+names_for names statuses.Usage = names
+names_for names (statuses.ReadFault file) = names
+names_for names statuses.WriteFault = names
+
+-- what these files hold, where all of them tell it
+abbrev pub told_for : (List ℕ → Option (List ℕ)) → List (List ℕ) → Status → Option (List (List ℕ))
+told_for held names status = held_under held (names_for names status)
+
+-- the commands whose text is shown to be one
+abbrev pub HasOneText : Command → Type 0
+HasOneText Trips = Unit {0}
+HasOneText Day = Unit {0}
+HasOneText Plan = ⊥

@@ -1,6 +1,6 @@
 //! The planning files, read and spelled out.
 
-ghost use Rattle.std.specs.Prelude.{◌≡◌, ◌≢◌, ◌≤◌, ◌<◌, ◌^◌, ◌⊎◌, ◌+◌, ◌-◌, ℕ, List, Some, All, IsTrue, IfOk, IfErr, IfSome, OnOk, ◌++◌, MatchResult, length, vec_len};
+ghost use Rattle.std.specs.Prelude.{◌≡◌, ◌≢◌, ◌≤◌, ◌<◌, ◌^◌, ◌⊎◌, ◌+◌, ◌-◌, ℕ, List, Some, All, IsTrue, IfOk, IfErr, IfSome, IsErrOf, OnOk, ◌++◌, MatchResult, length, take, vec_len};
 ghost use Rattle.vdv451_text.specs.Faults.{Gives, HasFault};
 ghost use Rattle.vdv451_text.specs.Plain.{are_plain};
 ghost use Rattle.vdv451_text.specs.declared.fault.TextKind.{TextKind};
@@ -69,6 +69,7 @@ fn read_spelled<F: Files>(
     ensures cause { IfErr result (IsFileCause (λ file line kind. (file ≡ number) × IfSome (F.held files.old name.now) (λ bytes. HasFault most bytes line kind)) (λ file. (file ≡ number) × Rose (F.faults files.old name.now) (F.faults files.new name.now))) }
     ensures exact { (line : ℕ) (kind : TextKind) → IfSome (F.held files.old name.now) (λ bytes. HasFault most bytes line kind → MatchResult result (λ _. ⊥) (λ status. IsUnread status ⊎ (status ≡ refused_text number line kind))) }
     ensures later { (other : List ℕ) → F.faults files.old other ≤ F.faults files.new other }
+    ensures still { ((file : ℕ) → ¬ IsErrOf result (Status.ReadFault file)) → (other : List ℕ) → F.faults files.new other ≡ F.faults files.old other }
     ensures same { (other : List ℕ) → F.held files.new other ≡ F.held files.old other }
 {
     let bytes = match read_whole(alloc, files, name, most) {
@@ -111,10 +112,13 @@ pub fn read_inputs<F: Files>(
     ensures plain { IfOk result (λ tables. IsTrue (are_plain tables.items)) }
     ensures sized { IfOk result (λ tables. All (λ table. length table.rows < 2 ^ 32) tables.items) }
 
-    // A refusal has its cause, and a fault of text is answered.
-    ensures cause { IfErr result (IsFileCause (λ file line kind. IfSome (held_under (F.held files.old) names.now) (λ contents. HasTextFault 1 most_bytes contents file line kind)) (IsReadFault names.now (F.faults files.old) (F.faults files.new))) }
-    ensures exact { (file line : ℕ) (kind : TextKind) → IfSome (held_under (F.held files.old) names.now) (λ contents. HasTextFault 1 most_bytes contents file line kind → MatchResult result (λ _. ⊥) (λ status. IsUnread status ⊎ (status ≡ refused_text file line kind))) }
+    // A refusal has its cause in the files up to the one that it names, and a fault of text is answered.
+    ensures cause { IfErr result (IsFileCause (λ file line kind. IfSome (held_under (F.held files.old) (take file names.now)) (λ contents. HasTextFault 1 most_bytes contents file line kind)) (IsReadFault (F.held files.old) names.now (F.faults files.old) (F.faults files.new))) }
+    ensures exact { (file line : ℕ) (kind : TextKind) → IfSome (held_under (F.held files.old) (take file names.now)) (λ contents. HasTextFault 1 most_bytes contents file line kind → MatchResult result (λ _. ⊥) (λ status. IsUnread status ⊎ (status ≡ refused_text file line kind))) }
+
+    // Only a read fault moves a count, and no read changes what is held.
     ensures later { (other : List ℕ) → F.faults files.old other ≤ F.faults files.new other }
+    ensures still { ((file : ℕ) → ¬ IsErrOf result (Status.ReadFault file)) → (other : List ℕ) → F.faults files.new other ≡ F.faults files.old other }
     ensures same { (other : List ℕ) → F.held files.new other ≡ F.held files.old other }
 {
     let mut tables = Vec::new(alloc);

@@ -7,6 +7,7 @@ mod day;
 mod inputs;
 mod lines;
 mod model;
+mod options;
 mod plan;
 #[cfg(test)]
 mod plan_tests;
@@ -18,11 +19,11 @@ mod transfer;
 mod trips;
 mod words;
 
-use adapters::{DiskFiles, Stream, words_of};
+use adapters::{DiskFiles, Stream, longest_of, words_of};
 use plan_core::NoGate;
 use std::process::ExitCode;
 
-/// The status number where there is no memory for the words.
+/// The status number where there is no memory for the words, or for the room in which files are read.
 const NO_MEMORY: u8 = 9;
 
 fn main(rt: HostRuntime) -> ExitCode {
@@ -31,7 +32,10 @@ fn main(rt: HostRuntime) -> ExitCode {
         Ok(words) => words,
         Err(_) => return ExitCode::from(NO_MEMORY),
     };
-    let mut files = DiskFiles::new(&rt, alloc);
+    let mut files = match DiskFiles::new(&rt, alloc, longest_of(words.as_slice())) {
+        Ok(files) => files,
+        Err(_) => return ExitCode::from(NO_MEMORY),
+    };
     let mut out = Stream::new(rt.stdout());
     let mut err = Stream::new(rt.stderr());
     let status = run::run(

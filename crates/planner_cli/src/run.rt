@@ -1,6 +1,6 @@
 //! The top call.
 
-ghost use Rattle.std.specs.Prelude.{◌≡◌, ◌≢◌, ◌↔◌, ◌⊎◌, ℕ, List, Some, None, IfSome, IsSomeAnd};
+ghost use Rattle.std.specs.Prelude.{◌≡◌, ◌≢◌, ◌↔◌, ◌⊎◌, ◌++◌, ℕ, List, Some, None, IfSome, IsSomeAnd};
 ghost use Rattle.plan_core.specs.Outside.{Rose};
 ghost use Rattle.planner_cli.specs.declared.status.Side.{Side as RunSide};
 ghost use Rattle.planner_cli.specs.declared.status.Status.{Status as RunStatus};
@@ -10,7 +10,7 @@ ghost use Rattle.cover_core.specs.declared.Plan.{Plan as RunPlan};
 ghost use Rattle.day_calendar.specs.declared.day.DayFault.{DayFault as FaultOfDay};
 ghost use Rattle.planner_cli.specs.Inputs.{IsReadFault, NoneRose};
 ghost use Rattle.planner_cli.specs.Lines.{IsTold, line_of};
-ghost use Rattle.planner_cli.specs.Run.{IsAnswer, IsRefusal, TakesAnswer, TakesFrontOfAnswer, told};
+ghost use Rattle.planner_cli.specs.Run.{HasOneText, IsAnswer, IsRefusal, TakesAnswer, TakesFrontOfAnswer, names_for, told, told_for};
 ghost use Rattle.planner_cli.specs.Words.{asked, day_said};
 
 use crate::answer::carry_out;
@@ -24,16 +24,21 @@ use std::thread::Threads;
 /// Answers what the words ask for, without a word on standard error.
 fn answered<F: Files, O: Sink>(alloc: Global, words: &[Bytes], files: &mut F, out: &mut O) -> Status
     ensures usage { (result ≡ Status.Usage) ↔ (asked words.now ≡ None) }
-    ensures input { (fault : RunFault) → result ≡ Status.Input fault → IfSome (asked words.now) (λ request. IfSome (told (F.held files.old) request) (λ contents. IsRefusal request.command contents request.day (Status.Input fault))) }
+    ensures input { (fault : RunFault) → result ≡ Status.Input fault → IfSome (asked words.now) (λ request. IfSome (told_for (F.held files.old) request.names (Status.Input fault)) (λ contents. IsRefusal request.command contents request.day (Status.Input fault))) }
     ensures day { (fault : FaultOfDay) → result ≡ Status.Day fault → IfSome (asked words.now) (λ request. IfSome (told (F.held files.old) request) (λ contents. IsRefusal request.command contents request.day (Status.Day fault))) }
     ensures left { (side : RunSide) (item fid : ℕ) (partial : RunPlan) → result ≡ Status.NotPlaced side item fid partial → IfSome (asked words.now) (λ request. IfSome (told (F.held files.old) request) (λ contents. IsRefusal request.command contents request.day (Status.NotPlaced side item fid partial))) }
-    ensures read_fault { (file : ℕ) → result ≡ Status.ReadFault file → IfSome (asked words.now) (λ request. IsReadFault request.names (F.faults files.old) (F.faults files.new) file) }
+    ensures read_fault { (file : ℕ) → result ≡ Status.ReadFault file → IfSome (asked words.now) (λ request. IsReadFault (F.held files.old) request.names (F.faults files.old) (F.faults files.new) file) }
     ensures write_fault { result ≡ Status.WriteFault → Rose (O.faults out.old) (O.faults out.new) }
     ensures ok { result ≡ Status.Ok → IfSome (asked words.now) (λ request. IfSome (told (F.held files.old) request) (λ contents. IfSome (O.taken out.old) (TakesAnswer request.command contents request.day (O.taken out.new)))) }
     ensures front { result ≡ Status.WriteFault → IfSome (asked words.now) (λ request. IfSome (told (F.held files.old) request) (λ contents. IfSome (O.taken out.old) (TakesFrontOfAnswer request.command contents request.day (O.taken out.new)))) }
+    ensures only { (request : RunRequest) (bytes : List ℕ) → result ≡ Status.Ok → asked words.now ≡ Some request → HasOneText request.command
+        → IfSome (told (F.held files.old) request) (λ contents. IsAnswer request.command contents request.day bytes → IfSome (O.taken out.old) (λ old. O.taken out.new ≡ Some (old ++ bytes))) }
     ensures nothing { result ≢ Status.Ok → result ≢ Status.WriteFault → out.new ≡ out.old }
-    ensures refused { (status : RunStatus) (request : RunRequest) → asked words.now ≡ Some request → IsSomeAnd (told (F.held files.old) request) (λ contents. IsRefusal request.command contents request.day status)
-        → NoneRose request.names (F.faults files.old) (F.faults files.new) → (result ≡ status) ⊎ (result ≡ Status.Memory) }
+    ensures still { ((file : ℕ) → result ≢ Status.ReadFault file) → (other : List ℕ) → F.faults files.new other ≡ F.faults files.old other }
+    ensures same { (other : List ℕ) → F.held files.new other ≡ F.held files.old other }
+    ensures unmoved { result ≢ Status.WriteFault → O.faults out.new ≡ O.faults out.old }
+    ensures refused { (status : RunStatus) (request : RunRequest) → asked words.now ≡ Some request → IsSomeAnd (told_for (F.held files.old) request.names status) (λ contents. IsRefusal request.command contents request.day status)
+        → NoneRose (names_for request.names status) (F.faults files.old) (F.faults files.new) → (result ≡ status) ⊎ (result ≡ Status.Memory) }
     ensures complete { (request : RunRequest) → asked words.now ≡ Some request → IsSomeAnd (told (F.held files.old) request) (λ contents. (bytes : List ℕ) × IsAnswer request.command contents request.day bytes)
         → NoneRose request.names (F.faults files.old) (F.faults files.new) → ¬ Rose (O.faults out.old) (O.faults out.new)
         → (result ≡ Status.Ok) ⊎ (result ≡ Status.Memory) }
@@ -73,25 +78,33 @@ pub fn run<R: Threads + Sync, F: Files, O: Sink, E: Sink, G: Gate + Sync>(
     // The words are wrong exactly where that is answered.
     ensures usage { (result ≡ Status.Usage) ↔ (asked words.now ≡ None) }
 
-    // A refusal has its cause in what the files hold, and a fault of the outside in a count that rose.
-    ensures input { (fault : RunFault) → result ≡ Status.Input fault → IfSome (asked words.now) (λ request. IfSome (told (F.held files.old) request) (λ contents. IsRefusal request.command contents request.day (Status.Input fault))) }
+    // A refusal has its cause in what the files hold, one of text in the files up to its own, and a fault of the outside in a count
+    // that rose; a read fault comes only where the files before it are right.
+    ensures input { (fault : RunFault) → result ≡ Status.Input fault → IfSome (asked words.now) (λ request. IfSome (told_for (F.held files.old) request.names (Status.Input fault)) (λ contents. IsRefusal request.command contents request.day (Status.Input fault))) }
     ensures day { (fault : FaultOfDay) → result ≡ Status.Day fault → IfSome (asked words.now) (λ request. IfSome (told (F.held files.old) request) (λ contents. IsRefusal request.command contents request.day (Status.Day fault))) }
     ensures left { (side : RunSide) (item fid : ℕ) (partial : RunPlan) → result ≡ Status.NotPlaced side item fid partial → IfSome (asked words.now) (λ request. IfSome (told (F.held files.old) request) (λ contents. IsRefusal request.command contents request.day (Status.NotPlaced side item fid partial))) }
-    ensures read_fault { (file : ℕ) → result ≡ Status.ReadFault file → IfSome (asked words.now) (λ request. IsReadFault request.names (F.faults files.old) (F.faults files.new) file) }
+    ensures read_fault { (file : ℕ) → result ≡ Status.ReadFault file → IfSome (asked words.now) (λ request. IsReadFault (F.held files.old) request.names (F.faults files.old) (F.faults files.new) file) }
     ensures write_fault { result ≡ Status.WriteFault → Rose (O.faults out.old) (O.faults out.new) }
 
-    // What the sink took: the whole text, a front of it, or nothing.
+    // What the sink took: the whole text and no other, a front of it, or nothing.
     ensures ok { result ≡ Status.Ok → IfSome (asked words.now) (λ request. IfSome (told (F.held files.old) request) (λ contents. IfSome (O.taken out.old) (TakesAnswer request.command contents request.day (O.taken out.new)))) }
     ensures front { result ≡ Status.WriteFault → IfSome (asked words.now) (λ request. IfSome (told (F.held files.old) request) (λ contents. IfSome (O.taken out.old) (TakesFrontOfAnswer request.command contents request.day (O.taken out.new)))) }
+    ensures only { (request : RunRequest) (bytes : List ℕ) → result ≡ Status.Ok → asked words.now ≡ Some request → HasOneText request.command
+        → IfSome (told (F.held files.old) request) (λ contents. IsAnswer request.command contents request.day bytes → IfSome (O.taken out.old) (λ old. O.taken out.new ≡ Some (old ++ bytes))) }
     ensures nothing { result ≢ Status.Ok → result ≢ Status.WriteFault → out.new ≡ out.old }
+
+    // A count of faults moves only with the answer of that fault, and the files hold what they held.
+    ensures still { ((file : ℕ) → result ≢ Status.ReadFault file) → (other : List ℕ) → F.faults files.new other ≡ F.faults files.old other }
+    ensures same { (other : List ℕ) → F.held files.new other ≡ F.held files.old other }
+    ensures unmoved { result ≢ Status.WriteFault → O.faults out.new ≡ O.faults out.old }
 
     // Standard error: nothing with Ok, and with a refusal its line, whole unless a write there failed.
     ensures quiet { result ≡ Status.Ok → err.new ≡ err.old }
     ensures line { result ≢ Status.Ok → IsTold (E.taken err.old) (E.taken err.new) (E.faults err.old) (E.faults err.new) (line_of (day_said words.now) result) }
 
     // Where no count rises, what the files call for is answered, or want of memory.
-    ensures refused { (status : RunStatus) (request : RunRequest) → asked words.now ≡ Some request → IsSomeAnd (told (F.held files.old) request) (λ contents. IsRefusal request.command contents request.day status)
-        → NoneRose request.names (F.faults files.old) (F.faults files.new) → (result ≡ status) ⊎ (result ≡ Status.Memory) }
+    ensures refused { (status : RunStatus) (request : RunRequest) → asked words.now ≡ Some request → IsSomeAnd (told_for (F.held files.old) request.names status) (λ contents. IsRefusal request.command contents request.day status)
+        → NoneRose (names_for request.names status) (F.faults files.old) (F.faults files.new) → (result ≡ status) ⊎ (result ≡ Status.Memory) }
     ensures complete { (request : RunRequest) → asked words.now ≡ Some request → IsSomeAnd (told (F.held files.old) request) (λ contents. (bytes : List ℕ) × IsAnswer request.command contents request.day bytes)
         → NoneRose request.names (F.faults files.old) (F.faults files.new) → ¬ Rose (O.faults out.old) (O.faults out.new)
         → (result ≡ Status.Ok) ⊎ (result ≡ Status.Memory) }

@@ -210,12 +210,26 @@ const USAGE: &str = "usage: planner trips|day|plan|certify|check|make\n";
 #[test]
 fn the_words_have_a_grammar(rt: HostRuntime) -> Result<(), Fail> {
     let alloc = rt.alloc();
-    let rows: [(&[&str], u8, &str); 14] = [
+    let rows: [(&[&str], u8, &str); 20] = [
         (&["trips", "20260302"], 2, USAGE),
         (&["trips", "2026030a", "f"], 2, USAGE),
         (&["trips", "20260302", "-f"], 2, USAGE),
         (&["trips", "20260302", "--rounds", "5", "f"], 2, USAGE),
         (&["trips", "20260302", ""], 2, USAGE),
+        (&["plan", "--rounds", "201", "20260302", "f"], 2, USAGE),
+        (
+            &["plan", "--lower=5", "20260302", "f", "--lower=5"],
+            2,
+            USAGE,
+        ),
+        (&["plan", "20260302", "f", "--rounds", "--"], 2, USAGE),
+        (&["plan", "20260302", "f", "--workers="], 2, USAGE),
+        (&["plan", "20260302", "f", "--flow=1"], 2, USAGE),
+        (
+            &["plan", "--workers", "064", "20260302", "--exchange=0", "g"],
+            7,
+            "read fault: file 1\n",
+        ),
         (&["trips", "20260302", "--"], 2, USAGE),
         (&["--", "trips", "20260302", "f"], 2, USAGE),
         (&[], 2, USAGE),
@@ -289,6 +303,31 @@ fn faults_of_the_input_are_named(rt: HostRuntime) -> Result<(), Fail> {
             "file 1 line 23: EndCount\n"
         )?
     );
+    Ok(())
+}
+
+#[test]
+fn the_first_wrong_file_is_named(rt: HostRuntime) -> Result<(), Fail> {
+    let alloc = rt.alloc();
+    let wrong = [CALENDAR, "eof; 3\n"];
+    let rows: [(&[&str], u8, &str); 2] = [
+        (
+            &["trips", "20260302", "f", "missing"],
+            3,
+            "file 1 line 18: EofCount\n",
+        ),
+        (
+            &["trips", "20260302", "missing", "f"],
+            7,
+            "read fault: file 1\n",
+        ),
+    ];
+    for (words, code, line) in rows {
+        assert!(rt;
+            is_refused(&rt, alloc, words, &wrong, code, line)?,
+            "{line}"
+        );
+    }
     Ok(())
 }
 

@@ -1,6 +1,6 @@
 //! Whole files in, a whole text out.
 
-ghost use Rattle.std.specs.Prelude.{◌≡◌, ◌+◌, ◌<◌, ◌≤◌, ◌^◌, ◌++◌, List, ℕ, Option, Some, length, take, vec_len, IfOk, IfSome, OnOk, OnErr, IsErrOf};
+ghost use Rattle.std.specs.Prelude.{◌≡◌, ◌+◌, ◌<◌, ◌≤◌, ◌^◌, ◌++◌, ◌⊎◌, List, ℕ, Option, Some, length, take, vec_len, IfOk, IfSome, OnOk, OnErr, IsErrOf};
 ghost use Rattle.plan_core.specs.Outside.{Rose};
 ghost use Rattle.planner_cli.specs.Taken.{TakesFront};
 
@@ -26,7 +26,7 @@ impl From<AllocError> for ReadRefusal {
 }
 
 /// How many bytes a read asks for.
-const PIECE: usize = 65_536;
+pub const PIECE: usize = 65_536;
 
 /// Bytes of that many zeros.
 pub fn zeros(alloc: Global, count: usize) -> Result<Vec<u8>, AllocError>
@@ -60,6 +60,7 @@ fn read_pieces<F: Files>(
     ensures fault { IsErrOf result ReadRefusal.Fault → Rose (F.faults files.old name.now) (F.faults files.new name.now) }
     ensures later { (other : List ℕ) → F.faults files.old other ≤ F.faults files.new other }
     ensures same { (other : List ℕ) → F.held files.new other ≡ F.held files.old other }
+    ensures ended { (other : List ℕ) → IsErrOf result ReadRefusal.Fault ⊎ (F.faults files.new other ≡ F.faults files.old other) }
 {
     let mut bytes = Vec::new(alloc);
     loop {
@@ -96,6 +97,9 @@ pub fn read_whole<F: Files>(
     ensures fault { IsErrOf result ReadRefusal.Fault → Rose (F.faults files.old name.now) (F.faults files.new name.now) }
     ensures later { (other : List ℕ) → F.faults files.old other ≤ F.faults files.new other }
     ensures same { (other : List ℕ) → F.held files.new other ≡ F.held files.old other }
+
+    // Without that answer no count of faults moved.
+    ensures ended { (other : List ℕ) → IsErrOf result ReadRefusal.Fault ⊎ (F.faults files.new other ≡ F.faults files.old other) }
 {
     let mut buffer = zeros(alloc, PIECE)?;
     read_pieces(alloc, files, name, most, buffer.as_mut_slice())
@@ -109,6 +113,7 @@ pub fn write_whole<O: Sink>(out: &mut O, text: &[u8]) -> Result<(), Failed>
     ensures front { IfSome (O.taken out.old) (λ old. TakesFront old (O.taken out.new) text.now) }
     ensures fault { OnErr result (Rose (O.faults out.old) (O.faults out.new)) }
     ensures later { O.faults out.old ≤ O.faults out.new }
+    ensures quiet { OnOk result (O.faults out.new ≡ O.faults out.old) }
 {
     let mut at = 0;
     while at < text.len() {

@@ -1,13 +1,18 @@
 //! The words of the command line.
 
-ghost use Rattle.std.specs.Prelude.{◌≡◌, ◌≤◌, ◌↔◌, ◌⊎◌, ◌++◌, ◌∷◌, [], not, IfOk, IfErr, IfSome, IfNone, OnOk, IsErrOf, Some, None, length, true, false};
-ghost use Rattle.std.specs.Char.{is_ascii_digit};
+ghost use Rattle.std.specs.Prelude.{◌≡◌, ◌≤◌, ◌<◌, ◌↔◌, ◌⊎◌, ◌++◌, ◌∷◌, [], IfOk, IfErr, IfSome, IfNone, OnOk, IsErrOf, Some, None, length, drop, true, false};
 ghost use Rattle.std.specs.List.{list_all};
+ghost use Rattle.std.specs.Option.{option_and_then};
 ghost use Rattle.std.specs.Str.Parse.{digits_value};
+ghost use Rattle.price_rounds.specs.Efforts.{IsEffort};
+ghost use Rattle.planner_cli.specs.Options.{effort_said as effort_that, plain_of, said as said_by};
 ghost use Rattle.planner_cli.specs.Words as spec;
+ghost use Rattle.planner_cli.specs.declared.words.Command.{Command as AnyCommand};
 
+use crate::options::{are_digits, digits_number, effort_said, first_plain};
 use crate::status::Status;
 use plan_core::{Bytes, Memory, Seq};
+use price_rounds::Effort;
 use std::alloc::Global;
 
 /// A command reads at most so many files.
@@ -28,13 +33,15 @@ pub enum Command {
 #[derive(Drop)]
 pub struct Request {
     pub command: Command,
+    /// How much work a plan is given.
+    pub effort: Effort,
     /// The day as the number YYYYMMDD.
     pub day: u32,
     /// The names of the files, in their order.
     pub names: Seq<Bytes>,
 }
 
-/// Words, parted at the first `--`.
+/// Words, parted at the first `--`. Those before it may be options and their values.
 #[derive(Clone, Copy)]
 struct Parted<'w> {
     before: &'w [Bytes],
@@ -46,21 +53,6 @@ fn ends_options(word: &[u8]) -> bool
 {
     let dashes: &[u8] = b"--";
     word == dashes
-}
-
-fn is_option(word: &[u8]) -> bool
-    ensures { result ≡ spec.is_option word.now }
-{
-    match word {
-        [first, _, ..] => *first == b'-',
-        _ => false,
-    }
-}
-
-fn are_digits(word: &[u8]) -> bool
-    ensures { result ≡ list_all is_ascii_digit word.now }
-{
-    word.iter().all(|byte| byte.is_ascii_digit())
 }
 
 fn is_day(word: &[u8]) -> bool
@@ -104,22 +96,25 @@ struct DayAndFiles<'w> {
 }
 
 fn day_and_files(words: Parted<'_>) -> Option<DayAndFiles<'_>>
-    ensures some { IfSome result (λ said. words.entry.before.now ++ words.entry.behind.now ≡ said.day.now ∷ (said.files.before.now ++ said.files.behind.now)) }
-    ensures none { IfNone result (words.entry.before.now ++ words.entry.behind.now ≡ []) }
+    ensures some { IfSome result (λ said. plain_of (said_by words.entry.before.now) ++ words.entry.behind.now ≡ said.day.now ∷ (plain_of (said_by said.files.before.now) ++ said.files.behind.now)) }
+    ensures none { IfNone result (plain_of (said_by words.entry.before.now) ++ words.entry.behind.now ≡ []) }
 {
-    match (words.before, words.behind) {
-        ([day, before @ ..], behind) => Some(DayAndFiles {
-            day: day.as_slice(),
-            files: Parted { before, behind },
+    match (first_plain(words.before), words.behind) {
+        (Some(first), behind) => Some(DayAndFiles {
+            day: first.word,
+            files: Parted {
+                before: first.rest,
+                behind,
+            },
         }),
-        ([], [day, behind @ ..]) => Some(DayAndFiles {
+        (None, [day, behind @ ..]) => Some(DayAndFiles {
             day: day.as_slice(),
             files: Parted {
                 before: &[],
                 behind,
             },
         }),
-        ([], []) => None,
+        (None, []) => None,
     }
 }
 
@@ -129,29 +124,56 @@ fn are_files(files: &[Bytes]) -> bool
     files.iter().all(|file| is_file(file.as_slice()))
 }
 
-fn have_no_option(words: &[Bytes]) -> bool
-    ensures { result ≡ list_all (λ word. not (spec.is_option word)) words.now }
+/// How many plain words there are, where each is the name of a file.
+fn plain_files(words: &[Bytes]) -> Option<usize>
+    ensures some { IfSome result (λ count. (list_all spec.file_word (plain_of (said_by words.now)) ≡ true) × (count ≡ length (plain_of (said_by words.now))) × (count ≤ length words.now)) }
+    ensures none { IfNone result (list_all spec.file_word (plain_of (said_by words.now)) ≡ false) }
 {
-    words.iter().all(|word| !is_option(word.as_slice()))
+    let mut count = 0usize;
+    let mut rest = words;
+    while let Some(first) = first_plain(rest) {
+        if !is_file(first.word) {
+            return None;
+        }
+        count += 1;
+        rest = first.rest;
+    }
+    Some(count)
 }
 
 /// Whether this is a day with 1 to 64 files.
 fn is_right(said: DayAndFiles<'_>) -> bool
-    ensures { result ≡ spec.are_day_and_files (said.entry.day.now ∷ (said.entry.files.before.now ++ said.entry.files.behind.now)) }
+    ensures { result ≡ spec.are_day_and_files (said.entry.day.now ∷ (plain_of (said_by said.entry.files.before.now) ++ said.entry.files.behind.now)) }
 {
-    let count = said.files.before.len() + said.files.behind.len();
-    let are_named = are_files(said.files.before) && are_files(said.files.behind);
-    is_day(said.day) && (are_named && (1 <= count && count <= MOST_FILES))
+    match plain_files(said.files.before) {
+        Some(before) => {
+            let count = before + said.files.behind.len();
+            is_day(said.day)
+                && (are_files(said.files.behind) && (1 <= count && count <= MOST_FILES))
+        }
+        None => false,
+    }
 }
 
-/// What the words behind the command say, where they are right.
-fn right_words(words: &[Bytes]) -> Option<DayAndFiles<'_>>
-    ensures some { IfSome result (λ said. (spec.are_right words.now ≡ true) × (spec.plain_words words.now ≡ said.day.now ∷ (said.files.before.now ++ said.files.behind.now))) }
-    ensures none { IfNone result (spec.are_right words.now ≡ false) }
+/// What right words behind a command say.
+#[derive(Clone, Copy)]
+struct Right<'w> {
+    effort: Effort,
+    said: DayAndFiles<'w>,
+}
+
+/// What the words behind a command say, where they are right.
+fn right_words(takes_options: bool, words: &[Bytes]) -> Option<Right<'_>>
+    ensures effort { IfSome result (λ right. (effort_that takes_options (spec.before_end words.now) ≡ Some right.effort) × IsEffort right.effort) }
+    ensures some { IfSome result (λ right. (spec.are_day_and_files (spec.plain_words words.now) ≡ true) × (spec.plain_words words.now ≡ right.said.day.now ∷ (plain_of (said_by right.said.files.before.now) ++ right.said.files.behind.now))) }
+    ensures none { IfNone result ((effort_that takes_options (spec.before_end words.now) ≡ None) ⊎ (spec.are_day_and_files (spec.plain_words words.now) ≡ false)) }
 {
     let parts = part(words);
-    match day_and_files(parts) {
-        Some(said) if have_no_option(parts.before) && is_right(said) => Some(said),
+    match (
+        effort_said(takes_options, parts.before),
+        day_and_files(parts),
+    ) {
+        (Some(effort), Some(said)) if is_right(said) => Some(Right { effort, said }),
         _ => None,
     }
 }
@@ -173,16 +195,14 @@ fn command_of(word: &[u8]) -> Option<Command>
     }
 }
 
-/// The number that a day's eight digits spell.
-fn day_number(word: &[u8]) -> u32
-    requires { spec.day_word word.now ≡ true }
-    ensures { result ≡ digits_value 10 word.now }
+fn takes_options(command: Command) -> bool
+    ensures { result ≡ spec.takes_options command }
 {
-    let mut day = 0u32;
-    for digit in word {
-        day = day * 10 + u32::from(*digit - b'0');
+    match command {
+        Command::Trips => false,
+        Command::Day => false,
+        Command::Plan => true,
     }
-    day
 }
 
 /// Puts the names of some files behind those that are there.
@@ -195,29 +215,44 @@ fn add_names(names: &mut Seq<Bytes>, files: &[Bytes]) -> Result<(), Memory>
     Ok(())
 }
 
+/// Puts the plain ones of some words behind the names that are there.
+fn add_plain_names(alloc: Global, names: &mut Seq<Bytes>, words: &[Bytes]) -> Result<(), Memory>
+    ensures { OnOk result (names.new ≡ names.old ++ plain_of (said_by words.now)) }
+{
+    let mut rest = words;
+    while let Some(first) = first_plain(rest) {
+        names.push(Bytes::from_vec(first.word.to_vec(alloc)?))?;
+        rest = first.rest;
+    }
+    Ok(())
+}
+
 fn names_of(alloc: Global, files: Parted<'_>) -> Result<Seq<Bytes>, Memory>
-    ensures { IfOk result (λ names. names ≡ files.entry.before.now ++ files.entry.behind.now) }
+    ensures { IfOk result (λ names. names ≡ plain_of (said_by files.entry.before.now) ++ files.entry.behind.now) }
 {
     let mut names = Seq::new(alloc);
-    add_names(&mut names, files.before)?;
+    add_plain_names(alloc, &mut names, files.before)?;
     add_names(&mut names, files.behind)?;
     Ok(names)
 }
 
 /// The request of a command with the words behind it.
-fn make_request(alloc: Global, command: Command, said: DayAndFiles<'_>) -> Result<Request, Memory>
-    requires { spec.day_word said.day.now ≡ true }
-    ensures { IfOk result (λ request. request ≡ record { command = command; day = digits_value 10 said.entry.day.now; names = said.entry.files.before.now ++ said.entry.files.behind.now }) }
+fn make_request(alloc: Global, command: Command, right: Right<'_>) -> Result<Request, Memory>
+    requires { spec.day_word right.said.day.now ≡ true }
+    ensures { IfOk result (λ request. request ≡ record { command = command; effort = right.entry.effort; day = digits_value 10 right.entry.said.day.now; names = plain_of (said_by right.entry.said.files.before.now) ++ right.entry.said.files.behind.now }) }
 {
     Ok(Request {
         command,
-        day: day_number(said.day),
-        names: names_of(alloc, said.files)?,
+        effort: right.effort,
+        day: digits_number(right.said.day),
+        names: names_of(alloc, right.said.files)?,
     })
 }
 
-/// Reads the words: `COMMAND DAY FILE..`, with 1 to 64 files. The first `--` is passed over, and before it no word may begin with
-/// `-` and be longer than one byte.
+/// Reads the words: `COMMAND DAY FILE..`, with 1 to 64 files. Options of planning stand anywhere behind the command `plan`, each at
+/// most once: `--workers N` (1 to 64; 1 unless said), `--rounds N` (1 to 200; 40), `--lower N` (1 to 50; 20) and `--exchange N` (0 to
+/// 1,000; 20), where N is one to four digits, in a word of its own or behind a `=`. The first `--` ends the options and is passed over.
+/// Before it a word that begins with `-` and is longer than one byte is one of the options.
 ///
 /// # Errors
 ///
@@ -225,15 +260,19 @@ fn make_request(alloc: Global, command: Command, said: DayAndFiles<'_>) -> Resul
 pub fn read_words(alloc: Global, words: &[Bytes]) -> Result<Request, Status>
     ensures request { IfOk result (λ request. spec.asked words.now ≡ Some request) }
     ensures few { IfOk result (λ request. length request.names ≤ 64) }
+    ensures effort { IfOk result (λ request. IsEffort request.effort) }
     ensures cause { IfErr result (λ status. (status ≡ Status.Memory) ⊎ (status ≡ Status.Usage)) }
     ensures usage { IsErrOf result Status.Usage ↔ (spec.asked words.now ≡ None) }
 {
     let [command, rest @ ..] = words else {
         return Err(Status::Usage);
     };
-    match (right_words(rest), command_of(command.as_slice())) {
-        (Some(said), Some(command)) => Ok(make_request(alloc, command, said)?),
-        _ => Err(Status::Usage),
+    let Some(command) = command_of(command.as_slice()) else {
+        return Err(Status::Usage);
+    };
+    match right_words(takes_options(command), rest) {
+        Some(right) => Ok(make_request(alloc, command, right)?),
+        None => Err(Status::Usage),
     }
 }
 

@@ -1,4 +1,5 @@
-use Rattle.std.proofs.Common.{◌≡◌, ◌⊎◌, MatchResult}
+use Rattle.std.proofs.Common.{◌≡◌, ◌⊎◌, Err, MatchResult, ap, refl}
+use Rattle.planner_cli.proofs.FileLemmas.{err_same}
 use Rattle.planner_cli.specs.Inputs.{HasTextFault, IsUnread, SpellTables, held_under, most_bytes, refused_text}
 use Rattle.planner_cli.specs.Run.{IsAnswer, IsRefusal}
 use Rattle.planner_cli.proofs.InputLemmas.{if_told, of_told}
@@ -6,19 +7,15 @@ use Rattle.planner_cli.proofs.AnswerLemmas.{read_cause, read_complete, read_refu
 use Rattle.planner_cli.proofs.answer.answer_of.Goals as goal
 
 pub returns-in-Ok-clause-written : goal.returns-in-Ok-clause-written
-returns-in-Ok-clause-written g c = read_written c.args.command _ c.in-Ok.tables.items c.args.day c.text_of.result c.in-Ok.ensures.found (rw (← c.as_slice.ensures.value) c.text_of.ensures.written)
+returns-in-Ok-clause-written g c = read_written c.args.command (g.F.Files.held c.args.files.now) c.args.names.now c.in-Ok.tables.items c.args.day c.text_of.result c.in-Ok.ensures.found (rw (← c.as_slice.ensures.value) c.text_of.ensures.written)
 
 pub returns-in-Ok-clause-cause : goal.returns-in-Ok-clause-cause
-returns-in-Ok-clause-cause g c = read_cause c.args.command _ c.in-Ok.tables.items c.args.day _ c.text_of.result c.in-Ok.ensures.found (rw (← c.as_slice.ensures.value) c.text_of.ensures.cause)
+returns-in-Ok-clause-cause g c = read_cause c.args.command (g.F.Files.held c.args.files.now) c.args.names.now c.in-Ok.tables.items c.args.day _ c.text_of.result c.in-Ok.ensures.found (rw (← c.as_slice.ensures.value) c.text_of.ensures.cause)
 
 pub returns-in-Ok-clause-refused : goal.returns-in-Ok-clause-refused
 returns-in-Ok-clause-refused g c = λ status.
-    let told = held_under (g.F.Files.held c.args.files.now) c.args.names.now in
-    if_told told (λ contents. IsRefusal c.args.command contents c.args.day status → MatchResult c.text_of.result (λ x. ⊥) (λ answer. IsUnread answer ⊎ (answer ≡ status))) (λ contents e refusal.
-    read_refused c.args.command contents c.in-Ok.tables.items c.args.day c.text_of.result status
-    (λ others. of_told told (λ contents. SpellTables most_bytes contents others → c.in-Ok.tables.items ≡ others) contents e (c.in-Ok.ensures.only others))
-    (λ file line kind. of_told told (λ contents. HasTextFault 1 most_bytes contents file line kind → ⊥) contents e (c.in-Ok.ensures.exact file line kind))
-    (rw (← c.as_slice.ensures.value) c.text_of.ensures.written) (rw (← c.as_slice.ensures.value) c.text_of.ensures.cause) refusal)
+    read_refused c.args.command (g.F.Files.held c.args.files.now) c.args.names.now c.in-Ok.tables.items c.args.day c.text_of.result status c.in-Ok.ensures.only c.in-Ok.ensures.exact
+    (rw (← c.as_slice.ensures.value) c.text_of.ensures.written) (rw (← c.as_slice.ensures.value) c.text_of.ensures.cause)
 
 pub returns-in-Ok-clause-complete : goal.returns-in-Ok-clause-complete
 returns-in-Ok-clause-complete g c = λ bytes.
@@ -29,18 +26,20 @@ returns-in-Ok-clause-complete g c = λ bytes.
     (rw (← c.as_slice.ensures.value) c.text_of.ensures.cause) answer)
 
 pub returns-in-Err-clause-cause : goal.returns-in-Err-clause-cause
-returns-in-Err-clause-cause g c = unread_answer c.args.command _ c.args.day _ c.in-Err.status c.in-Err.ensures.cause
+returns-in-Err-clause-cause g c = unread_answer c.args.command (g.F.Files.held c.args.files.now) c.args.names.now c.args.day _ c.in-Err.status c.in-Err.ensures.cause
 
 pub returns-in-Err-clause-refused : goal.returns-in-Err-clause-refused
 returns-in-Err-clause-refused g c = λ status.
-    let told = held_under (g.F.Files.held c.args.files.now) c.args.names.now in
-    if_told told (λ contents. IsRefusal c.args.command contents c.args.day status → IsUnread c.in-Err.status ⊎ (c.in-Err.status ≡ status)) (λ contents e refusal.
-    unread_refused c.args.command contents c.args.day c.in-Err.status status
-    (λ tables. of_told told (λ contents. SpellTables most_bytes contents tables → IsUnread c.in-Err.status) contents e (c.in-Err.ensures.only tables))
-    (λ file line kind. of_told told (λ contents. HasTextFault 1 most_bytes contents file line kind → IsUnread c.in-Err.status ⊎ (c.in-Err.status ≡ refused_text file line kind)) contents e (c.in-Err.ensures.exact file line kind)) refusal)
+    unread_refused c.args.command (g.F.Files.held c.args.files.now) c.args.names.now c.args.day c.in-Err.status status c.in-Err.ensures.only c.in-Err.ensures.exact
 
 pub returns-in-Err-clause-complete : goal.returns-in-Err-clause-complete
 returns-in-Err-clause-complete g c = λ bytes.
     let told = held_under (g.F.Files.held c.args.files.now) c.args.names.now in
     if_told told (λ contents. IsAnswer c.args.command contents c.args.day bytes → IsUnread c.in-Err.status) (λ contents e answer.
     of_told told (λ contents. SpellTables most_bytes contents answer.tables → IsUnread c.in-Err.status) contents e (c.in-Err.ensures.only answer.tables) answer.spelled)
+
+pub returns-in-Ok-clause-still : goal.returns-in-Ok-clause-still
+returns-in-Ok-clause-still g c = λ none other. c.in-Ok.ensures.still (λ file bad. cc) other
+
+pub returns-in-Err-clause-still : goal.returns-in-Err-clause-still
+returns-in-Err-clause-still g c = λ none other. c.in-Err.ensures.still (λ file bad. none file (ap (λ s. Err s) (err_same _ _ _ refl bad))) other

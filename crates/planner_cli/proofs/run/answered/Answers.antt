@@ -20,3 +20,8 @@ pub returns-in-Ok-clause-complete : goal.returns-in-Ok-clause-complete
 returns-in-Ok-clause-complete g c = λ request asks.
     let same : c.in-Ok.request ≡ request = one_request c.in-Ok.request request c.in-Ok.ensures.request asks in
     rw (← same) c.carry_out.ensures.complete
+
+pub returns-in-Ok-clause-only : goal.returns-in-Ok-clause-only
+returns-in-Ok-clause-only g c = λ request bytes ok asks.
+    let same : c.in-Ok.request ≡ request = one_request c.in-Ok.request request c.in-Ok.ensures.request asks in
+    rw (← same) (c.carry_out.ensures.only bytes ok)

@@ -2,13 +2,13 @@ use Rattle.std.proofs.Common.{◌≡◌, ◌<◌, ◌^◌, length, true, drop}
 use Rattle.std.specs.Char.{is_ascii_digit}
 use Rattle.std.specs.List.{list_all}
 use Rattle.std.specs.Str.Parse.{digits_value, digits_value_after}
-use Rattle.planner_cli.proofs.words.day_number.Given as goal
+use Rattle.planner_cli.proofs.options.digits_number.Given as goal
 
--- the digits so far and those left spell the whole number, which has eight digits
+-- the digits so far and those left spell the whole number, which has at most eight digits
 abbrev pub invariant-loop-digit : goal.invariant-loop-digit
 invariant-loop-digit l = record {
-  whole : digits_value_after 10 l.day (drop l.digit-index l.word) ≡ digits_value 10 l.word;
+  whole : digits_value_after 10 l.number (drop l.digit-index l.word) ≡ digits_value 10 l.word;
   digits : list_all is_ascii_digit (drop l.digit-index l.word) ≡ true;
-  eight : length l.word ≡ 8;
-  small : l.day < 10 ^ l.digit-index;
+  few : length l.word < 9;
+  small : l.number < 10 ^ l.digit-index;
 }

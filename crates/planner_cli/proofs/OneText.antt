@@ -1,0 +1,102 @@
+-- The text of a command is one: files that are told, words and a day determine it.
+use Rattle.std.proofs.Common.{◌≡◌, ℕ, ◌+◌, ◌-◌, ℤ, pos, List, [], ◌∷◌, ◌++◌, length, Option, Some, None, Result, Ok, Err, IfSome, IsSomeAnd, refl, sym, ◌∙◌, ap, subst}
+use Rattle.jiff_core.specs.Calendar.{days_from_civil, weekday_number}
+use Rattle.vdv451_text.specs.declared.table.Table.{Table}
+use Rattle.vdv451_text.specs.Faults.{Gives}
+use Rattle.vdv451_text.specs.Plain.{text}
+use Rattle.vdv451_text.proofs.Readings.{reads_given}
+use Rattle.vdv452_tables.specs.declared.net.Net.{Net}
+use Rattle.vdv452_tables.specs.declared.reading.Needs.TheVariants as needs
+use Rattle.vdv452_tables.specs.Calendar.{net_of}
+use Rattle.vdv452_tables.specs.Rows.{table_of}
+use Rattle.vdv452_tables.specs.Schema as schema
+use Rattle.day_calendar.specs.Days.{HasWeekday}
+use Rattle.day_calendar.specs.Kinds.{IsKindOf}
+use Rattle.day_calendar.specs.declared.day.DayKind.{DayKind}
+use Rattle.day_model.specs.Facts.{DayFacts}
+use Rattle.day_tables.specs.DayTables.{day_tables_of}
+use Rattle.trip_times.specs.declared.trip.Trip.{Trip}
+use Rattle.planner_cli.specs.declared.words.Command.{Command}
+use Rattle.planner_cli.specs.declared.words.Command.TheVariants.{Day, Plan, Trips}
+use Rattle.planner_cli.specs.declared.status.Status.{Status}
+use Rattle.planner_cli.specs.declared.status.Status.TheVariants as statuses
+use Rattle.planner_cli.specs.DayText.{IsDayText}
+use Rattle.planner_cli.specs.Inputs.{SpellTables, most_bytes}
+use Rattle.planner_cli.specs.Run.{HasOneText, IsAnswer, IsText, IsWritten}
+use Rattle.planner_cli.specs.Trips.{IsTripsText, picked_table}
+use Rattle.planner_cli.proofs.ModelOutcomes.{blocks_same, rows_same}
+use Rattle.planner_cli.proofs.Outcomes.{kinds_same, some_same}
+
+-- a text spells one list of tables
+ok_same : {E : Type 0} (xs ys : List Table) (r : Result (List Table) E) → r ≡ Ok xs → r ≡ Ok ys → xs ≡ ys
+ok_same xs ys r p q = let both : Ok xs ≡ Ok ys = sym p ∙ q in cc
+
+one_spelling : (most : ℕ) (contents : List (List ℕ)) (xs ys : List Table) → SpellTables most contents xs → SpellTables most contents ys → xs ≡ ys
+one_spelling most [] xs ys p q = p ∙ sym q
+one_spelling most (bytes ∷ files) xs ys p q =
+    let first : p.0 ≡ q.0 = ok_same p.0 q.0 _ (reads_given most bytes p.0 p.2) (reads_given most bytes q.0 q.2) in
+    let others : p.1 ≡ q.1 = one_spelling (most - length bytes) files p.1 q.1 p.3 q.3 in
+    p.4 ∙ ap (λ (t : List Table). t ++ p.1) first ∙ ap (λ (t : List Table). q.0 ++ t) others ∙ sym q.4
+
+-- one text of trips
+one_trips_text : (tables : List Table) (day : ℕ) (xs ys : List ℕ) → IsTripsText tables day xs → IsTripsText tables day ys → xs ≡ ys
+one_trips_text tables day xs ys p q =
+    let places : p.places ≡ q.places = rows_same (net_of needs.Calendar tables) day p.kind q.kind p.places q.places p.day_is.kind_is q.day_is.kind_is p.day_is.rows q.day_is.rows in
+    let table : p.table ≡ q.table = some_same (table_of schema.trips tables) p.table q.table p.found q.found in
+    p.written ∙ ap (λ (t : Table). text (picked_table t p.places ∷ [])) table ∙ ap (λ ps. text (picked_table q.table ps ∷ [])) places ∙ sym q.written
+
+-- one weekday
+abbrev weekday_at : ℤ → ℕ → ℕ → ℕ
+weekday_at year month day = weekday_number (days_from_civil year month day) + 1
+
+one_weekday : (day a b : ℕ) → HasWeekday day a → HasWeekday day b → a ≡ b
+one_weekday day a b p q =
+    let years : p.0.year ≡ q.0.year = p.1.0 ∙ sym q.1.0 in
+    let both_months : pos p.0.month ≡ pos q.0.month = p.1.1 ∙ sym q.1.1 in
+    let both_days : pos p.0.day ≡ pos q.0.day = p.1.2 ∙ sym q.1.2 in
+    let months : p.0.month ≡ q.0.month = cc in
+    let days : p.0.day ≡ q.0.day = cc in
+    p.2 ∙ ap (λ y. weekday_at y p.0.month p.0.day) years ∙ ap (λ m. weekday_at q.0.year m p.0.day) months ∙ ap (λ d. weekday_at q.0.year q.0.month d) days ∙ sym q.2
+
+-- one text of a day
+abbrev text_with : Net → DayFacts → ℕ → ℕ → ℕ → ℕ → List ℕ → List Trip → List ℕ
+text_with net facts version kind day weekday rows trips =
+    text (day_tables_of net (record facts { kind = record { version = version; kind = kind; day = day; weekday = weekday }; rows = rows; trips = trips }))
+
+one_day_text : (tables : List Table) (day : ℕ) (xs ys : List ℕ) → IsDayText tables day xs → IsDayText tables day ys → xs ≡ ys
+one_day_text tables day xs ys p q =
+    let net : Net = net_of needs.All tables in
+    let a = p.facts in
+    let b = q.facts in
+    let kinds = kinds_same net day a.kind b.kind p.model.model.kind_is q.model.model.kind_is in
+    let days : a.kind.day ≡ b.kind.day = p.model.model.kind_is.day_is ∙ sym q.model.model.kind_is.day_is in
+    let weekdays : a.kind.weekday ≡ b.kind.weekday = one_weekday day a.kind.weekday b.kind.weekday p.model.model.kind_is.weekday q.model.model.kind_is.weekday in
+    let rows : a.rows ≡ b.rows = rows_same net day a.kind b.kind a.rows b.rows p.model.model.kind_is q.model.model.kind_is p.model.model.day_is.rows q.model.model.day_is.rows in
+    let trips : a.trips ≡ b.trips = (blocks_same tables day a b p.model q.model).0 in
+    p.written
+    ∙ ap (λ v. text_with net a v a.kind.kind a.kind.day a.kind.weekday a.rows a.trips) kinds.0
+    ∙ ap (λ k. text_with net a b.kind.version k a.kind.day a.kind.weekday a.rows a.trips) kinds.1
+    ∙ ap (λ d. text_with net a b.kind.version b.kind.kind d a.kind.weekday a.rows a.trips) days
+    ∙ ap (λ w. text_with net a b.kind.version b.kind.kind b.kind.day w a.rows a.trips) weekdays
+    ∙ ap (λ ps. text_with net a b.kind.version b.kind.kind b.kind.day b.kind.weekday ps a.trips) rows
+    ∙ ap (λ ts. text_with net a b.kind.version b.kind.kind b.kind.day b.kind.weekday b.rows ts) trips
+    ∙ sym q.written
+
+one_text : (command : Command) (tables : List Table) (day : ℕ) (xs ys : List ℕ) → HasOneText command → IsText command tables day xs → IsText command tables day ys → xs ≡ ys
+one_text Trips tables day xs ys one p q = one_trips_text tables day xs ys p q
+one_text Day tables day xs ys one p q = one_day_text tables day xs ys p q
+one_text Plan tables day xs ys one p q = absurd one
+
+pub one_answer : (command : Command) (contents : List (List ℕ)) (day : ℕ) (xs ys : List ℕ) → HasOneText command → IsAnswer command contents day xs → IsAnswer command contents day ys → xs ≡ ys
+one_answer command contents day xs ys one p q =
+    let same : p.tables ≡ q.tables = one_spelling most_bytes contents p.tables q.tables p.spelled q.spelled in
+    let P : List Table → Type 0 = λ ts. IsText command ts day xs in
+    one_text command q.tables day xs ys one (subst P same p.written) q.written
+
+-- what was taken is any text that is the one written
+pub same_taken : (old new : Option (List ℕ)) (before now : ℕ) (text bytes : List ℕ) (status : Status) → text ≡ bytes → IsWritten old new before now text status → status ≡ statuses.Ok → IfSome old (λ bytes_before. new ≡ Some (bytes_before ++ bytes))
+same_taken old new before now text bytes status same written ok =
+    let P : Status → Type 0 = λ s. IsWritten old new before now text s in
+    let whole : IfSome old (λ bytes_before. new ≡ Some (bytes_before ++ text)) = subst P ok written in
+    let Q : List ℕ → Type 0 = λ t. IfSome old (λ bytes_before. new ≡ Some (bytes_before ++ t)) in
+    subst Q same whole

@@ -1,0 +1,102 @@
+-- The options of planning among the words behind a command.
+use Rattle.std.specs.Prelude.{ℕ, Bool, true, false, ◌==◌, ◌&&◌, ◌||◌, List, [], ◌∷◌, length, codes, nat_le, Option, Some, None, unwrap_or, if◌then◌else◌}
+use Rattle.std.specs.Char.{is_ascii_digit}
+use Rattle.std.specs.List.{list_all, list_any}
+use Rattle.std.specs.Option.{is_none, option_and_then, option_map}
+use Rattle.std.specs.Str.{bytes_eq}
+use Rattle.std.specs.Str.Parse.{digits_value}
+use Rattle.price_rounds.specs.declared.effort.Effort.{Effort}
+use Rattle.planner_cli.specs.declared.options.Given.{Given}
+
+-- a word that begins with `-` and is longer than one byte
+abbrev pub is_option : List ℕ → Bool
+is_option [] = false
+is_option (b ∷ []) = false
+is_option (b ∷ c ∷ word) = b == 45
+
+-- an option may have its value behind a `=`
+abbrev pub has_mark : List ℕ → Bool
+has_mark word = list_any (λ b. b == 61) word
+
+abbrev pub before_mark : List ℕ → List ℕ
+before_mark [] = []
+before_mark (b ∷ word) = if b == 61 then [] else b ∷ before_mark word
+
+abbrev pub behind_mark : List ℕ → List ℕ
+behind_mark [] = []
+behind_mark (b ∷ word) = if b == 61 then word else behind_mark word
+
+-- what is said before `--`: a plain word, or an option and its value
+pub data Said : Type 0 where
+  Plain : List ℕ → Said
+  Setting : List ℕ → List ℕ → Said
+
+-- What words say, where an option without `=` takes the word behind it as its value; here such an option waits, or none does.
+abbrev pub said_after : Option (List ℕ) → List (List ℕ) → List Said
+said_after None [] = []
+said_after None (word ∷ words) =
+    if is_option word
+    then (if has_mark word then Setting (before_mark word) (behind_mark word) ∷ said_after None words else said_after (Some word) words)
+    else Plain word ∷ said_after None words
+said_after (Some name) [] = Setting name [] ∷ []
+said_after (Some name) (word ∷ words) = Setting name word ∷ said_after None words
+
+abbrev pub said : List (List ℕ) → List Said
+said words = said_after None words
+
+-- the plain words
+abbrev pub plain_of : List Said → List (List ℕ)
+plain_of [] = []
+plain_of (Plain word ∷ more) = word ∷ plain_of more
+plain_of (Setting name value ∷ more) = plain_of more
+
+-- one to four ASCII digits
+abbrev pub number_word : List ℕ → Bool
+number_word word = list_all is_ascii_digit word && (nat_le 1 (length word) && nat_le (length word) 4)
+
+-- the number of an option that is given once
+abbrev pub once : Option ℕ → List ℕ → Option ℕ
+once None value = if number_word value then Some (digits_value 10 value) else None
+once (Some number) value = None
+
+-- one more option: it is one of these four, and was not given before
+abbrev pub with_setting : Given → List ℕ → List ℕ → Option Given
+with_setting given name value =
+    if bytes_eq name (codes "--workers") then option_map (λ n. record given { workers = Some n }) (once given.workers value) else
+    (if bytes_eq name (codes "--rounds") then option_map (λ n. record given { rounds = Some n }) (once given.rounds value) else
+    (if bytes_eq name (codes "--lower") then option_map (λ n. record given { lower = Some n }) (once given.lower value) else
+    (if bytes_eq name (codes "--exchange") then option_map (λ n. record given { exchange = Some n }) (once given.exchange value) else None)))
+
+abbrev pub given_after : Given → List Said → Option Given
+given_after given [] = Some given
+given_after given (Plain word ∷ more) = given_after given more
+given_after given (Setting name value ∷ more) = option_and_then (λ next. given_after next more) (with_setting given name value)
+
+-- the options of words, beside those before them and one that waits for its value
+abbrev pub given_with : Given → Option (List ℕ) → List (List ℕ) → Option Given
+given_with given waiting words = given_after given (said_after waiting words)
+
+abbrev pub none_given : Given
+none_given = record { workers = None; rounds = None; lower = None; exchange = None }
+
+-- no option is given
+abbrev pub is_nothing : Given → Bool
+is_nothing given = is_none given.workers && (is_none given.rounds && (is_none given.lower && is_none given.exchange))
+
+-- the effort that options ask for: 1 worker, 40 rounds, 20 lowering rounds and 20 exchange steps unless said
+abbrev pub effort_of : Given → Effort
+effort_of given =
+    record { workers = unwrap_or given.workers 1; rounds = unwrap_or given.rounds 40; lower = unwrap_or given.lower 20; exchange = unwrap_or given.exchange 20 }
+
+-- 1 to 64 workers, 1 to 200 rounds, 1 to 50 lowering rounds and at most 1,000 exchange steps
+abbrev pub in_range : Effort → Bool
+in_range effort =
+    (nat_le 1 effort.workers && nat_le effort.workers 64)
+    && ((nat_le 1 effort.rounds && nat_le effort.rounds 200) && ((nat_le 1 effort.lower && nat_le effort.lower 50) && nat_le effort.exchange 1000))
+
+abbrev pub effort_if : Bool → Given → Option Effort
+effort_if takes given = if (takes || is_nothing given) && in_range (effort_of given) then Some (effort_of given) else None
+
+-- The effort that words ask for, by a command that takes options, or by one that takes none.
+abbrev pub effort_said : Bool → List (List ℕ) → Option Effort
+effort_said takes words = option_and_then (effort_if takes) (given_after none_given (said words))

@@ -1,0 +1,256 @@
+//! The options of planning among the words behind a command.
+
+ghost use Rattle.std.specs.Prelude.{◌≡◌, ◌<◌, ◌||◌, ◌&&◌, ◌∷◌, not, [], IfSome, IfNone, List, ℕ, Some, None, length, true, false};
+ghost use Rattle.std.specs.Option.{option_and_then, option_map};
+ghost use Rattle.planner_cli.specs.Options.{given_with};
+ghost use Rattle.std.specs.Char.{is_ascii_digit};
+ghost use Rattle.std.specs.List.{list_all};
+ghost use Rattle.std.specs.Str.Parse.{digits_value};
+ghost use Rattle.price_rounds.specs.Efforts.{IsEffort};
+ghost use Rattle.planner_cli.specs.Options as spec;
+
+use plan_core::Bytes;
+use price_rounds::Effort;
+
+/// The numbers of the options that are given.
+#[derive(Clone, Copy)]
+struct Given {
+    workers: Option<u32>,
+    rounds: Option<u32>,
+    lower: Option<u32>,
+    exchange: Option<u32>,
+}
+
+/// An option and its value in one word.
+#[derive(Clone, Copy)]
+struct Setting<'w> {
+    name: &'w [u8],
+    value: &'w [u8],
+}
+
+fn is_option(word: &[u8]) -> bool
+    ensures { result ≡ spec.is_option word.now }
+{
+    match word {
+        [first, _, ..] => *first == b'-',
+        _ => false,
+    }
+}
+
+/// Cuts a word at its first `=`.
+fn cut(word: &[u8]) -> Option<Setting<'_>>
+    ensures some { IfSome result (λ cut. (spec.has_mark word.now ≡ true) × (cut.name.now ≡ spec.before_mark word.now) × (cut.value.now ≡ spec.behind_mark word.now)) }
+    ensures none { IfNone result (spec.has_mark word.now ≡ false) }
+{
+    for (place, byte) in word.iter().enumerate() {
+        if *byte == b'=' {
+            return Some(Setting {
+                name: &word[..place],
+                value: &word[place + 1..],
+            });
+        }
+    }
+    None
+}
+
+/// Whether a word has only ASCII digits.
+pub(crate) fn are_digits(word: &[u8]) -> bool
+    ensures { result ≡ list_all is_ascii_digit word.now }
+{
+    word.iter().all(|byte| byte.is_ascii_digit())
+}
+
+fn is_number(word: &[u8]) -> bool
+    ensures { result ≡ spec.number_word word.now }
+{
+    are_digits(word) && (1 <= word.len() && word.len() <= 4)
+}
+
+/// The number that at most eight digits spell.
+pub(crate) fn digits_number(word: &[u8]) -> u32
+    requires digits { list_all is_ascii_digit word.now ≡ true }
+    requires few { length word.now < 9 }
+    ensures { result ≡ digits_value 10 word.now }
+{
+    let mut number = 0u32;
+    for digit in word {
+        number = number * 10 + u32::from(*digit - b'0');
+    }
+    number
+}
+
+/// The number of an option that was not given before.
+fn once(old: Option<u32>, value: &[u8]) -> Option<u32>
+    ensures { result ≡ spec.once old value.now }
+{
+    match old {
+        None if is_number(value) => Some(digits_number(value)),
+        _ => None,
+    }
+}
+
+/// One more option, where it is one and was not given before.
+fn with_setting(given: Given, name: &[u8], value: &[u8]) -> Option<Given>
+    ensures { result ≡ spec.with_setting given name.now value.now }
+{
+    let workers: &[u8] = b"--workers";
+    let rounds: &[u8] = b"--rounds";
+    let lower: &[u8] = b"--lower";
+    let exchange: &[u8] = b"--exchange";
+    let mut given = given;
+    if name == workers {
+        given.workers = Some(once(given.workers, value)?);
+    } else if name == rounds {
+        given.rounds = Some(once(given.rounds, value)?);
+    } else if name == lower {
+        given.lower = Some(once(given.lower, value)?);
+    } else if name == exchange {
+        given.exchange = Some(once(given.exchange, value)?);
+    } else {
+        return None;
+    }
+    Some(given)
+}
+
+/// Reading of words: the options so far, and one that waits for its value.
+#[derive(Clone, Copy)]
+struct Reading<'w> {
+    given: Given,
+    waiting: Option<&'w [u8]>,
+}
+
+/// Reads one more word.
+fn with_word<'w>(reading: Reading<'w>, word: &'w [u8]) -> Option<Reading<'w>>
+    ensures { (rest : List (List ℕ)) → given_with reading.entry.given (option_map (λ name. name.now) reading.entry.waiting) (word.now ∷ rest) ≡ option_and_then (λ next. given_with next.given (option_map (λ name. name.now) next.waiting) rest) result }
+{
+    let given = reading.given;
+    match reading.waiting {
+        Some(name) => Some(Reading {
+            given: with_setting(given, name, word)?,
+            waiting: None,
+        }),
+        None if !is_option(word) => Some(reading),
+        None => match cut(word) {
+            Some(cut) => Some(Reading {
+                given: with_setting(given, cut.name, cut.value)?,
+                waiting: None,
+            }),
+            None => Some(Reading {
+                given,
+                waiting: Some(word),
+            }),
+        },
+    }
+}
+
+/// The options that words give.
+fn given_in(words: &[Bytes]) -> Option<Given>
+    ensures { result ≡ spec.given_after spec.none_given (spec.said words.now) }
+{
+    let mut reading = Reading {
+        given: Given {
+            workers: None,
+            rounds: None,
+            lower: None,
+            exchange: None,
+        },
+        waiting: None,
+    };
+    for word in words {
+        reading = match with_word(reading, word.as_slice()) {
+            Some(next) => next,
+            None => return None,
+        };
+    }
+    match reading.waiting {
+        None => Some(reading.given),
+        Some(name) => with_setting(reading.given, name, &[]),
+    }
+}
+
+fn is_nothing(given: Given) -> bool
+    ensures { result ≡ spec.is_nothing given }
+{
+    given.workers.is_none()
+        && (given.rounds.is_none() && (given.lower.is_none() && given.exchange.is_none()))
+}
+
+fn effort_of(given: Given) -> Effort
+    ensures { result ≡ spec.effort_of given }
+{
+    Effort {
+        workers: given.workers.unwrap_or(1),
+        rounds: given.rounds.unwrap_or(40),
+        lower: given.lower.unwrap_or(20),
+        exchange: given.exchange.unwrap_or(20),
+    }
+}
+
+fn is_in_range(effort: Effort) -> bool
+    ensures { result ≡ spec.in_range effort }
+{
+    (1 <= effort.workers && effort.workers <= 64)
+        && ((1 <= effort.rounds && effort.rounds <= 200)
+            && ((1 <= effort.lower && effort.lower <= 50) && effort.exchange <= 1_000))
+}
+
+/// The effort that words before `--` ask for, of a command that takes options or takes none.
+pub fn effort_said(takes_options: bool, words: &[Bytes]) -> Option<Effort>
+    ensures said { result ≡ spec.effort_said takes_options words.now }
+    ensures effort { IfSome result IsEffort }
+{
+    let given = given_in(words)?;
+    let effort = effort_of(given);
+    if (takes_options || is_nothing(given)) && is_in_range(effort) {
+        Some(effort)
+    } else {
+        None
+    }
+}
+
+/// A plain word, and the words behind it.
+#[derive(Clone, Copy)]
+pub struct PlainWord<'w> {
+    pub word: &'w [u8],
+    pub rest: &'w [Bytes],
+}
+
+fn has_mark(word: &[u8]) -> bool
+    ensures { result ≡ spec.has_mark word.now }
+{
+    word.iter().any(|byte| *byte == b'=')
+}
+
+/// Whether a word is plain, where it may be the value of the option before it.
+fn is_plain(is_value: bool, word: &[u8]) -> bool
+    ensures { result ≡ (not is_value && not (spec.is_option word.now)) }
+{
+    !is_value && !is_option(word)
+}
+
+/// Whether a word that is not plain is an option that takes the next word as its value.
+fn takes_next(is_value: bool, word: &[u8]) -> bool
+    ensures { result ≡ (not is_value && not (spec.has_mark word.now)) }
+{
+    !is_value && !has_mark(word)
+}
+
+/// The first word before `--` that is neither an option nor its value.
+pub fn first_plain(words: &[Bytes]) -> Option<PlainWord<'_>>
+    ensures some { IfSome result (λ first. spec.plain_of (spec.said words.now) ≡ first.word.now ∷ spec.plain_of (spec.said first.rest.now)) }
+    ensures shorter { IfSome result (λ first. length first.rest.now < length words.now) }
+    ensures none { IfNone result (spec.plain_of (spec.said words.now) ≡ []) }
+{
+    let mut is_value = false;
+    for (place, word) in words.iter().enumerate() {
+        let word = word.as_slice();
+        if is_plain(is_value, word) {
+            return Some(PlainWord {
+                word,
+                rest: &words[place + 1..],
+            });
+        }
+        is_value = takes_next(is_value, word);
+    }
+    None
+}
