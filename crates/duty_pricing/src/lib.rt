@@ -1,9 +1,12 @@
-//! The duties of least value: lists of pieces are searched by marks with dominance, under a completion bound.
+//! Pricing of duties for column generation in crew scheduling: a shortest path with resources over the pieces of a day, found by marks
+//! with dominance under a completion bound. Each answer is the first least of all lawful duties of a group of drivers.
 #![tactic(auto)]
 
 mod bounds;
 mod labels;
 mod likely;
 mod pricer;
+#[cfg(test)]
+mod tests;
 
 pub use pricer::DutyPricer;
