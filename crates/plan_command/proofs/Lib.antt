@@ -1,4 +1,3 @@
-pub mod Counted
 pub mod Sides
 pub mod Printing
 pub mod OneAnswer

@@ -22,8 +22,8 @@ use cover_core::{Plan, Pricer, Worth};
 use cover_plan::{PlanFault as CoverFault, Planned, plan_of};
 use day_method::Side;
 use day_model::Day;
-use depot_network::PoolNet;
-use duty_network::DutyNet;
+use depot_network::{PoolNet, counted_blocks};
+use duty_network::{DutyNet, counted_duties};
 use duty_pricing::DutyPricer;
 use path_pricing::PathPricer;
 use plan_core::{Gate, Memory, Piece, Seq};
@@ -94,6 +94,7 @@ fn planned_blocks<R: Threads + Sync, G: Gate + Sync>(
     ensures cheap { IfOk result (λ blocks. AreCheap blocks.plan.columns) }
     ensures cause { IfErr result (IsPlanCauseOver model.now (numbers_of effort.now)) }
 {
+    counted_blocks();
     let count_net = PoolNet::new(model, Worth::Count);
     let cost_net = PoolNet::new(model, Worth::Cost);
     let counted = PathPricer::new(&count_net);
@@ -137,6 +138,7 @@ fn planned_duties<R: Threads + Sync, G: Gate + Sync>(
     ensures cheap { IfOk result (λ duties. AreCheap duties.plan.columns) }
     ensures cause { IfErr result (IsCause (duties_of (record { pieces = pieces.now; params = params.now; counts = true })) (duties_of (record { pieces = pieces.now; params = params.now; counts = false })) (numbers_of effort.now)) }
 {
+    counted_duties();
     let count_net = match duty_net(alloc, pieces, params, Worth::Count) {
         Ok(net) => net,
         Err(Memory) => return Err(CoverFault::Memory),

@@ -1,7 +1,6 @@
 use Rattle.std.proofs.Common.{◌≡◌, true, false, ap, ◌∙◌}
 use Rattle.cover_plan.specs.Endings.{numbers_of}
 use Rattle.duty_network.specs.Duties.{DutyFacts, duties as duties_of}
-use Rattle.plan_command.proofs.Counted.{duties_count}
 use Rattle.plan_command.proofs.Sides.{count_at}
 use Rattle.plan_command.proofs.planning.planned_duties.Goals as goal
 
@@ -16,4 +15,4 @@ planned_side-requires-clause-counts g c κs within =
     count_at (duties_of c.new-counted.result) (duties_of c.new-costed.result) (duties_of counts) (duties_of costs) (numbers_of c.args.effort.now)
     (same_duties c.new-counted.result c.in-Ok.net counts c.new-counted.ensures c.in-Ok.ensures)
     (same_duties c.new-costed.result c.in-Ok-duty_net.net costs c.new-costed.ensures c.in-Ok-duty_net.ensures)
-    (duties_count c.args.params.now c.args.pieces.now)
+    (c.counted_duties.ensures c.args.params.now c.args.pieces.now)
