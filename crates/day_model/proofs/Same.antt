@@ -19,7 +19,7 @@ use Rattle.day_model.specs.Pieces.{can_be_driven, is_cut, leg, legs_from, legs_o
 use Rattle.day_model.specs.Blocks.{all_admitted, block_cost, block_worth, cost_from, link_cost, rises, trips_at}
 
 module _ (a : DayFacts) (d : List (Ends × ℕ)) (same : (x y : Point) → dead a x y ≡ dead_on d x y) where
-  abbrev other : DayFacts
+  abbrev pub other : DayFacts
   other = record a { deads = d }
 
   link_same : (pool : Pool) (t u : Trip) → link a pool t u ≡ link other pool t u
@@ -45,7 +45,7 @@ module _ (a : DayFacts) (d : List (Ends × ℕ)) (same : (x y : Point) → dead 
       ∙ ap (λ c. given (all_admitted other pool (t ∷ ts)) (option_and_then (λ (out : ℕ). option_and_then (λ (rest : ℕ). Some (pool.fixed + pool.dead_rate * out + rest)) c) (pull_out a pool t))) (cost_same pool t ts)
       ∙ ap (λ o. given (all_admitted other pool (t ∷ ts)) (option_and_then (λ (out : ℕ). option_and_then (λ (rest : ℕ). Some (pool.fixed + pool.dead_rate * out + rest)) (cost_from other pool t ts)) (pull_out_over t o))) (same pool.depot t.from)
 
-  legs_same : (pool : Pool) (k : ℕ) (t : Trip) (list : List ℕ) → legs_from a pool k t list ≡ legs_from other pool k t list
+  pub legs_same : (pool : Pool) (k : ℕ) (t : Trip) (list : List ℕ) → legs_from a pool k t list ≡ legs_from other pool k t list
   legs_same pool k t [] =
       ap (λ (o : Option ℕ). option_and_then (λ (inward : ℕ). Some (trip_leg k t ∷ leg PullIn None t.to t.end.0 pool.depot (t.end.0 +ℤ pos inward) ∷ [])) o) (same t.to pool.depot)
   legs_same pool k t (j ∷ js) =
@@ -55,7 +55,7 @@ module _ (a : DayFacts) (d : List (Ends × ℕ)) (same : (x y : Point) → dead 
       option_and_then (λ (u : Trip). option_and_then (λ (l : Link). option_and_then (λ (ls : List Leg). Some ((trip_leg k t ∷ link_legs pool t u l) ++ ls)) (rest u)) (between u)) (slice_get a.trips j) in
       ap (λ f. step f (λ (u : Trip). link a pool t u)) rest_same ∙ ap (λ f. step (λ (u : Trip). legs_from other pool j u js) f) links
 
-  block_legs_same : (pool : Pool) (list : List ℕ) → legs_of a pool list ≡ legs_of other pool list
+  pub block_legs_same : (pool : Pool) (list : List ℕ) → legs_of a pool list ≡ legs_of other pool list
   block_legs_same pool [] = refl
   block_legs_same pool (k ∷ ks) =
       let rest_same : (λ (t : Trip). legs_from a pool k t ks) ≡ (λ (t : Trip). legs_from other pool k t ks) = fun_ext (λ t. legs_same pool k t ks) in
@@ -64,7 +64,7 @@ module _ (a : DayFacts) (d : List (Ends × ℕ)) (same : (x y : Point) → dead 
       option_and_then (λ (t : Trip). option_and_then (λ (out : ℕ). option_and_then (λ (ls : List Leg). Some (shown (leg PullOut None pool.depot (t.begin.0 -ℤ pos out) t.from t.begin.0 ∷ ls))) (rest t)) (outward t)) (slice_get a.trips k) in
       ap (λ f. begin f (λ (t : Trip). pull_out a pool t)) rest_same ∙ ap (λ f. begin (λ (t : Trip). legs_from other pool k t ks) f) outs
 
-  parts_same : (pool : Pool) (legs : List Leg) → parts a pool legs ≡ parts other pool legs
+  pub parts_same : (pool : Pool) (legs : List Leg) → parts a pool legs ≡ parts other pool legs
   parts_same pool [] = refl
   parts_same pool (l ∷ ls) = ap (λ rest. cond (is_cut a pool l) ([] ∷ rest) (onto_first l rest)) (parts_same pool ls)
 

@@ -72,9 +72,12 @@ fn run_seconds(
 
 /// The trip from point to point that takes so many seconds, if it ends in time.
 fn ended(row: &TripRow, from: Point, to: Point, seconds: u32) -> Result<Trip, TripFault>
-    requires { row.now.start + seconds < 2 ^ 32 }
+    requires { seconds < 2 ^ 31 }
     ensures { result ≡ ended_row row.now from to seconds }
 {
+    if row.start > GREATEST_SECONDS {
+        return Err(TripFault::PastEnd);
+    }
     let end = row.start + seconds;
     if end <= GREATEST_SECONDS {
         Ok(Trip {
@@ -98,7 +101,6 @@ fn time_course(
     row: &TripRow,
     course: &[Point],
 ) -> Result<Trip, TripFault>
-    requires { IsTime row.now.start }
     ensures { result ≡ timed_on (run_time_of net.now version area row.now.group) (dwell_at net.now version row.now) row.now course.now }
 {
     match course.split_first() {
@@ -126,9 +128,8 @@ fn time_course(
 ///
 /// Of the faults the first one counts: NoRoute where REC_LID has no row of the trip's line and
 /// variant; ShortRoute where its course has fewer than two points; NoRunTime for the first link
-/// without a run time; PastEnd where the trip ends after 172,800.
+/// without a run time; PastEnd where the trip ends after 172,800, as each does that begins after it.
 pub fn time_trip(net: &Network, version: u32, row: &TripRow) -> Result<Trip, TripFault>
-    requires { IsTime row.now.start }
     ensures timed { result ≡ timed net.now version row.now }
     ensures trip { IfOk result (IsTripOf row.now) }
 {

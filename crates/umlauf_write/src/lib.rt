@@ -1,5 +1,6 @@
-//! The tables of a plan, in the text form of VDV 451: REC_UMLAUF with the vehicle blocks, REC_FRT with the trips and the numbers of their
-//! blocks (UM_UID), both after VDV 452, and X_UMLAUF with what the blocks cost.
+//! The tables of a plan, in the text form of VDV 451: the vehicle blocks and the trips with the numbers of their blocks (REC_UMLAUF and
+//! REC_FRT with UM_UID, both after VDV 452); what the blocks cost and their legs (X_UMLAUF, X_UMLAUF_TEIL); the duties and their pieces
+//! (X_DIENST, X_DIENST_STUECK); and the bounds (X_SCHRANKE).
 #![tactic(auto)]
 
 mod answer;
