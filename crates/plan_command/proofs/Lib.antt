@@ -1,3 +1,4 @@
 pub mod Sides
 pub mod Printing
 pub mod OneAnswer
+pub mod AlikeDays

@@ -2,3 +2,4 @@ pub mod Planning
 pub mod PlanText
 pub mod Steps
 pub mod Once
+pub mod Alike

@@ -1,6 +1,7 @@
-//! What holds of every day. The function does nothing: its contract is the theorem.
+//! What holds of every day. The functions do nothing: their contracts are the theorems.
 
 ghost use Rattle.day_model.specs.Facts.{DayFacts};
+ghost use Rattle.plan_command.specs.Alike.{AreAlike, HaveSameCauses, HaveSameTexts};
 ghost use Rattle.plan_command.specs.Once.{HasOneCause, HasOneText, HasTextOrCause};
 
 use cover_plan::ends_once;
@@ -17,3 +18,10 @@ pub fn day_answers_once()
     day_ends_once();
     ends_once::<PoolNet>();
 }
+
+/// Two days that agree in their version and kind, their trips, their settings and the times of their deadheads have the same texts and
+/// the same causes for a refusal. So nothing of a plan hangs on the order in which a network tells its deadheads, nor on the date.
+pub fn days_alike_answer_alike()
+    ensures texts { (one other : DayFacts) → AreAlike one other → HaveSameTexts one other }
+    ensures causes { (one other : DayFacts) → AreAlike one other → HaveSameCauses one other }
+{}

@@ -4,7 +4,7 @@
 //! [`plan_day`] plans both sides by the method of `day_method`, and [`plan_text`] writes the tables of the plan in the text form of
 //! VDV 451. `specs/PlanText.antt` says what the text is: the blocks and duties are plans, lawful and within vehicles and drivers, and no
 //! plan has fewer vehicles or lower costs than the printed bounds. No worker occurs there, and a day has one text or one cause alone
-//! ([`day_answers_once`]).
+//! ([`day_answers_once`]), on which the order of its deadheads has no bearing ([`days_alike_answer_alike`]).
 #![tactic(auto)]
 
 mod day_plan;
@@ -15,6 +15,6 @@ mod writing;
 
 pub use day_plan::DayPlan;
 pub use fault::{ItemName, PlanFault};
-pub use laws::day_answers_once;
+pub use laws::{day_answers_once, days_alike_answer_alike};
 pub use planning::plan_day;
 pub use writing::plan_text;
