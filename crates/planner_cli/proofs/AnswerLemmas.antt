@@ -1,11 +1,11 @@
--- From what is read and what the tables answer to the answer of the command.
-use Rattle.std.proofs.Common.{◌≡◌, ℕ, ◌⊎◌, inl, inr, List, take, Option, Some, Result, Ok, Err, IfSome, MatchResult, refl, sym, subst}
+-- From what is read and what the tables answer to the answer of the task.
+use Rattle.std.proofs.Common.{◌≡◌, ◌≢◌, ℕ, ◌⊎◌, inl, inr, List, take, Option, Some, Result, Ok, Err, IfSome, MatchResult, refl, sym, subst}
 use Rattle.std.specs.Prelude.{IfOk, IfErr}
 use Rattle.vdv451_text.specs.declared.table.Table.{Table}
 use Rattle.vdv451_text.specs.declared.fault.TextFault.{TextFault}
 use Rattle.vdv451_text.specs.declared.fault.TextKind.{TextKind}
-use Rattle.planner_cli.specs.declared.words.Command.{Command}
-use Rattle.planner_cli.specs.declared.words.Command.TheVariants.{Day, Plan, Trips}
+use Rattle.planner_cli.specs.Tasks.{Task}
+use Rattle.planner_cli.specs.Tasks.{Day, Plan, Trips}
 use Rattle.planner_cli.specs.declared.status.Status.{Status}
 use Rattle.planner_cli.specs.declared.status.Status.TheVariants as statuses
 use Rattle.planner_cli.specs.declared.status.InputFault.TheVariants as inputs
@@ -13,20 +13,24 @@ use Rattle.planner_cli.specs.Inputs.{HasTextFault, IsFileCause, IsUnread, SpellT
 use Rattle.planner_cli.specs.Run.{IsAnswer, IsAnswerCause, IsCause, IsRefusal, IsRefused, IsTablesRefusal, IsText, names_for, told_for}
 use Rattle.planner_cli.proofs.InputLemmas.{if_told, of_told}
 use Rattle.planner_cli.specs.Model.{IsModelCause}
-use Rattle.planner_cli.specs.PlanText.{IsPlanCause}
+use Rattle.cover_plan.specs.Endings.{Numbers}
+use Rattle.plan_command.specs.declared.fault.PlanFault.{PlanFault}
+use Rattle.plan_command.specs.declared.fault.PlanFault.TheVariants as faults
+use Rattle.planner_cli.specs.PlanText.{IsPlanCause, plan_status_of}
 use Rattle.planner_cli.proofs.Outcomes.{one_cause, text_no_cause}
-use Rattle.planner_cli.proofs.ModelOutcomes.{day_text_no_cause, one_model_cause, one_plan_cause, plan_text_no_cause}
+use Rattle.planner_cli.proofs.ModelOutcomes.{day_text_no_cause, one_model_cause}
+use Rattle.planner_cli.proofs.PlanOutcomes.{one_plan_cause, plan_text_no_cause}
 
--- a command has one answer for tables and a day
-same_cause : (command : Command) (tables : List Table) (day : ℕ) (s t : Status) → IsCause command tables day s → IsCause command tables day t → s ≡ t
+-- a task has one answer for tables and a day
+same_cause : (task : Task) (tables : List Table) (day : ℕ) (s t : Status) → IsCause task tables day s → IsCause task tables day t → s ≡ t
 same_cause Trips tables day s t p q = one_cause tables day s t p q
 same_cause Day tables day s t p q = one_model_cause tables day s t p q
-same_cause Plan tables day s t p q = one_plan_cause tables day s t p q
+same_cause (Plan numbers) tables day s t p q = one_plan_cause numbers tables day s t p q
 
-no_cause : (command : Command) (tables : List Table) (day : ℕ) (bytes : List ℕ) (s : Status) → IsText command tables day bytes → IsCause command tables day s → ⊥
+no_cause : (task : Task) (tables : List Table) (day : ℕ) (bytes : List ℕ) (s : Status) → IsText task tables day bytes → IsCause task tables day s → ⊥
 no_cause Trips tables day bytes s p q = text_no_cause tables day bytes s p q
 no_cause Day tables day bytes s p q = day_text_no_cause tables day bytes s p q
-no_cause Plan tables day bytes s p q = plan_text_no_cause tables day bytes s p q
+no_cause (Plan numbers) tables day bytes s p q = plan_text_no_cause numbers tables day bytes s p q
 
 memory_is_unread : (s : Status) → s ≡ statuses.Memory → IsUnread s
 memory_is_unread s e = subst IsUnread (sym e) tt
@@ -39,21 +43,22 @@ pub record IsTextStatus (status : Status) : Type 0 where
 
 pub record IsOtherStatus (status : Status) : Type 0 where
   pub names : (names : List (List ℕ)) → names_for names status ≡ names
-  pub refusal : (command : Command) (contents : List (List ℕ)) (day : ℕ) → IsRefusal command contents day status → IsTablesRefusal command contents day status
+  pub refusal : (task : Task) (contents : List (List ℕ)) (day : ℕ) → IsRefusal task contents day status → IsTablesRefusal task contents day status
 
 pub parts_of : (status : Status) → IsTextStatus status ⊎ IsOtherStatus status
 parts_of (statuses.Input (inputs.Text file fault)) = inl (record { file = file; fault = fault; is = refl })
-parts_of (statuses.Input (inputs.Table fault)) = inr (record { names = λ names. refl; refusal = λ command contents day r. r })
-parts_of (statuses.Input (inputs.Trips count)) = inr (record { names = λ names. refl; refusal = λ command contents day r. r })
-parts_of (statuses.Input (inputs.Params fault)) = inr (record { names = λ names. refl; refusal = λ command contents day r. r })
-parts_of (statuses.Input (inputs.Trip fid fault)) = inr (record { names = λ names. refl; refusal = λ command contents day r. r })
-parts_of (statuses.Day fault) = inr (record { names = λ names. refl; refusal = λ command contents day r. r })
-parts_of (statuses.NotPlaced side item fid partial) = inr (record { names = λ names. refl; refusal = λ command contents day r. r })
-parts_of statuses.Memory = inr (record { names = λ names. refl; refusal = λ command contents day r. absurd r })
-parts_of statuses.Ok = inr (record { names = λ names. refl; refusal = λ command contents day r. absurd r })
-parts_of statuses.Usage = inr (record { names = λ names. refl; refusal = λ command contents day r. absurd r })
-parts_of (statuses.ReadFault file) = inr (record { names = λ names. refl; refusal = λ command contents day r. absurd r })
-parts_of statuses.WriteFault = inr (record { names = λ names. refl; refusal = λ command contents day r. absurd r })
+parts_of (statuses.Input (inputs.Table fault)) = inr (record { names = λ names. refl; refusal = λ task contents day r. r })
+parts_of (statuses.Input (inputs.Trips count)) = inr (record { names = λ names. refl; refusal = λ task contents day r. r })
+parts_of (statuses.Input (inputs.Params fault)) = inr (record { names = λ names. refl; refusal = λ task contents day r. r })
+parts_of (statuses.Input (inputs.Trip fid fault)) = inr (record { names = λ names. refl; refusal = λ task contents day r. r })
+parts_of (statuses.Day fault) = inr (record { names = λ names. refl; refusal = λ task contents day r. r })
+parts_of (statuses.NoPlan side bound places) = inr (record { names = λ names. refl; refusal = λ task contents day r. r })
+parts_of (statuses.NotPlaced side item name partial) = inr (record { names = λ names. refl; refusal = λ task contents day r. r })
+parts_of statuses.Memory = inr (record { names = λ names. refl; refusal = λ task contents day r. absurd r })
+parts_of statuses.Ok = inr (record { names = λ names. refl; refusal = λ task contents day r. absurd r })
+parts_of statuses.Usage = inr (record { names = λ names. refl; refusal = λ task contents day r. absurd r })
+parts_of (statuses.ReadFault file) = inr (record { names = λ names. refl; refusal = λ task contents day r. absurd r })
+parts_of statuses.WriteFault = inr (record { names = λ names. refl; refusal = λ task contents day r. absurd r })
 
 -- what all files tell is what the refusal of tables speaks of
 told_others : (held : List ℕ → Option (List ℕ)) (names contents : List (List ℕ)) (status : Status) → IsOtherStatus status → told_for held names status ≡ Some contents → held_under held names ≡ Some contents
@@ -66,7 +71,8 @@ IsTableStatus (statuses.Input (inputs.Trips count)) = Unit {0}
 IsTableStatus (statuses.Input (inputs.Params fault)) = Unit {0}
 IsTableStatus (statuses.Input (inputs.Trip fid fault)) = Unit {0}
 IsTableStatus (statuses.Day fault) = Unit {0}
-IsTableStatus (statuses.NotPlaced side item fid partial) = Unit {0}
+IsTableStatus (statuses.NoPlan side bound places) = Unit {0}
+IsTableStatus (statuses.NotPlaced side item name partial) = Unit {0}
 IsTableStatus (statuses.Input (inputs.Text file fault)) = ⊥
 IsTableStatus statuses.Memory = ⊥
 IsTableStatus statuses.Ok = ⊥
@@ -81,30 +87,31 @@ model_is_of_tables tables day (statuses.Input (inputs.Params fault)) c = tt
 model_is_of_tables tables day (statuses.Input (inputs.Trip fid fault)) c = tt
 model_is_of_tables tables day (statuses.Day fault) c = tt
 model_is_of_tables tables day (statuses.Input (inputs.Text file fault)) c = c
-model_is_of_tables tables day (statuses.NotPlaced side item fid partial) c = tt
+model_is_of_tables tables day (statuses.NoPlan side bound places) c = tt
+model_is_of_tables tables day (statuses.NotPlaced side item name partial) c = tt
 model_is_of_tables tables day statuses.Memory c = c
 model_is_of_tables tables day statuses.Ok c = c
 model_is_of_tables tables day statuses.Usage c = c
 model_is_of_tables tables day (statuses.ReadFault file) c = c
 model_is_of_tables tables day statuses.WriteFault c = c
 
-plan_is_of_tables : (tables : List Table) (day : ℕ) (status : Status) → IsPlanCause tables day status → IsTableStatus status
-plan_is_of_tables tables day (statuses.Input fault) c = model_is_of_tables tables day (statuses.Input fault) c
-plan_is_of_tables tables day (statuses.Day fault) c = tt
-plan_is_of_tables tables day (statuses.NotPlaced side item fid partial) c = tt
-plan_is_of_tables tables day statuses.Memory c = c
-plan_is_of_tables tables day statuses.Ok c = c
-plan_is_of_tables tables day statuses.Usage c = c
-plan_is_of_tables tables day (statuses.ReadFault file) c = c
-plan_is_of_tables tables day statuses.WriteFault c = c
+unplanned_is_of_tables : (fault : PlanFault) → fault ≢ faults.Memory → IsTableStatus (plan_status_of fault)
+unplanned_is_of_tables (faults.NoPlan side bound places) told = tt
+unplanned_is_of_tables (faults.NotPlaced side item name partial) told = tt
+unplanned_is_of_tables faults.Memory told = absurd (told refl)
 
-is_of_tables : (command : Command) (tables : List Table) (day : ℕ) (status : Status) → IsCause command tables day status → IsTableStatus status
+plan_is_of_tables : (numbers : Numbers) (tables : List Table) (day : ℕ) (status : Status) → IsPlanCause numbers tables day status → IsTableStatus status
+plan_is_of_tables numbers tables day status (inl c) = model_is_of_tables tables day status c
+plan_is_of_tables numbers tables day status (inr c) = subst IsTableStatus (sym c.is) (unplanned_is_of_tables c.fault c.told)
+
+is_of_tables : (task : Task) (tables : List Table) (day : ℕ) (status : Status) → IsCause task tables day status → IsTableStatus status
 is_of_tables Trips tables day (statuses.Input (inputs.Table fault)) c = tt
 is_of_tables Trips tables day (statuses.Input (inputs.Trips count)) c = tt
 is_of_tables Trips tables day (statuses.Input (inputs.Params fault)) c = absurd c
 is_of_tables Trips tables day (statuses.Input (inputs.Trip fid fault)) c = absurd c
 is_of_tables Trips tables day (statuses.Day fault) c = tt
-is_of_tables Trips tables day (statuses.NotPlaced side item fid partial) c = absurd c
+is_of_tables Trips tables day (statuses.NoPlan side bound places) c = absurd c
+is_of_tables Trips tables day (statuses.NotPlaced side item name partial) c = absurd c
 is_of_tables Trips tables day (statuses.Input (inputs.Text file fault)) c = c
 is_of_tables Trips tables day statuses.Memory c = c
 is_of_tables Trips tables day statuses.Ok c = c
@@ -112,92 +119,94 @@ is_of_tables Trips tables day statuses.Usage c = c
 is_of_tables Trips tables day (statuses.ReadFault file) c = c
 is_of_tables Trips tables day statuses.WriteFault c = c
 is_of_tables Day tables day status c = model_is_of_tables tables day status c
-is_of_tables Plan tables day status c = plan_is_of_tables tables day status c
+is_of_tables (Plan numbers) tables day status c = plan_is_of_tables numbers tables day status c
 
--- the tables' cause is the command's
-pub cause_of : (command : Command) (held : List ℕ → Option (List ℕ)) (names : List (List ℕ)) (tables : List Table) (day : ℕ) (R : ℕ → Type 0) (status : Status) → IsTableStatus status → IfSome (held_under held names) (λ contents. SpellTables most_bytes contents tables) → IsCause command tables day status → IsAnswerCause (λ s. IfSome (told_for held names s) (λ contents. IsRefusal command contents day s)) R status
-cause_of command held names tables day R (statuses.Input (inputs.Table fault)) t spelled c = if_told (held_under held names) (λ contents. IsRefusal command contents day (statuses.Input (inputs.Table fault))) (λ contents e. record { tables = tables; spelled = of_told (held_under held names) (λ contents. SpellTables most_bytes contents tables) contents e spelled; cause = c })
-cause_of command held names tables day R (statuses.Input (inputs.Trips count)) t spelled c = if_told (held_under held names) (λ contents. IsRefusal command contents day (statuses.Input (inputs.Trips count))) (λ contents e. record { tables = tables; spelled = of_told (held_under held names) (λ contents. SpellTables most_bytes contents tables) contents e spelled; cause = c })
-cause_of command held names tables day R (statuses.Input (inputs.Params fault)) t spelled c = if_told (held_under held names) (λ contents. IsRefusal command contents day (statuses.Input (inputs.Params fault))) (λ contents e. record { tables = tables; spelled = of_told (held_under held names) (λ contents. SpellTables most_bytes contents tables) contents e spelled; cause = c })
-cause_of command held names tables day R (statuses.Input (inputs.Trip fid fault)) t spelled c = if_told (held_under held names) (λ contents. IsRefusal command contents day (statuses.Input (inputs.Trip fid fault))) (λ contents e. record { tables = tables; spelled = of_told (held_under held names) (λ contents. SpellTables most_bytes contents tables) contents e spelled; cause = c })
-cause_of command held names tables day R (statuses.Day fault) t spelled c = if_told (held_under held names) (λ contents. IsRefusal command contents day (statuses.Day fault)) (λ contents e. record { tables = tables; spelled = of_told (held_under held names) (λ contents. SpellTables most_bytes contents tables) contents e spelled; cause = c })
-cause_of command held names tables day R (statuses.NotPlaced side item fid partial) t spelled c = if_told (held_under held names) (λ contents. IsRefusal command contents day (statuses.NotPlaced side item fid partial)) (λ contents e. record { tables = tables; spelled = of_told (held_under held names) (λ contents. SpellTables most_bytes contents tables) contents e spelled; cause = c })
-cause_of command held names tables day R (statuses.Input (inputs.Text file fault)) t spelled c = absurd t
-cause_of command held names tables day R statuses.Memory t spelled c = absurd t
-cause_of command held names tables day R statuses.Ok t spelled c = absurd t
-cause_of command held names tables day R statuses.Usage t spelled c = absurd t
-cause_of command held names tables day R (statuses.ReadFault file) t spelled c = absurd t
-cause_of command held names tables day R statuses.WriteFault t spelled c = absurd t
+-- the tables' cause is the task's
+pub cause_of : (task : Task) (held : List ℕ → Option (List ℕ)) (names : List (List ℕ)) (tables : List Table) (day : ℕ) (R : ℕ → Type 0) (status : Status) → IsTableStatus status → IfSome (held_under held names) (λ contents. SpellTables most_bytes contents tables) → IsCause task tables day status → IsAnswerCause (λ s. IfSome (told_for held names s) (λ contents. IsRefusal task contents day s)) R status
+cause_of task held names tables day R (statuses.Input (inputs.Table fault)) t spelled c = if_told (held_under held names) (λ contents. IsRefusal task contents day (statuses.Input (inputs.Table fault))) (λ contents e. record { tables = tables; spelled = of_told (held_under held names) (λ contents. SpellTables most_bytes contents tables) contents e spelled; cause = c })
+cause_of task held names tables day R (statuses.Input (inputs.Trips count)) t spelled c = if_told (held_under held names) (λ contents. IsRefusal task contents day (statuses.Input (inputs.Trips count))) (λ contents e. record { tables = tables; spelled = of_told (held_under held names) (λ contents. SpellTables most_bytes contents tables) contents e spelled; cause = c })
+cause_of task held names tables day R (statuses.Input (inputs.Params fault)) t spelled c = if_told (held_under held names) (λ contents. IsRefusal task contents day (statuses.Input (inputs.Params fault))) (λ contents e. record { tables = tables; spelled = of_told (held_under held names) (λ contents. SpellTables most_bytes contents tables) contents e spelled; cause = c })
+cause_of task held names tables day R (statuses.Input (inputs.Trip fid fault)) t spelled c = if_told (held_under held names) (λ contents. IsRefusal task contents day (statuses.Input (inputs.Trip fid fault))) (λ contents e. record { tables = tables; spelled = of_told (held_under held names) (λ contents. SpellTables most_bytes contents tables) contents e spelled; cause = c })
+cause_of task held names tables day R (statuses.Day fault) t spelled c = if_told (held_under held names) (λ contents. IsRefusal task contents day (statuses.Day fault)) (λ contents e. record { tables = tables; spelled = of_told (held_under held names) (λ contents. SpellTables most_bytes contents tables) contents e spelled; cause = c })
+cause_of task held names tables day R (statuses.NoPlan side bound places) t spelled c = if_told (held_under held names) (λ contents. IsRefusal task contents day (statuses.NoPlan side bound places)) (λ contents e. record { tables = tables; spelled = of_told (held_under held names) (λ contents. SpellTables most_bytes contents tables) contents e spelled; cause = c })
+cause_of task held names tables day R (statuses.NotPlaced side item name partial) t spelled c = if_told (held_under held names) (λ contents. IsRefusal task contents day (statuses.NotPlaced side item name partial)) (λ contents e. record { tables = tables; spelled = of_told (held_under held names) (λ contents. SpellTables most_bytes contents tables) contents e spelled; cause = c })
+cause_of task held names tables day R (statuses.Input (inputs.Text file fault)) t spelled c = absurd t
+cause_of task held names tables day R statuses.Memory t spelled c = absurd t
+cause_of task held names tables day R statuses.Ok t spelled c = absurd t
+cause_of task held names tables day R statuses.Usage t spelled c = absurd t
+cause_of task held names tables day R (statuses.ReadFault file) t spelled c = absurd t
+cause_of task held names tables day R statuses.WriteFault t spelled c = absurd t
 
-refused_cause : (command : Command) → (held : List ℕ → Option (List ℕ)) (names : List (List ℕ)) (tables : List Table) (day : ℕ) (R : ℕ → Type 0) (status : Status) → IfSome (held_under held names) (λ contents. SpellTables most_bytes contents tables) → IsRefused command tables day status → IsAnswerCause (λ s. IfSome (told_for held names s) (λ contents. IsRefusal command contents day s)) R status
-refused_cause command held names tables day R status spelled (inl memory) = let P : Status → Type 0 = IsAnswerCause (λ s. IfSome (told_for held names s) (λ contents. IsRefusal command contents day s)) R in subst P (sym memory) tt
-refused_cause command held names tables day R status spelled (inr c) = cause_of command held names tables day R status (is_of_tables command tables day status c) spelled c
+refused_cause : (task : Task) → (held : List ℕ → Option (List ℕ)) (names : List (List ℕ)) (tables : List Table) (day : ℕ) (R : ℕ → Type 0) (status : Status) → IfSome (held_under held names) (λ contents. SpellTables most_bytes contents tables) → IsRefused task tables day status → IsAnswerCause (λ s. IfSome (told_for held names s) (λ contents. IsRefusal task contents day s)) R status
+refused_cause task held names tables day R status spelled (inl memory) = let P : Status → Type 0 = IsAnswerCause (λ s. IfSome (told_for held names s) (λ contents. IsRefusal task contents day s)) R in subst P (sym memory) tt
+refused_cause task held names tables day R status spelled (inr c) = cause_of task held names tables day R status (is_of_tables task tables day status c) spelled c
 
--- where all files were read, these are the clauses of the command's answer
-pub read_written : (command : Command) → (held : List ℕ → Option (List ℕ)) (names : List (List ℕ)) (tables : List Table) (day : ℕ) (r : Result (List ℕ) Status) → IfSome (held_under held names) (λ contents. SpellTables most_bytes contents tables) → IfOk r (IsText command tables day) → IfOk r (λ bytes. IfSome (held_under held names) (λ contents. IsAnswer command contents day bytes))
-read_written command held names tables day (Ok bytes) spelled written = if_told (held_under held names) (λ contents. IsAnswer command contents day bytes) (λ contents e. record { tables = tables; spelled = of_told (held_under held names) (λ contents. SpellTables most_bytes contents tables) contents e spelled; written = written })
-read_written command held names tables day (Err s) spelled written = tt
+-- where all files were read, these are the clauses of the task's answer
+pub read_written : (task : Task) → (held : List ℕ → Option (List ℕ)) (names : List (List ℕ)) (tables : List Table) (day : ℕ) (r : Result (List ℕ) Status) → IfSome (held_under held names) (λ contents. SpellTables most_bytes contents tables) → IfOk r (IsText task tables day) → IfOk r (λ bytes. IfSome (held_under held names) (λ contents. IsAnswer task contents day bytes))
+read_written task held names tables day (Ok bytes) spelled written = if_told (held_under held names) (λ contents. IsAnswer task contents day bytes) (λ contents e. record { tables = tables; spelled = of_told (held_under held names) (λ contents. SpellTables most_bytes contents tables) contents e spelled; written = written })
+read_written task held names tables day (Err s) spelled written = tt
 
-pub read_cause : (command : Command) → (held : List ℕ → Option (List ℕ)) (names : List (List ℕ)) (tables : List Table) (day : ℕ) (R : ℕ → Type 0) (r : Result (List ℕ) Status) → IfSome (held_under held names) (λ contents. SpellTables most_bytes contents tables) → IfErr r (IsRefused command tables day) → IfErr r (IsAnswerCause (λ s. IfSome (told_for held names s) (λ contents. IsRefusal command contents day s)) R)
-read_cause command held names tables day R (Ok bytes) spelled cause = tt
-read_cause command held names tables day R (Err s) spelled cause = refused_cause command held names tables day R s spelled cause
+pub read_cause : (task : Task) → (held : List ℕ → Option (List ℕ)) (names : List (List ℕ)) (tables : List Table) (day : ℕ) (R : ℕ → Type 0) (r : Result (List ℕ) Status) → IfSome (held_under held names) (λ contents. SpellTables most_bytes contents tables) → IfErr r (IsRefused task tables day) → IfErr r (IsAnswerCause (λ s. IfSome (told_for held names s) (λ contents. IsRefusal task contents day s)) R)
+read_cause task held names tables day R (Ok bytes) spelled cause = tt
+read_cause task held names tables day R (Err s) spelled cause = refused_cause task held names tables day R s spelled cause
 
-tables_refused : (command : Command) → (tables : List Table) (day : ℕ) (r : Result (List ℕ) Status) (status : Status) → IfOk r (IsText command tables day) → IfErr r (IsRefused command tables day) → IsCause command tables day status → MatchResult r (λ bytes. ⊥) (λ s. IsUnread s ⊎ (s ≡ status))
-tables_refused command tables day (Ok bytes) status written cause c = no_cause command tables day bytes status written c
-tables_refused command tables day (Err s) status written (inl memory) c = inl (memory_is_unread s memory)
-tables_refused command tables day (Err s) status written (inr d) c = inr (same_cause command tables day s status d c)
+tables_refused : (task : Task) → (tables : List Table) (day : ℕ) (r : Result (List ℕ) Status) (status : Status) → IfOk r (IsText task tables day) → IfErr r (IsRefused task tables day) → IsCause task tables day status → MatchResult r (λ bytes. ⊥) (λ s. IsUnread s ⊎ (s ≡ status))
+tables_refused task tables day (Ok bytes) status written cause c = no_cause task tables day bytes status written c
+tables_refused task tables day (Err s) status written (inl memory) c = inl (memory_is_unread s memory)
+tables_refused task tables day (Err s) status written (inr d) c = inr (same_cause task tables day s status d c)
 
-pub read_refused : (command : Command) → (held : List ℕ → Option (List ℕ)) (names : List (List ℕ)) (tables : List Table) (day : ℕ) (r : Result (List ℕ) Status) (status : Status)
+pub read_refused : (task : Task) → (held : List ℕ → Option (List ℕ)) (names : List (List ℕ)) (tables : List Table) (day : ℕ) (r : Result (List ℕ) Status) (status : Status)
     → ((others : List Table) → IfSome (held_under held names) (λ contents. SpellTables most_bytes contents others → tables ≡ others))
     → ((file line : ℕ) (kind : TextKind) → IfSome (held_under held (take file names)) (λ contents. HasTextFault 1 most_bytes contents file line kind → ⊥))
-    → IfOk r (IsText command tables day) → IfErr r (IsRefused command tables day) → IfSome (told_for held names status) (λ contents. IsRefusal command contents day status → MatchResult r (λ bytes. ⊥) (λ s. IsUnread s ⊎ (s ≡ status)))
-read_refused command held names tables day r status only none written cause = elim (parts_of status) [
+    → IfOk r (IsText task tables day) → IfErr r (IsRefused task tables day) → IfSome (told_for held names status) (λ contents. IsRefusal task contents day status → MatchResult r (λ bytes. ⊥) (λ s. IsUnread s ⊎ (s ≡ status)))
+read_refused task held names tables day r status only none written cause = elim (parts_of status) [
   | inl t ↦
       let text : Status = statuses.Input (inputs.Text t.file t.fault) in
-      let Goal : Status → Type 0 = λ status. IfSome (told_for held names status) (λ contents. IsRefusal command contents day status → MatchResult r (λ bytes. ⊥) (λ s. IsUnread s ⊎ (s ≡ status))) in
-      let at : Goal text = if_told (held_under held (take t.file names)) (λ contents. IsRefusal command contents day text → MatchResult r (λ bytes. ⊥) (λ s. IsUnread s ⊎ (s ≡ text))) (λ contents told refusal.
+      let Goal : Status → Type 0 = λ status. IfSome (told_for held names status) (λ contents. IsRefusal task contents day status → MatchResult r (λ bytes. ⊥) (λ s. IsUnread s ⊎ (s ≡ status))) in
+      let at : Goal text = if_told (held_under held (take t.file names)) (λ contents. IsRefusal task contents day text → MatchResult r (λ bytes. ⊥) (λ s. IsUnread s ⊎ (s ≡ text))) (λ contents told refusal.
       absurd (of_told (held_under held (take t.file names)) (λ contents. HasTextFault 1 most_bytes contents t.file t.fault.line t.fault.kind → ⊥) contents told (none t.file t.fault.line t.fault.kind) refusal)) in
       subst Goal (sym t.is) at
-  | inr other ↦ if_told (told_for held names status) (λ contents. IsRefusal command contents day status → MatchResult r (λ bytes. ⊥) (λ s. IsUnread s ⊎ (s ≡ status))) (λ contents told refusal.
-      let t = other.refusal command contents day refusal in
+  | inr other ↦ if_told (told_for held names status) (λ contents. IsRefusal task contents day status → MatchResult r (λ bytes. ⊥) (λ s. IsUnread s ⊎ (s ≡ status))) (λ contents told refusal.
+      let t = other.refusal task contents day refusal in
       let same = of_told (held_under held names) (λ contents. SpellTables most_bytes contents t.tables → tables ≡ t.tables) contents (told_others held names contents status other told) (only t.tables) t.spelled in
-      let P : List Table → Type 0 = λ ts. IsCause command ts day status in
-      tables_refused command tables day r status written cause (subst P (sym same) t.cause))
+      let P : List Table → Type 0 = λ ts. IsCause task ts day status in
+      tables_refused task tables day r status written cause (subst P (sym same) t.cause))
 ]
 
-pub read_complete : (command : Command) → (contents : List (List ℕ)) (tables : List Table) (day : ℕ) (r : Result (List ℕ) Status) (bytes : List ℕ) → ((others : List Table) → SpellTables most_bytes contents others → tables ≡ others) → IfErr r (IsRefused command tables day) → IsAnswer command contents day bytes → MatchResult r (λ found. Unit {0}) IsUnread
-read_complete command contents tables day (Ok found) bytes only cause answer = tt
-read_complete command contents tables day (Err s) bytes only (inl memory) answer = memory_is_unread s memory
-read_complete command contents tables day (Err s) bytes only (inr d) answer =
-    let P : List Table → Type 0 = λ ts. IsText command ts day bytes in
-    absurd (no_cause command tables day bytes s (subst P (sym (only answer.tables answer.spelled)) answer.written) d)
+pub read_complete : (task : Task) → (contents : List (List ℕ)) (tables : List Table) (day : ℕ) (r : Result (List ℕ) Status) (bytes : List ℕ) → ((others : List Table) → SpellTables most_bytes contents others → tables ≡ others) → IfErr r (IsRefused task tables day) → IsAnswer task contents day bytes → MatchResult r (λ found. Unit {0}) IsUnread
+read_complete task contents tables day (Ok found) bytes only cause answer = tt
+read_complete task contents tables day (Err s) bytes only (inl memory) answer = memory_is_unread s memory
+read_complete task contents tables day (Err s) bytes only (inr d) answer =
+    let P : List Table → Type 0 = λ ts. IsText task ts day bytes in
+    absurd (no_cause task tables day bytes s (subst P (sym (only answer.tables answer.spelled)) answer.written) d)
 
 -- where a file was refused
-pub unread_answer : (command : Command) → (held : List ℕ → Option (List ℕ)) (names : List (List ℕ)) (day : ℕ) (R : ℕ → Type 0) (status : Status) → IsFileCause (λ file line kind. IfSome (held_under held (take file names)) (λ contents. HasTextFault 1 most_bytes contents file line kind)) R status → IsAnswerCause (λ s. IfSome (told_for held names s) (λ contents. IsRefusal command contents day s)) R status
-unread_answer command held names day R statuses.Memory cause = tt
-unread_answer command held names day R (statuses.ReadFault file) cause = cause
-unread_answer command held names day R (statuses.Input (inputs.Text file fault)) cause = cause
-unread_answer command held names day R (statuses.Input (inputs.Table fault)) cause = absurd cause
-unread_answer command held names day R (statuses.Input (inputs.Trips count)) cause = absurd cause
-unread_answer command held names day R (statuses.Input (inputs.Params fault)) cause = absurd cause
-unread_answer command held names day R (statuses.Input (inputs.Trip fid fault)) cause = absurd cause
-unread_answer command held names day R (statuses.Day fault) cause = absurd cause
-unread_answer command held names day R (statuses.NotPlaced side item fid partial) cause = absurd cause
-unread_answer command held names day R statuses.Ok cause = absurd cause
-unread_answer command held names day R statuses.Usage cause = absurd cause
-unread_answer command held names day R statuses.WriteFault cause = absurd cause
+pub unread_answer : (task : Task) → (held : List ℕ → Option (List ℕ)) (names : List (List ℕ)) (day : ℕ) (R : ℕ → Type 0) (status : Status) → IsFileCause (λ file line kind. IfSome (held_under held (take file names)) (λ contents. HasTextFault 1 most_bytes contents file line kind)) R status → IsAnswerCause (λ s. IfSome (told_for held names s) (λ contents. IsRefusal task contents day s)) R status
+unread_answer task held names day R statuses.Memory cause = tt
+unread_answer task held names day R (statuses.ReadFault file) cause = cause
+unread_answer task held names day R (statuses.Input (inputs.Text file fault)) cause = cause
+unread_answer task held names day R (statuses.Input (inputs.Table fault)) cause = absurd cause
+unread_answer task held names day R (statuses.Input (inputs.Trips count)) cause = absurd cause
+unread_answer task held names day R (statuses.Input (inputs.Params fault)) cause = absurd cause
+unread_answer task held names day R (statuses.Input (inputs.Trip fid fault)) cause = absurd cause
+unread_answer task held names day R (statuses.Day fault) cause = absurd cause
+unread_answer task held names day R (statuses.NoPlan side bound places) cause = absurd cause
+unread_answer task held names day R (statuses.NotPlaced side item name partial) cause = absurd cause
+unread_answer task held names day R statuses.Ok cause = absurd cause
+unread_answer task held names day R statuses.Usage cause = absurd cause
+unread_answer task held names day R statuses.WriteFault cause = absurd cause
 
-pub unread_refused : (command : Command) → (held : List ℕ → Option (List ℕ)) (names : List (List ℕ)) (day : ℕ) (s status : Status)
+pub unread_refused : (task : Task) → (held : List ℕ → Option (List ℕ)) (names : List (List ℕ)) (day : ℕ) (s status : Status)
     → ((tables : List Table) → IfSome (held_under held names) (λ contents. SpellTables most_bytes contents tables → IsUnread s))
     → ((file line : ℕ) (kind : TextKind) → IfSome (held_under held (take file names)) (λ contents. HasTextFault 1 most_bytes contents file line kind → IsUnread s ⊎ (s ≡ refused_text file line kind)))
-    → IfSome (told_for held names status) (λ contents. IsRefusal command contents day status → IsUnread s ⊎ (s ≡ status))
-unread_refused command held names day s status only exact = elim (parts_of status) [
+    → IfSome (told_for held names status) (λ contents. IsRefusal task contents day status → IsUnread s ⊎ (s ≡ status))
+unread_refused task held names day s status only exact = elim (parts_of status) [
   | inl t ↦
       let text : Status = statuses.Input (inputs.Text t.file t.fault) in
-      let Goal : Status → Type 0 = λ status. IfSome (told_for held names status) (λ contents. IsRefusal command contents day status → IsUnread s ⊎ (s ≡ status)) in
+      let Goal : Status → Type 0 = λ status. IfSome (told_for held names status) (λ contents. IsRefusal task contents day status → IsUnread s ⊎ (s ≡ status)) in
       let at : Goal text = exact t.file t.fault.line t.fault.kind in
       subst Goal (sym t.is) at
-  | inr other ↦ if_told (told_for held names status) (λ contents. IsRefusal command contents day status → IsUnread s ⊎ (s ≡ status)) (λ contents told refusal.
-      let t = other.refusal command contents day refusal in
+  | inr other ↦ if_told (told_for held names status) (λ contents. IsRefusal task contents day status → IsUnread s ⊎ (s ≡ status)) (λ contents told refusal.
+      let t = other.refusal task contents day refusal in
       inl (of_told (held_under held names) (λ contents. SpellTables most_bytes contents t.tables → IsUnread s) contents (told_others held names contents status other told) (only t.tables) t.spelled))
 ]

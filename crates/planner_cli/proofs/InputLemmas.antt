@@ -117,7 +117,8 @@ cause_on T U R S (statuses.Input (inputs.Trip fid fault)) text read cause = absu
 cause_on T U R S statuses.Ok text read cause = absurd cause
 cause_on T U R S statuses.Usage text read cause = absurd cause
 cause_on T U R S (statuses.Day fault) text read cause = absurd cause
-cause_on T U R S (statuses.NotPlaced side item fid partial) text read cause = absurd cause
+cause_on T U R S (statuses.NoPlan side bound places) text read cause = absurd cause
+cause_on T U R S (statuses.NotPlaced side item name partial) text read cause = absurd cause
 cause_on T U R S statuses.WriteFault text read cause = absurd cause
 
 -- a fact for each told content

@@ -11,4 +11,7 @@ pub mod OptionLemmas
 pub mod ModelOutcomes
 pub mod ModelLemmas
 pub mod PlanLemmas
+pub mod PlanOutcomes
+pub mod RowReads
+pub mod TripRows
 pub mod OneText

@@ -1,5 +1,5 @@
 -- A day has one answer: its text or its plan, or one refusal.
-use Rattle.std.proofs.Common.{◌≡◌, ℕ, ◌⊎◌, inl, inr, Bool, true, false, List, [], length, Option, Some, None, Result, Ok, Err, IsSomeAnd, refl, sym, ◌∙◌, ap, subst, slice_get, if◌then◌else◌}
+use Rattle.std.proofs.Common.{◌≡◌, ℕ, ◌⊎◌, inl, inr, List, Some, None, Result, Ok, Err, refl, sym, ◌∙◌, ap, subst, if◌then◌else◌}
 use Rattle.plan_core.specs.declared.types.Point.{Point}
 use Rattle.vdv451_text.specs.declared.table.Table.{Table}
 use Rattle.vdv452_tables.specs.declared.fault.TableFault.{TableFault}
@@ -12,29 +12,20 @@ use Rattle.day_calendar.specs.declared.day.DayFault.{DayFault}
 use Rattle.day_calendar.specs.Kinds.{IsKindOf}
 use Rattle.day_calendar.specs.DayTrips.{AreDayRows}
 use Rattle.day_calendar.proofs.OneOrder.{one_list}
-use Rattle.trip_times.specs.declared.trip.Trip.{Trip}
-use Rattle.cover_core.specs.Cover.{Problem}
-use Rattle.cover_core.specs.declared.Column.{Column}
-use Rattle.cover_core.specs.declared.Plan.{Plan}
-use Rattle.plan_round.specs.Rounding.{Rounded, left, rounded, whole}
 use Rattle.day_model.specs.declared.fault.DayModelFault.{DayModelFault}
 use Rattle.day_model.specs.declared.fault.DayModelFault.TheVariants as models
 use Rattle.day_model.specs.Building.{day_fault, rows_at, timed_rows}
-use Rattle.day_model.specs.Blocks.{block_worth}
 use Rattle.day_model.specs.Facts.{DayFacts, dead}
 use Rattle.day_model.proofs.Outcomes.{faultless}
-use Rattle.day_model.proofs.Same.{same_worth}
-use Rattle.depot_network.specs.Network.{blocks_of, caps_of}
 use Rattle.plan_params.specs.declared.rows.ParamRows.{ParamRows}
 use Rattle.vdv452_tables.specs.Keys.{point_eq}
 use Rattle.vdv452_tables.specs.LookUps.{dead_time_on}
-use Rattle.planner_cli.specs.declared.status.Side.{Side}
+use Rattle.plan_command.specs.Alike.{AreAlike}
 use Rattle.planner_cli.specs.declared.status.Status.{Status}
 use Rattle.planner_cli.specs.declared.status.Status.TheVariants as statuses
 use Rattle.planner_cli.specs.declared.status.InputFault.TheVariants as inputs
 use Rattle.planner_cli.specs.DayText.{IsDayText}
 use Rattle.planner_cli.specs.Model.{HasModelFault, HasModelFaultIn, IsModelCause, IsModelIn, IsModelOf, model_status}
-use Rattle.planner_cli.specs.PlanText.{IsLeftOut, IsPlanCause, IsPlanText}
 use Rattle.planner_cli.specs.Trips.{IsDayFault}
 use Rattle.planner_cli.proofs.Outcomes.{kind_no_fault, kinds_same, none_some, one_day_fault, some_same}
 
@@ -77,7 +68,8 @@ kinds_of tables day (statuses.Input (inputs.Params fault)) c = inr (inr (models.
 kinds_of tables day (statuses.Input (inputs.Trip fid fault)) c = inr (inr (models.Trip fid fault, refl, c))
 kinds_of tables day (statuses.Day fault) c = inr (inl (fault, refl, c.0, c.1))
 kinds_of tables day (statuses.Input (inputs.Text file fault)) c = absurd c
-kinds_of tables day (statuses.NotPlaced side item fid partial) c = absurd c
+kinds_of tables day (statuses.NoPlan side bound places) c = absurd c
+kinds_of tables day (statuses.NotPlaced side item name partial) c = absurd c
 kinds_of tables day statuses.Memory c = absurd c
 kinds_of tables day statuses.Ok c = absurd c
 kinds_of tables day statuses.Usage c = absurd c
@@ -114,12 +106,12 @@ abbrev result_or : {A E : Type 0} → A → Result A E → A
 result_or d (Ok x) = x
 result_or d (Err e) = d
 
--- two days of the tables have the same trips and the same blocks
 ok_same : {A E : Type 0} (x y : A) (r s : Result A E) → r ≡ Ok x → s ≡ Ok y → r ≡ s → x ≡ y
 ok_same {A = A} {E = E} x y r s p q same = let f : Result A E → A = λ r. result_or x r in ap f (sym p ∙ same ∙ q)
 
-pub blocks_same : (tables : List Table) (day : ℕ) (a b : DayFacts) → IsModelOf tables day a → IsModelOf tables day b → (a.trips ≡ b.trips) × (blocks_of a false ≡ blocks_of b false)
-blocks_same tables day a b p q =
+-- two days of the tables are alike
+pub days_alike : (tables : List Table) (day : ℕ) (a b : DayFacts) → IsModelOf tables day a → IsModelOf tables day b → AreAlike a b
+days_alike tables day a b p q =
     let net : Net = net_of needs.All tables in
     let kinds = kinds_same net day a.kind b.kind p.model.kind_is q.model.kind_is in
     let rows : a.rows ≡ b.rows = rows_same net day a.kind b.kind a.rows b.rows p.model.kind_is q.model.kind_is p.model.day_is.rows q.model.day_is.rows in
@@ -132,83 +124,4 @@ blocks_same tables day a b p q =
     ∙ ap (λ v. if point_eq x y then Some 0 else dead_time_on net v a.params.settings.area a.params.settings.group x y) kinds.0
     ∙ ap (λ (ps : ParamRows). if point_eq x y then Some 0 else dead_time_on net b.kind.version ps.settings.area ps.settings.group x y) params
     ∙ sym (q.model.day_is.deads x y) in
-    let worth = same_worth a b false trips params deads in
-    let problem : List Trip → ParamRows → (ℕ → List ℕ → Option ℕ) → Problem = λ ts ps f. record { items = length ts; caps = caps_of ps.pools; worth = f } in
-    (trips, ap (λ ts. problem ts a.params (block_worth a false)) trips ∙ ap (λ ps. problem b.trips ps (block_worth a false)) params ∙ ap (λ f. problem b.trips b.params f) worth)
-
--- what is left is left once
-abbrev item_or : ℕ → Rounded → ℕ
-item_or d (left item columns) = item
-item_or d (whole columns) = d
-
-abbrev columns_or : List Column → Rounded → List Column
-columns_or d (left item columns) = columns
-columns_or d (whole columns) = d
-
-abbrev is_left : Rounded → Bool
-is_left (left item columns) = true
-is_left (whole columns) = false
-
-fid_same : (o : Option Trip) (a b : ℕ) → IsSomeAnd o (λ (trip : Trip). trip.fid ≡ a) → IsSomeAnd o (λ (trip : Trip). trip.fid ≡ b) → a ≡ b
-fid_same None a b p q = absurd p
-fid_same (Some trip) a b p q = sym p ∙ q
-
-one_left : (tables : List Table) (day : ℕ) (side side' : Side) (item fid item' fid' : ℕ) (partial partial' : Plan) → IsLeftOut tables day side item fid partial.columns → IsLeftOut tables day side' item' fid' partial'.columns → statuses.NotPlaced side item fid partial ≡ statuses.NotPlaced side' item' fid' partial'
-one_left tables day side side' item fid item' fid' partial partial' p q =
-    let same = blocks_same tables day p.facts q.facts p.model q.model in
-    let ends : left item partial.columns ≡ left item' partial'.columns = sym p.is_left.made ∙ ap (λ problem. rounded problem []) same.1 ∙ q.is_left.made in
-    let items : item ≡ item' = ap (item_or 0) ends in
-    let columns : partial.columns ≡ partial'.columns = ap (columns_or []) ends in
-    let P : List Trip → Type 0 = λ ts. IsSomeAnd (slice_get ts item) (λ (trip : Trip). trip.fid ≡ fid) in
-    let Q : ℕ → Type 0 = λ k. IsSomeAnd (slice_get q.facts.trips k) (λ (trip : Trip). trip.fid ≡ fid) in
-    let fids : fid ≡ fid' = fid_same (slice_get q.facts.trips item') fid fid' (subst Q items (subst P same.0 p.is_left.fid_is)) q.is_left.fid_is in
-    let plan : List Column → Plan = λ cs. record { columns = cs } in
-    let sides : side ≡ side' = p.is_left.side_is ∙ sym q.is_left.side_is in
-    ap (λ s. statuses.NotPlaced s item fid partial) sides ∙ ap (λ k. statuses.NotPlaced side' k fid partial) items ∙ ap (λ n. statuses.NotPlaced side' item' n partial) fids ∙ ap (λ cs. statuses.NotPlaced side' item' fid' (plan cs)) columns
-
--- a status of the tables is no trip that is left
-pub one_plan_cause : (tables : List Table) (day : ℕ) (s t : Status) → IsPlanCause tables day s → IsPlanCause tables day t → s ≡ t
-one_plan_cause tables day (statuses.NotPlaced side item fid partial) (statuses.NotPlaced side' item' fid' partial') p q = one_left tables day side side' item fid item' fid' partial partial' p q
-one_plan_cause tables day (statuses.NotPlaced side item fid partial) (statuses.Input fault) p q = model_no_cause tables day p.facts (statuses.Input fault) p.model q
-one_plan_cause tables day (statuses.NotPlaced side item fid partial) (statuses.Day fault) p q = model_no_cause tables day p.facts (statuses.Day fault) p.model q
-one_plan_cause tables day (statuses.NotPlaced side item fid partial) statuses.Memory p q = absurd q
-one_plan_cause tables day (statuses.NotPlaced side item fid partial) statuses.Ok p q = absurd q
-one_plan_cause tables day (statuses.NotPlaced side item fid partial) statuses.Usage p q = absurd q
-one_plan_cause tables day (statuses.NotPlaced side item fid partial) (statuses.ReadFault file) p q = absurd q
-one_plan_cause tables day (statuses.NotPlaced side item fid partial) statuses.WriteFault p q = absurd q
-one_plan_cause tables day (statuses.Input fault) (statuses.NotPlaced side item fid partial) p q = model_no_cause tables day q.facts (statuses.Input fault) q.model p
-one_plan_cause tables day (statuses.Input fault) (statuses.Input other) p q = one_model_cause tables day (statuses.Input fault) (statuses.Input other) p q
-one_plan_cause tables day (statuses.Input fault) (statuses.Day other) p q = one_model_cause tables day (statuses.Input fault) (statuses.Day other) p q
-one_plan_cause tables day (statuses.Input fault) statuses.Memory p q = absurd q
-one_plan_cause tables day (statuses.Input fault) statuses.Ok p q = absurd q
-one_plan_cause tables day (statuses.Input fault) statuses.Usage p q = absurd q
-one_plan_cause tables day (statuses.Input fault) (statuses.ReadFault file) p q = absurd q
-one_plan_cause tables day (statuses.Input fault) statuses.WriteFault p q = absurd q
-one_plan_cause tables day (statuses.Day fault) (statuses.NotPlaced side item fid partial) p q = model_no_cause tables day q.facts (statuses.Day fault) q.model p
-one_plan_cause tables day (statuses.Day fault) (statuses.Input other) p q = one_model_cause tables day (statuses.Day fault) (statuses.Input other) p q
-one_plan_cause tables day (statuses.Day fault) (statuses.Day other) p q = one_model_cause tables day (statuses.Day fault) (statuses.Day other) p q
-one_plan_cause tables day (statuses.Day fault) statuses.Memory p q = absurd q
-one_plan_cause tables day (statuses.Day fault) statuses.Ok p q = absurd q
-one_plan_cause tables day (statuses.Day fault) statuses.Usage p q = absurd q
-one_plan_cause tables day (statuses.Day fault) (statuses.ReadFault file) p q = absurd q
-one_plan_cause tables day (statuses.Day fault) statuses.WriteFault p q = absurd q
-one_plan_cause tables day statuses.Memory t p q = absurd p
-one_plan_cause tables day statuses.Ok t p q = absurd p
-one_plan_cause tables day statuses.Usage t p q = absurd p
-one_plan_cause tables day (statuses.ReadFault file) t p q = absurd p
-one_plan_cause tables day statuses.WriteFault t p q = absurd p
-
--- a day with a plan is not refused
-pub plan_text_no_cause : (tables : List Table) (day : ℕ) (bytes : List ℕ) (s : Status) → IsPlanText tables day bytes → IsPlanCause tables day s → ⊥
-plan_text_no_cause tables day bytes (statuses.NotPlaced side item fid partial) p q =
-    let same = blocks_same tables day p.facts q.facts p.model q.model in
-    let ends : whole p.are_blocks.columns ≡ left item partial.columns = sym p.are_blocks.made ∙ ap (λ problem. rounded problem []) same.1 ∙ q.is_left.made in
-    let bad : false ≡ true = ap is_left ends in
-    cc
-plan_text_no_cause tables day bytes (statuses.Input fault) p q = model_no_cause tables day p.facts (statuses.Input fault) p.model q
-plan_text_no_cause tables day bytes (statuses.Day fault) p q = model_no_cause tables day p.facts (statuses.Day fault) p.model q
-plan_text_no_cause tables day bytes statuses.Memory p q = q
-plan_text_no_cause tables day bytes statuses.Ok p q = q
-plan_text_no_cause tables day bytes statuses.Usage p q = q
-plan_text_no_cause tables day bytes (statuses.ReadFault file) p q = q
-plan_text_no_cause tables day bytes statuses.WriteFault p q = q
+    record { versions = kinds.0; kinds = kinds.1; trips = trips; params = params; deads = deads }

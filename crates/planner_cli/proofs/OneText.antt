@@ -1,8 +1,7 @@
--- The text of a command is one: files that are told, words and a day determine it.
-use Rattle.std.proofs.Common.{◌≡◌, ℕ, ◌+◌, ◌-◌, ℤ, pos, List, [], ◌∷◌, ◌++◌, length, Option, Some, None, Result, Ok, Err, IfSome, IsSomeAnd, refl, sym, ◌∙◌, ap, subst}
+-- The text of a task is one: files that are told, words and a day determine it.
+use Rattle.std.proofs.Common.{◌≡◌, ℕ, ◌+◌, ◌-◌, ℤ, pos, List, [], ◌∷◌, ◌++◌, length, Option, Some, Result, Ok, IfSome, sym, ◌∙◌, ap, subst}
 use Rattle.jiff_core.specs.Calendar.{days_from_civil, weekday_number}
 use Rattle.vdv451_text.specs.declared.table.Table.{Table}
-use Rattle.vdv451_text.specs.Faults.{Gives}
 use Rattle.vdv451_text.specs.Plain.{text}
 use Rattle.vdv451_text.proofs.Readings.{reads_given}
 use Rattle.vdv452_tables.specs.declared.net.Net.{Net}
@@ -11,20 +10,23 @@ use Rattle.vdv452_tables.specs.Calendar.{net_of}
 use Rattle.vdv452_tables.specs.Rows.{table_of}
 use Rattle.vdv452_tables.specs.Schema as schema
 use Rattle.day_calendar.specs.Days.{HasWeekday}
-use Rattle.day_calendar.specs.Kinds.{IsKindOf}
-use Rattle.day_calendar.specs.declared.day.DayKind.{DayKind}
 use Rattle.day_model.specs.Facts.{DayFacts}
 use Rattle.day_tables.specs.DayTables.{day_tables_of}
+use Rattle.cover_plan.specs.Endings.{Numbers}
+use Rattle.plan_command.specs.PlanText.{IsPlanTextOver}
+use Rattle.plan_command.proofs.AlikeDays.{same_texts}
 use Rattle.trip_times.specs.declared.trip.Trip.{Trip}
-use Rattle.planner_cli.specs.declared.words.Command.{Command}
-use Rattle.planner_cli.specs.declared.words.Command.TheVariants.{Day, Plan, Trips}
+use Rattle.planner_cli.specs.Tasks.{Task}
+use Rattle.planner_cli.specs.Tasks.{Day, Plan, Trips}
 use Rattle.planner_cli.specs.declared.status.Status.{Status}
 use Rattle.planner_cli.specs.declared.status.Status.TheVariants as statuses
 use Rattle.planner_cli.specs.DayText.{IsDayText}
 use Rattle.planner_cli.specs.Inputs.{SpellTables, most_bytes}
-use Rattle.planner_cli.specs.Run.{HasOneText, IsAnswer, IsText, IsWritten}
+use Rattle.planner_cli.specs.Run.{IsAnswer, IsText, IsWritten}
+use Rattle.planner_cli.specs.PlanText.{IsPlanText}
 use Rattle.planner_cli.specs.Trips.{IsTripsText, picked_table}
-use Rattle.planner_cli.proofs.ModelOutcomes.{blocks_same, rows_same}
+use Rattle.planner_cli.proofs.ModelOutcomes.{days_alike, rows_same}
+use Rattle.planner_cli.proofs.PlanOutcomes.{days_text}
 use Rattle.planner_cli.proofs.Outcomes.{kinds_same, some_same}
 
 -- a text spells one list of tables
@@ -72,7 +74,7 @@ one_day_text tables day xs ys p q =
     let days : a.kind.day ≡ b.kind.day = p.model.model.kind_is.day_is ∙ sym q.model.model.kind_is.day_is in
     let weekdays : a.kind.weekday ≡ b.kind.weekday = one_weekday day a.kind.weekday b.kind.weekday p.model.model.kind_is.weekday q.model.model.kind_is.weekday in
     let rows : a.rows ≡ b.rows = rows_same net day a.kind b.kind a.rows b.rows p.model.model.kind_is q.model.model.kind_is p.model.model.day_is.rows q.model.model.day_is.rows in
-    let trips : a.trips ≡ b.trips = (blocks_same tables day a b p.model q.model).0 in
+    let trips : a.trips ≡ b.trips = (days_alike tables day a b p.model q.model).trips in
     p.written
     ∙ ap (λ v. text_with net a v a.kind.kind a.kind.day a.kind.weekday a.rows a.trips) kinds.0
     ∙ ap (λ k. text_with net a b.kind.version k a.kind.day a.kind.weekday a.rows a.trips) kinds.1
@@ -82,16 +84,23 @@ one_day_text tables day xs ys p q =
     ∙ ap (λ ts. text_with net a b.kind.version b.kind.kind b.kind.day b.kind.weekday b.rows ts) trips
     ∙ sym q.written
 
-one_text : (command : Command) (tables : List Table) (day : ℕ) (xs ys : List ℕ) → HasOneText command → IsText command tables day xs → IsText command tables day ys → xs ≡ ys
-one_text Trips tables day xs ys one p q = one_trips_text tables day xs ys p q
-one_text Day tables day xs ys one p q = one_day_text tables day xs ys p q
-one_text Plan tables day xs ys one p q = absurd one
+-- one text of a plan: two days of the tables plan alike, and a day has one text
+one_plan_text : (numbers : Numbers) (tables : List Table) (day : ℕ) (xs ys : List ℕ) → IsPlanText numbers tables day xs → IsPlanText numbers tables day ys → xs ≡ ys
+one_plan_text numbers tables day xs ys p q =
+    let table : p.table ≡ q.table = some_same (table_of schema.trips tables) p.table q.table p.found q.found in
+    let P : Table → Type 0 = λ t. IsPlanTextOver p.facts numbers t xs in
+    days_text q.facts numbers q.table xs ys (same_texts p.facts q.facts (days_alike tables day p.facts q.facts p.model q.model) numbers q.table xs (subst P table p.plan)) q.plan
 
-pub one_answer : (command : Command) (contents : List (List ℕ)) (day : ℕ) (xs ys : List ℕ) → HasOneText command → IsAnswer command contents day xs → IsAnswer command contents day ys → xs ≡ ys
-one_answer command contents day xs ys one p q =
+one_text : (task : Task) (tables : List Table) (day : ℕ) (xs ys : List ℕ) → IsText task tables day xs → IsText task tables day ys → xs ≡ ys
+one_text Trips tables day xs ys p q = one_trips_text tables day xs ys p q
+one_text Day tables day xs ys p q = one_day_text tables day xs ys p q
+one_text (Plan numbers) tables day xs ys p q = one_plan_text numbers tables day xs ys p q
+
+pub one_answer : (task : Task) (contents : List (List ℕ)) (day : ℕ) (xs ys : List ℕ) → IsAnswer task contents day xs → IsAnswer task contents day ys → xs ≡ ys
+one_answer task contents day xs ys p q =
     let same : p.tables ≡ q.tables = one_spelling most_bytes contents p.tables q.tables p.spelled q.spelled in
-    let P : List Table → Type 0 = λ ts. IsText command ts day xs in
-    one_text command q.tables day xs ys one (subst P same p.written) q.written
+    let P : List Table → Type 0 = λ ts. IsText task ts day xs in
+    one_text task q.tables day xs ys (subst P same p.written) q.written
 
 -- what was taken is any text that is the one written
 pub same_taken : (old new : Option (List ℕ)) (before now : ℕ) (text bytes : List ℕ) (status : Status) → text ≡ bytes → IsWritten old new before now text status → status ≡ statuses.Ok → IfSome old (λ bytes_before. new ≡ Some (bytes_before ++ bytes))

@@ -1,5 +1,5 @@
 -- Words that say options, one after another.
-use Rattle.std.proofs.Common.{◌≡◌, ℕ, suc, Bool, true, false, not, ◌&&◌, ◌+◌, ◌<◌, List, [], ◌∷◌, ◌++◌, length, arith, slice_index_or, drop, Option, Some, None, refl, sym, ◌∙◌, ap, subst}
+use Rattle.std.proofs.Common.{◌≡◌, ℕ, suc, Bool, true, false, not, ◌&&◌, ◌+◌, ◌<◌, List, [], ◌∷◌, length, arith, slice_index_or, drop, Option, Some, None, refl, sym, ◌∙◌, ap}
 use Rattle.std.proofs.Math.Seq.{drop-cons}
 use Rattle.std.specs.Option.{option_and_then}
 use Rattle.planner_cli.specs.declared.options.Given.{Given}

@@ -1,5 +1,5 @@
 -- Where no count rises an answer that is unread is want of memory.
-use Rattle.std.proofs.Common.{◌≡◌, ℕ, zero, suc, ◌-◌, ◌<◌, ◌⊎◌, inl, inr, List, [], ◌∷◌, ◌++◌, length, take, Option, Some, None, IfSome, IsSomeAnd, refl, sym, ◌∙◌, ap, subst, arith, slice_index_or}
+use Rattle.std.proofs.Common.{◌≡◌, ℕ, zero, suc, ◌-◌, ◌<◌, ◌⊎◌, inl, inr, List, [], ◌∷◌, length, take, Option, Some, None, IfSome, IsSomeAnd, refl, sym, subst, arith, slice_index_or}
 use Rattle.std.proofs.lemmas.Bool.{cases_lt}
 use Rattle.vdv451_text.specs.declared.table.Table.{Table}
 use Rattle.vdv451_text.specs.declared.fault.TextKind.{TextKind}
@@ -9,9 +9,9 @@ use Rattle.planner_cli.specs.declared.status.Status.TheVariants as statuses
 use Rattle.planner_cli.specs.declared.status.InputFault.TheVariants as inputs
 use Rattle.planner_cli.specs.Inputs.{HasTextFault, IsReadFault, IsUnread, NoneRose, SpellTables, held_under, most_bytes}
 use Rattle.planner_cli.specs.Run.{IsAnswer, IsAnswerCause, IsRefusal, names_for, told_for}
-use Rattle.planner_cli.specs.declared.words.Command.{Command}
-use Rattle.planner_cli.proofs.AnswerLemmas.{IsOtherStatus, IsTextStatus, parts_of}
-use Rattle.planner_cli.proofs.InputLemmas.{if_told, of_told, place_of_first, right_texts}
+use Rattle.planner_cli.specs.Tasks.{Task}
+use Rattle.planner_cli.proofs.AnswerLemmas.{parts_of}
+use Rattle.planner_cli.proofs.InputLemmas.{of_told, place_of_first, right_texts}
 
 none_rose_at : (names : List (List ℕ)) (before now : List ℕ → ℕ) (i : ℕ) → NoneRose names before now → i < length names → ¬ Rose (before (slice_index_or names i [])) (now (slice_index_or names i []))
 none_rose_at [] before now i none within = absurd (omega (arith, within))
@@ -46,7 +46,8 @@ unread_memory refusal read statuses.Ok cause none unread = absurd unread
 unread_memory refusal read statuses.Usage cause none unread = absurd unread
 unread_memory refusal read (statuses.Input fault) cause none unread = absurd unread
 unread_memory refusal read (statuses.Day fault) cause none unread = absurd unread
-unread_memory refusal read (statuses.NotPlaced side item fid partial) cause none unread = absurd unread
+unread_memory refusal read (statuses.NoPlan side bound places) cause none unread = absurd unread
+unread_memory refusal read (statuses.NotPlaced side item name partial) cause none unread = absurd unread
 unread_memory refusal read statuses.WriteFault cause none unread = absurd unread
 
 -- what a told content calls for
@@ -64,10 +65,10 @@ called_for None P Q some all = absurd some
 called_for (Some x) P Q some all = all some
 
 -- no read fault is answered where a refusal is called for, and no count rose under the names that it speaks of
-none_read : (command : Command) (held : List ℕ → Option (List ℕ)) (names : List (List ℕ)) (day : ℕ) (before now : List ℕ → ℕ) (status : Status) → IsSomeAnd (told_for held names status) (λ contents. IsRefusal command contents day status) → NoneRose (names_for names status) before now → (file : ℕ) → ¬ IsReadFault held names before now file
-none_read command held names day before now status some none = elim (parts_of status) [
+none_read : (task : Task) (held : List ℕ → Option (List ℕ)) (names : List (List ℕ)) (day : ℕ) (before now : List ℕ → ℕ) (status : Status) → IsSomeAnd (told_for held names status) (λ contents. IsRefusal task contents day status) → NoneRose (names_for names status) before now → (file : ℕ) → ¬ IsReadFault held names before now file
+none_read task held names day before now status some none = elim (parts_of status) [
   | inl t ↦
-      let Goal : Status → Type 0 = λ status. IsSomeAnd (told_for held names status) (λ contents. IsRefusal command contents day status) → NoneRose (names_for names status) before now → (file : ℕ) → ¬ IsReadFault held names before now file in
+      let Goal : Status → Type 0 = λ status. IsSomeAnd (told_for held names status) (λ contents. IsRefusal task contents day status) → NoneRose (names_for names status) before now → (file : ℕ) → ¬ IsReadFault held names before now file in
       let at : Goal (statuses.Input (inputs.Text t.file t.fault)) = λ some none file fault.
       let told = some_told (held_under held (take t.file names)) (λ contents. HasTextFault 1 most_bytes contents t.file t.fault.line t.fault.kind) some in
       no_later_fault held names told.content before now t.file t.fault.line file t.fault.kind told.is told.holds none fault in
@@ -77,18 +78,18 @@ none_read command held names day before now status some none = elim (parts_of st
       λ file fault. no_read_fault held names before now file (subst P (other.names names) none) fault
 ]
 
-pub refused_run : (command : Command) (held : List ℕ → Option (List ℕ)) (names : List (List ℕ)) (day : ℕ) (before now : List ℕ → ℕ) (s status : Status) → IfSome (told_for held names status) (λ contents. IsRefusal command contents day status → IsUnread s ⊎ (s ≡ status))
-    → IsAnswerCause (λ s. IfSome (told_for held names s) (λ contents. IsRefusal command contents day s)) (IsReadFault held names before now) s → IsSomeAnd (told_for held names status) (λ contents. IsRefusal command contents day status) → NoneRose (names_for names status) before now → (s ≡ status) ⊎ (s ≡ statuses.Memory)
-refused_run command held names day before now s status all cause some none =
-    elim (called_for (told_for held names status) (λ contents. IsRefusal command contents day status) (IsUnread s ⊎ (s ≡ status)) some all) [
-      | inl unread ↦ inr (unread_memory (λ s. IfSome (told_for held names s) (λ contents. IsRefusal command contents day s)) (IsReadFault held names before now) s cause (none_read command held names day before now status some none) unread)
+pub refused_run : (task : Task) (held : List ℕ → Option (List ℕ)) (names : List (List ℕ)) (day : ℕ) (before now : List ℕ → ℕ) (s status : Status) → IfSome (told_for held names status) (λ contents. IsRefusal task contents day status → IsUnread s ⊎ (s ≡ status))
+    → IsAnswerCause (λ s. IfSome (told_for held names s) (λ contents. IsRefusal task contents day s)) (IsReadFault held names before now) s → IsSomeAnd (told_for held names status) (λ contents. IsRefusal task contents day status) → NoneRose (names_for names status) before now → (s ≡ status) ⊎ (s ≡ statuses.Memory)
+refused_run task held names day before now s status all cause some none =
+    elim (called_for (told_for held names status) (λ contents. IsRefusal task contents day status) (IsUnread s ⊎ (s ≡ status)) some all) [
+      | inl unread ↦ inr (unread_memory (λ s. IfSome (told_for held names s) (λ contents. IsRefusal task contents day s)) (IsReadFault held names before now) s cause (none_read task held names day before now status some none) unread)
       | inr same ↦ inl same
     ]
 
-pub complete_run : (command : Command) (held : List ℕ → Option (List ℕ)) (names : List (List ℕ)) (day : ℕ) (before now : List ℕ → ℕ) (s : Status) → ((bytes : List ℕ) → IfSome (held_under held names) (λ contents. IsAnswer command contents day bytes → IsUnread s))
-    → IsAnswerCause (λ s. IfSome (told_for held names s) (λ contents. IsRefusal command contents day s)) (IsReadFault held names before now) s → IsSomeAnd (held_under held names) (λ contents. (bytes : List ℕ) × IsAnswer command contents day bytes) → NoneRose names before now → s ≡ statuses.Memory
-complete_run command held names day before now s all cause some none =
-    let told = some_told (held_under held names) (λ contents. (bytes : List ℕ) × IsAnswer command contents day bytes) some in
+pub complete_run : (task : Task) (held : List ℕ → Option (List ℕ)) (names : List (List ℕ)) (day : ℕ) (before now : List ℕ → ℕ) (s : Status) → ((bytes : List ℕ) → IfSome (held_under held names) (λ contents. IsAnswer task contents day bytes → IsUnread s))
+    → IsAnswerCause (λ s. IfSome (told_for held names s) (λ contents. IsRefusal task contents day s)) (IsReadFault held names before now) s → IsSomeAnd (held_under held names) (λ contents. (bytes : List ℕ) × IsAnswer task contents day bytes) → NoneRose names before now → s ≡ statuses.Memory
+complete_run task held names day before now s all cause some none =
+    let told = some_told (held_under held names) (λ contents. (bytes : List ℕ) × IsAnswer task contents day bytes) some in
     let text = told.holds in
-    let unread = of_told (held_under held names) (λ contents. IsAnswer command contents day text.0 → IsUnread s) told.content told.is (all text.0) text.1 in
-    unread_memory (λ s. IfSome (told_for held names s) (λ contents. IsRefusal command contents day s)) (IsReadFault held names before now) s cause (λ file fault. no_read_fault held names before now file none fault) unread
+    let unread = of_told (held_under held names) (λ contents. IsAnswer task contents day text.0 → IsUnread s) told.content told.is (all text.0) text.1 in
+    unread_memory (λ s. IfSome (told_for held names s) (λ contents. IsRefusal task contents day s)) (IsReadFault held names before now) s cause (λ file fault. no_read_fault held names before now file none fault) unread

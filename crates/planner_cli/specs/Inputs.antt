@@ -1,5 +1,5 @@
 -- What the planning files hold, the tables that they spell, and their first fault of text.
-use Rattle.std.specs.Prelude.{◌≡◌, ◌≢◌, ℕ, ◌+◌, ◌-◌, ◌<◌, ◌≤◌, ◌⊎◌, List, [], ◌∷◌, ◌++◌, length, take, Option, Some, IfSome, slice_index_or}
+use Rattle.std.specs.Prelude.{◌≡◌, ℕ, ◌+◌, ◌-◌, ◌<◌, ◌≤◌, ◌⊎◌, List, [], ◌∷◌, ◌++◌, length, take, Option, Some, IfSome, slice_index_or}
 use Rattle.std.specs.Option.{option_map, option_and_then}
 use Rattle.plan_core.specs.Outside.{Rose}
 use Rattle.vdv451_text.specs.declared.table.Table.{Table}
@@ -58,7 +58,8 @@ IsUnread statuses.Ok = ⊥
 IsUnread statuses.Usage = ⊥
 IsUnread (statuses.Input fault) = ⊥
 IsUnread (statuses.Day fault) = ⊥
-IsUnread (statuses.NotPlaced side item fid partial) = ⊥
+IsUnread (statuses.NoPlan side bound places) = ⊥
+IsUnread (statuses.NotPlaced side item name partial) = ⊥
 IsUnread statuses.WriteFault = ⊥
 
 -- the refusal of a file's text
@@ -77,7 +78,8 @@ IsFileCause text_fault read_fault (statuses.Input (inputs.Trip fid fault)) = ⊥
 IsFileCause text_fault read_fault statuses.Ok = ⊥
 IsFileCause text_fault read_fault statuses.Usage = ⊥
 IsFileCause text_fault read_fault (statuses.Day fault) = ⊥
-IsFileCause text_fault read_fault (statuses.NotPlaced side item fid partial) = ⊥
+IsFileCause text_fault read_fault (statuses.NoPlan side bound places) = ⊥
+IsFileCause text_fault read_fault (statuses.NotPlaced side item name partial) = ⊥
 IsFileCause text_fault read_fault statuses.WriteFault = ⊥
 
 -- the status for a file with a fault of text

@@ -6,6 +6,7 @@ pub mod Options
 pub mod PlanText
 pub mod Run
 pub mod Taken
+pub mod Tasks
 pub mod Trips
 pub mod Words
 pub mod Lines

@@ -11,6 +11,10 @@ use Rattle.plan_params.specs.declared.fault.ParamKind.{ParamKind}
 use Rattle.plan_params.specs.declared.fault.ParamKind.TheVariants as params
 use Rattle.trip_times.specs.declared.trip.TripFault.{TripFault}
 use Rattle.trip_times.specs.declared.trip.TripFault.TheVariants as trips
+use Rattle.day_method.specs.declared.side.Side.{Side}
+use Rattle.day_method.specs.declared.side.Side.TheVariants.{Vehicles, Drivers}
+use Rattle.plan_command.specs.declared.fault.ItemName.{ItemName}
+use Rattle.plan_command.specs.declared.fault.ItemName.TheVariants as items
 use Rattle.planner_cli.specs.declared.status.Status.{Status}
 use Rattle.planner_cli.specs.declared.status.Status.TheVariants as statuses
 use Rattle.planner_cli.specs.declared.status.InputFault.TheVariants as inputs
@@ -56,6 +60,15 @@ trip_words (trips.NoRunTime from to) =
     codes "NoRunTime " ∷ decimal from.typ ∷ codes "/" ∷ decimal from.nr ∷ codes " to " ∷ decimal to.typ ∷ codes "/" ∷ decimal to.nr ∷ []
 trip_words trips.PastEnd = codes "PastEnd" ∷ []
 
+abbrev pub side_name : Side → List ℕ
+side_name Vehicles = codes "vehicles"
+side_name Drivers = codes "drivers"
+
+-- the parts of the words for a trip or a piece
+abbrev pub item_words : ItemName → List (List ℕ)
+item_words (items.Trip fid) = codes "trip " ∷ decimal fid ∷ []
+item_words (items.Piece block index) = codes "block " ∷ decimal block ∷ codes " piece " ∷ decimal index ∷ []
+
 -- the parts of a line after one another
 abbrev pub joined : List (List ℕ) → List ℕ
 joined [] = []
@@ -74,7 +87,9 @@ line_of day (statuses.Input (inputs.Trips count)) = joined (codes "trips: " ∷ 
 line_of day (statuses.Input (inputs.Params fault)) =
     joined (codes "table " ∷ fault.table ∷ codes " row " ∷ decimal fault.row ∷ codes ": " ∷ param_kind fault.kind ∷ codes "\n" ∷ [])
 line_of day (statuses.Input (inputs.Trip fid fault)) = joined (codes "trip " ∷ decimal fid ∷ codes ": " ∷ (trip_words fault ++ codes "\n" ∷ []))
-line_of day (statuses.NotPlaced side item fid partial) = joined (codes "not placed: trip " ∷ decimal fid ∷ codes "\n" ∷ [])
+line_of day (statuses.NoPlan side bound places) =
+    joined (codes "no plan: " ∷ side_name side ∷ codes " bound " ∷ decimal bound ∷ codes " places " ∷ decimal places ∷ codes "\n" ∷ [])
+line_of day (statuses.NotPlaced side item name partial) = joined (codes "not placed: " ∷ (item_words name ++ codes "\n" ∷ []))
 line_of day (statuses.Day fault) = joined (codes "day " ∷ day ∷ codes ": " ∷ day_kind fault ∷ codes "\n" ∷ [])
 line_of day (statuses.ReadFault file) = joined (codes "read fault: file " ∷ decimal file ∷ codes "\n" ∷ [])
 line_of day statuses.WriteFault = codes "write fault\n"

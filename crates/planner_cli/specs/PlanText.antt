@@ -1,93 +1,54 @@
 -- The text of the command `plan`, and why there is none.
-use Rattle.std.specs.Prelude.{◌≡◌, ℕ, ◌⊎◌, false, List, [], Some, IsSomeAnd, slice_get}
+use Rattle.std.specs.Prelude.{◌≡◌, ◌≢◌, ℕ, ◌⊎◌, List, Some}
 use Rattle.vdv451_text.specs.declared.table.Table.{Table}
-use Rattle.vdv451_text.specs.Plain.{text}
 use Rattle.vdv452_tables.specs.Schema as schema
 use Rattle.vdv452_tables.specs.Rows.{table_of}
-use Rattle.trip_times.specs.declared.trip.Trip.{Trip}
-use Rattle.cover_core.specs.declared.Column.{Column}
-use Rattle.cover_core.specs.Plans.{IsPlan}
-use Rattle.plan_round.specs.declared.fault.RoundFault.{RoundFault}
-use Rattle.plan_round.specs.declared.fault.RoundFault.TheVariants as rounds
-use Rattle.plan_round.specs.Rounding.{left, rounded, whole}
-use Rattle.plan_round.specs.Laws.{HasRoomForEach, IsStuck}
+use Rattle.cover_plan.specs.Endings.{Numbers}
 use Rattle.day_model.specs.Facts.{DayFacts}
-use Rattle.depot_network.specs.Network.{blocks_of}
-use Rattle.umlauf_write.specs.Printed.{printed}
-use Rattle.umlauf_write.specs.Tables.{plan_tables_of}
-use Rattle.planner_cli.specs.declared.status.Side.{Side}
-use Rattle.planner_cli.specs.declared.status.Side.TheVariants as sides
+use Rattle.plan_command.specs.declared.fault.PlanFault.{PlanFault}
+use Rattle.plan_command.specs.declared.fault.PlanFault.TheVariants as faults
+use Rattle.plan_command.specs.Planning.{IsPlanCauseOver}
+use Rattle.plan_command.specs.PlanText.{IsPlanTextOver}
 use Rattle.planner_cli.specs.declared.status.Status.{Status}
 use Rattle.planner_cli.specs.declared.status.Status.TheVariants as statuses
 use Rattle.planner_cli.specs.Model.{IsModelCause, IsModelOf}
 
--- The blocks of a day: rounding puts its trips, by number, where the cost rises least, and the blocks are printed by their first trips.
--- They are a plan: each trip stands in exactly one block of one pool, once; no pool has more blocks than vehicles; and the worth of each
--- block is its cost.
-pub record AreBlocksOf (facts : DayFacts) (blocks : List Column) : Type 0 where
-  pub columns : List Column
-  pub made : rounded (blocks_of facts false) [] ≡ whole columns
-  pub order : blocks ≡ printed columns
-  pub plan : IsPlan (blocks_of facts false) blocks
-
--- the text of the plan of the day that the tables tell: its blocks, its trips with the numbers of their blocks, and what the blocks cost
-pub record IsPlanText (tables : List Table) (day : ℕ) (bytes : List ℕ) : Type 0 where
+-- The text of the plan of the day that the tables tell: its vehicle blocks and driver duties, with what they cost and the bounds on their
+-- numbers and costs. Each trip of the day stands in exactly one block of one pool within its vehicles, and each piece in exactly one lawful
+-- duty of one group within its drivers.
+pub record IsPlanText (numbers : Numbers) (tables : List Table) (day : ℕ) (bytes : List ℕ) : Type 0 where
   pub facts : DayFacts
   pub model : IsModelOf tables day facts
-  pub blocks : List Column
-  pub are_blocks : AreBlocksOf facts blocks
   pub table : Table
   pub found : table_of schema.trips tables ≡ Some table
-  pub written : bytes ≡ text (plan_tables_of facts table blocks)
+  pub plan : IsPlanTextOver facts numbers table bytes
 
--- Rounding leaves a trip beside these blocks: each pool in which it alone is a block has all its vehicles in use, and it fits into no
--- block. That does not happen where each trip alone is a block of a pool that has at least as many vehicles as there are trips.
-pub record IsLeftIn (facts : DayFacts) (side : Side) (item fid : ℕ) (partial : List Column) : Type 0 where
-  pub side_is : side ≡ sides.Vehicles
-  pub made : rounded (blocks_of facts false) [] ≡ left item partial
-  pub stuck : IsStuck (blocks_of facts false) item partial
-  pub no_room : ¬ HasRoomForEach (blocks_of facts false)
-  pub fid_is : IsSomeAnd (slice_get facts.trips item) (λ (trip : Trip). trip.fid ≡ fid)
+-- the status for a day without a plan
+abbrev pub plan_status_of : PlanFault → Status
+plan_status_of (faults.NoPlan side bound places) = statuses.NoPlan side bound places
+plan_status_of (faults.NotPlaced side item name partial) = statuses.NotPlaced side item name partial
+plan_status_of faults.Memory = statuses.Memory
 
-pub record IsLeftOut (tables : List Table) (day : ℕ) (side : Side) (item fid : ℕ) (partial : List Column) : Type 0 where
+-- The day that the tables tell has no plan: the bound on the number of a side is above its vehicles or drivers, or rounding leaves a trip
+-- or a piece.
+pub record IsUnplanned (numbers : Numbers) (tables : List Table) (day : ℕ) (status : Status) : Type 0 where
   pub facts : DayFacts
   pub model : IsModelOf tables day facts
-  pub is_left : IsLeftIn facts side item fid partial
+  pub fault : PlanFault
+  pub cause : IsPlanCauseOver facts numbers fault
+  pub told : fault ≢ faults.Memory
+  pub is : status ≡ plan_status_of fault
 
--- why there is no plan: the tables tell no day, or rounding leaves a trip
-abbrev pub IsPlanCause : List Table → ℕ → Status → Type 0
-IsPlanCause tables day (statuses.NotPlaced side item fid partial) = IsLeftOut tables day side item fid partial.columns
-IsPlanCause tables day (statuses.Input fault) = IsModelCause tables day (statuses.Input fault)
-IsPlanCause tables day (statuses.Day fault) = IsModelCause tables day (statuses.Day fault)
-IsPlanCause tables day statuses.Memory = ⊥
-IsPlanCause tables day statuses.Ok = ⊥
-IsPlanCause tables day statuses.Usage = ⊥
-IsPlanCause tables day (statuses.ReadFault file) = ⊥
-IsPlanCause tables day statuses.WriteFault = ⊥
+-- why there is no text: the tables tell no day, or their day has no plan
+abbrev pub IsPlanCause : Numbers → List Table → ℕ → Status → Type 0
+IsPlanCause numbers tables day status = IsModelCause tables day status ⊎ IsUnplanned numbers tables day status
 
--- memory ran out, or there is no plan
-abbrev pub IsPlanRefused : List Table → ℕ → Status → Type 0
-IsPlanRefused tables day status = (status ≡ statuses.Memory) ⊎ IsPlanCause tables day status
+-- memory ran out, or there is no text
+abbrev pub IsPlanRefused : Numbers → List Table → ℕ → Status → Type 0
+IsPlanRefused numbers tables day status = (status ≡ statuses.Memory) ⊎ IsPlanCause numbers tables day status
 
--- the text of the plan of a day, from the table that its trips were read from
-pub record IsPlanTextOver (facts : DayFacts) (table : Table) (bytes : List ℕ) : Type 0 where
-  pub blocks : List Column
-  pub are_blocks : AreBlocksOf facts blocks
-  pub written : bytes ≡ text (plan_tables_of facts table blocks)
-
--- rounding of a day's trips from no columns ends so
-abbrev pub LeavesFor : DayFacts → RoundFault → Type 0
-LeavesFor facts (rounds.NotPlaced item partial) =
-    (rounded (blocks_of facts false) [] ≡ left item partial.columns) × IsStuck (blocks_of facts false) item partial.columns × (¬ HasRoomForEach (blocks_of facts false))
-LeavesFor facts rounds.Memory = Unit {0}
-
--- why a day has no blocks; want of memory needs no cause
-abbrev pub IsLeftStatus : DayFacts → Status → Type 0
-IsLeftStatus facts (statuses.NotPlaced side item fid partial) = IsLeftIn facts side item fid partial.columns
-IsLeftStatus facts statuses.Memory = Unit {0}
-IsLeftStatus facts (statuses.Input fault) = ⊥
-IsLeftStatus facts (statuses.Day fault) = ⊥
-IsLeftStatus facts statuses.Ok = ⊥
-IsLeftStatus facts statuses.Usage = ⊥
-IsLeftStatus facts (statuses.ReadFault file) = ⊥
-IsLeftStatus facts statuses.WriteFault = ⊥
+-- the status for a day without a plan, with its cause; want of memory needs none
+pub record IsPlanStatus (facts : DayFacts) (numbers : Numbers) (status : Status) : Type 0 where
+  pub fault : PlanFault
+  pub cause : IsPlanCauseOver facts numbers fault
+  pub is : status ≡ plan_status_of fault

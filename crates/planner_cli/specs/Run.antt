@@ -11,52 +11,53 @@ use Rattle.planner_cli.specs.DayText.{IsDayText}
 use Rattle.planner_cli.specs.Model.{IsModelCause}
 use Rattle.planner_cli.specs.PlanText.{IsPlanCause, IsPlanText}
 use Rattle.planner_cli.specs.Trips.{IsDayCause, IsTripsText}
-use Rattle.planner_cli.specs.declared.words.Command.{Command}
-use Rattle.planner_cli.specs.declared.words.Command.TheVariants.{Day, Plan, Trips}
+use Rattle.planner_cli.specs.Tasks.{Task}
+use Rattle.planner_cli.specs.Tasks.{Day, Plan, Trips}
 use Rattle.planner_cli.specs.declared.words.Request.{Request}
 
 -- the text that a command writes of the tables, for a day
-abbrev pub IsText : Command → List Table → ℕ → List ℕ → Type 0
+abbrev pub IsText : Task → List Table → ℕ → List ℕ → Type 0
 IsText Trips tables day bytes = IsTripsText tables day bytes
 IsText Day tables day bytes = IsDayText tables day bytes
-IsText Plan tables day bytes = IsPlanText tables day bytes
+IsText (Plan numbers) tables day bytes = IsPlanText numbers tables day bytes
 
 -- why a command refuses the tables, for a day
-abbrev pub IsCause : Command → List Table → ℕ → Status → Type 0
+abbrev pub IsCause : Task → List Table → ℕ → Status → Type 0
 IsCause Trips tables day status = IsDayCause tables day status
 IsCause Day tables day status = IsModelCause tables day status
-IsCause Plan tables day status = IsPlanCause tables day status
+IsCause (Plan numbers) tables day status = IsPlanCause numbers tables day status
 
 -- memory ran out, or the command refuses the tables for the day
-abbrev pub IsRefused : Command → List Table → ℕ → Status → Type 0
-IsRefused command tables day status = (status ≡ statuses.Memory) ⊎ IsCause command tables day status
+abbrev pub IsRefused : Task → List Table → ℕ → Status → Type 0
+IsRefused task tables day status = (status ≡ statuses.Memory) ⊎ IsCause task tables day status
 
 -- the bytes are the command's text, from the tables that the files spell
-pub record IsAnswer (command : Command) (contents : List (List ℕ)) (day : ℕ) (bytes : List ℕ) : Type 0 where
+pub record IsAnswer (task : Task) (contents : List (List ℕ)) (day : ℕ) (bytes : List ℕ) : Type 0 where
   pub tables : List Table
   pub spelled : SpellTables most_bytes contents tables
-  pub written : IsText command tables day bytes
+  pub written : IsText task tables day bytes
 
 -- the files spell tables that are refused for the day with this status
-pub record IsTablesRefusal (command : Command) (contents : List (List ℕ)) (day : ℕ) (status : Status) : Type 0 where
+pub record IsTablesRefusal (task : Task) (contents : List (List ℕ)) (day : ℕ) (status : Status) : Type 0 where
   pub tables : List Table
   pub spelled : SpellTables most_bytes contents tables
-  pub cause : IsCause command tables day status
+  pub cause : IsCause task tables day status
 
 -- what refuses a command, where the files hold these contents: the first fault of their texts, or else a cause in their tables
-abbrev pub IsRefusal : Command → List (List ℕ) → ℕ → Status → Type 0
-IsRefusal command contents day (statuses.Input (inputs.Text file fault)) = HasTextFault 1 most_bytes contents file fault.line fault.kind
-IsRefusal command contents day (statuses.Input (inputs.Table fault)) = IsTablesRefusal command contents day (statuses.Input (inputs.Table fault))
-IsRefusal command contents day (statuses.Input (inputs.Trips count)) = IsTablesRefusal command contents day (statuses.Input (inputs.Trips count))
-IsRefusal command contents day (statuses.Input (inputs.Params fault)) = IsTablesRefusal command contents day (statuses.Input (inputs.Params fault))
-IsRefusal command contents day (statuses.Input (inputs.Trip fid fault)) = IsTablesRefusal command contents day (statuses.Input (inputs.Trip fid fault))
-IsRefusal command contents day (statuses.Day fault) = IsTablesRefusal command contents day (statuses.Day fault)
-IsRefusal command contents day (statuses.NotPlaced side item fid partial) = IsTablesRefusal command contents day (statuses.NotPlaced side item fid partial)
-IsRefusal command contents day statuses.Memory = ⊥
-IsRefusal command contents day statuses.Ok = ⊥
-IsRefusal command contents day statuses.Usage = ⊥
-IsRefusal command contents day (statuses.ReadFault file) = ⊥
-IsRefusal command contents day statuses.WriteFault = ⊥
+abbrev pub IsRefusal : Task → List (List ℕ) → ℕ → Status → Type 0
+IsRefusal task contents day (statuses.Input (inputs.Text file fault)) = HasTextFault 1 most_bytes contents file fault.line fault.kind
+IsRefusal task contents day (statuses.Input (inputs.Table fault)) = IsTablesRefusal task contents day (statuses.Input (inputs.Table fault))
+IsRefusal task contents day (statuses.Input (inputs.Trips count)) = IsTablesRefusal task contents day (statuses.Input (inputs.Trips count))
+IsRefusal task contents day (statuses.Input (inputs.Params fault)) = IsTablesRefusal task contents day (statuses.Input (inputs.Params fault))
+IsRefusal task contents day (statuses.Input (inputs.Trip fid fault)) = IsTablesRefusal task contents day (statuses.Input (inputs.Trip fid fault))
+IsRefusal task contents day (statuses.Day fault) = IsTablesRefusal task contents day (statuses.Day fault)
+IsRefusal task contents day (statuses.NoPlan side bound places) = IsTablesRefusal task contents day (statuses.NoPlan side bound places)
+IsRefusal task contents day (statuses.NotPlaced side item name partial) = IsTablesRefusal task contents day (statuses.NotPlaced side item name partial)
+IsRefusal task contents day statuses.Memory = ⊥
+IsRefusal task contents day statuses.Ok = ⊥
+IsRefusal task contents day statuses.Usage = ⊥
+IsRefusal task contents day (statuses.ReadFault file) = ⊥
+IsRefusal task contents day statuses.WriteFault = ⊥
 
 -- why there is no text: a refusal, or a count of faults that rose; want of memory needs no cause
 abbrev pub IsAnswerCause : (Status → Type 0) → (ℕ → Type 0) → Status → Type 0
@@ -64,21 +65,22 @@ IsAnswerCause refusal read_fault statuses.Memory = Unit {0}
 IsAnswerCause refusal read_fault (statuses.ReadFault file) = read_fault file
 IsAnswerCause refusal read_fault (statuses.Input fault) = refusal (statuses.Input fault)
 IsAnswerCause refusal read_fault (statuses.Day fault) = refusal (statuses.Day fault)
-IsAnswerCause refusal read_fault (statuses.NotPlaced side item fid partial) = refusal (statuses.NotPlaced side item fid partial)
+IsAnswerCause refusal read_fault (statuses.NoPlan side bound places) = refusal (statuses.NoPlan side bound places)
+IsAnswerCause refusal read_fault (statuses.NotPlaced side item name partial) = refusal (statuses.NotPlaced side item name partial)
 IsAnswerCause refusal read_fault statuses.Ok = ⊥
 IsAnswerCause refusal read_fault statuses.Usage = ⊥
 IsAnswerCause refusal read_fault statuses.WriteFault = ⊥
 
 -- the whole text was added to what was taken before
-pub record TakesAnswer (command : Command) (contents : List (List ℕ)) (day : ℕ) (taken : Option (List ℕ)) (old : List ℕ) : Type 0 where
+pub record TakesAnswer (task : Task) (contents : List (List ℕ)) (day : ℕ) (taken : Option (List ℕ)) (old : List ℕ) : Type 0 where
   pub bytes : List ℕ
-  pub answer : IsAnswer command contents day bytes
+  pub answer : IsAnswer task contents day bytes
   pub whole : taken ≡ Some (old ++ bytes)
 
 -- a front of the text was added
-pub record TakesFrontOfAnswer (command : Command) (contents : List (List ℕ)) (day : ℕ) (taken : Option (List ℕ)) (old : List ℕ) : Type 0 where
+pub record TakesFrontOfAnswer (task : Task) (contents : List (List ℕ)) (day : ℕ) (taken : Option (List ℕ)) (old : List ℕ) : Type 0 where
   pub bytes : List ℕ
-  pub answer : IsAnswer command contents day bytes
+  pub answer : IsAnswer task contents day bytes
   pub front : TakesFront old taken bytes
 
 -- a text is written whole, or a front of it and then the count of faults rose
@@ -89,7 +91,8 @@ IsWritten old new faults_before faults_now text statuses.Usage = ⊥
 IsWritten old new faults_before faults_now text statuses.Memory = ⊥
 IsWritten old new faults_before faults_now text (statuses.Input fault) = ⊥
 IsWritten old new faults_before faults_now text (statuses.Day fault) = ⊥
-IsWritten old new faults_before faults_now text (statuses.NotPlaced side item fid partial) = ⊥
+IsWritten old new faults_before faults_now text (statuses.NoPlan side bound places) = ⊥
+IsWritten old new faults_before faults_now text (statuses.NotPlaced side item name partial) = ⊥
 IsWritten old new faults_before faults_now text (statuses.ReadFault file) = ⊥
 
 -- what the files named by a request hold, where all of them tell it
@@ -104,7 +107,8 @@ names_for names (statuses.Input (inputs.Trips count)) = names
 names_for names (statuses.Input (inputs.Params fault)) = names
 names_for names (statuses.Input (inputs.Trip fid fault)) = names
 names_for names (statuses.Day fault) = names
-names_for names (statuses.NotPlaced side item fid partial) = names
+names_for names (statuses.NoPlan side bound places) = names
+names_for names (statuses.NotPlaced side item name partial) = names
 names_for names statuses.Memory = names
 names_for names statuses.Ok = names
 names_for names statuses.Usage = names
@@ -114,9 +118,3 @@ names_for names statuses.WriteFault = names
 -- what these files hold, where all of them tell it
 abbrev pub told_for : (List ℕ → Option (List ℕ)) → List (List ℕ) → Status → Option (List (List ℕ))
 told_for held names status = held_under held (names_for names status)
-
--- the commands whose text is shown to be one
-abbrev pub HasOneText : Command → Type 0
-HasOneText Trips = Unit {0}
-HasOneText Day = Unit {0}
-HasOneText Plan = ⊥

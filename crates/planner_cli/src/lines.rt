@@ -6,7 +6,9 @@ ghost use Rattle.planner_cli.specs.Lines as spec;
 use crate::status::{InputFault, Status};
 use crate::transfer::write_whole;
 use day_calendar::DayFault;
+use day_method::Side;
 use itoa::Buffer;
+use plan_command::ItemName;
 use plan_core::{Point, Sink};
 use plan_params::{ParamFault, ParamKind};
 use trip_times::TripFault;
@@ -66,6 +68,16 @@ fn day_kind(fault: DayFault) -> &'static [u8]
         DayFault::NoVersion => b"NoVersion",
         DayFault::NoDay => b"NoDay",
         DayFault::NoDate => b"NoDate",
+    }
+}
+
+/// The name of a side.
+fn side_name(side: Side) -> &'static [u8]
+    ensures { result.now ≡ spec.side_name side }
+{
+    match side {
+        Side::Vehicles => b"vehicles",
+        Side::Drivers => b"drivers",
     }
 }
 
@@ -189,6 +201,50 @@ fn tell_day<E: Sink>(err: &mut E, day: &[u8], fault: DayFault)
     let _ = write_part(err, is_whole, b"\n");
 }
 
+/// Writes that a side has no plan, with the bound and the places.
+fn tell_no_plan<E: Sink>(err: &mut E, side: Side, bound: u64, places: u64)
+    ensures { spec.IsTold (E.taken err.old) (E.taken err.new) (E.faults err.old) (E.faults err.new) (spec.joined (codes "no plan: " ∷ spec.side_name side ∷ codes " bound " ∷ decimal bound ∷ codes " places " ∷ decimal places ∷ codes "\n" ∷ [])) }
+{
+    let is_whole = write_part(err, true, b"no plan: ");
+    let is_whole = write_part(err, is_whole, side_name(side));
+    let is_whole = write_part(err, is_whole, b" bound ");
+    let is_whole = write_number(err, is_whole, bound);
+    let is_whole = write_part(err, is_whole, b" places ");
+    let is_whole = write_number(err, is_whole, places);
+    let _ = write_part(err, is_whole, b"\n");
+}
+
+/// Writes that a trip is left.
+fn tell_left_trip<E: Sink>(err: &mut E, fid: u64)
+    ensures { spec.IsTold (E.taken err.old) (E.taken err.new) (E.faults err.old) (E.faults err.new) (spec.joined (codes "not placed: " ∷ codes "trip " ∷ decimal fid ∷ codes "\n" ∷ [])) }
+{
+    let is_whole = write_part(err, true, b"not placed: ");
+    let is_whole = write_part(err, is_whole, b"trip ");
+    let is_whole = write_number(err, is_whole, fid);
+    let _ = write_part(err, is_whole, b"\n");
+}
+
+/// Writes that a piece is left.
+fn tell_left_piece<E: Sink>(err: &mut E, block: u32, index: u32)
+    ensures { spec.IsTold (E.taken err.old) (E.taken err.new) (E.faults err.old) (E.faults err.new) (spec.joined (codes "not placed: " ∷ codes "block " ∷ decimal block ∷ codes " piece " ∷ decimal index ∷ codes "\n" ∷ [])) }
+{
+    let is_whole = write_part(err, true, b"not placed: ");
+    let is_whole = write_part(err, is_whole, b"block ");
+    let is_whole = write_number(err, is_whole, block as u64);
+    let is_whole = write_part(err, is_whole, b" piece ");
+    let is_whole = write_number(err, is_whole, index as u64);
+    let _ = write_part(err, is_whole, b"\n");
+}
+
+fn tell_left<E: Sink>(err: &mut E, name: ItemName)
+    ensures { spec.IsTold (E.taken err.old) (E.taken err.new) (E.faults err.old) (E.faults err.new) (spec.joined (codes "not placed: " ∷ (spec.item_words name ++ codes "\n" ∷ []))) }
+{
+    match name {
+        ItemName::Trip { fid } => tell_left_trip(err, fid),
+        ItemName::Piece { block, index } => tell_left_piece(err, block, index),
+    }
+}
+
 /// Writes a line of one part.
 fn tell_line<E: Sink>(err: &mut E, line: &[u8])
     ensures { spec.IsTold (E.taken err.old) (E.taken err.new) (E.faults err.old) (E.faults err.new) line.now }
@@ -220,7 +276,12 @@ pub fn tell<E: Sink>(err: &mut E, day: &[u8], status: &Status)
         }
         Status::Input(fault) => tell_input(err, fault),
         Status::Day(fault) => tell_day(err, day, *fault),
-        Status::NotPlaced { fid, .. } => tell_number(err, b"not placed: trip ", *fid),
+        Status::NoPlan {
+            side,
+            bound,
+            places,
+        } => tell_no_plan(err, *side, *bound, *places),
+        Status::NotPlaced { name, .. } => tell_left(err, *name),
         Status::ReadFault { file } => tell_number(err, b"read fault: file ", *file as u64),
         Status::WriteFault => tell_line(err, b"write fault\n"),
         Status::Memory => tell_line(err, b"out of memory\n"),

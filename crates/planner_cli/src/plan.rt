@@ -1,154 +1,129 @@
-//! The command `plan`: the vehicle blocks of a day.
+//! The command `plan`: the vehicle blocks and driver duties of a day, and bounds on their numbers and costs.
 
-ghost use Rattle.std.specs.Prelude.{◌≡◌, ◌<◌, ◌^◌, false, None, [], All, IsTrue, IfOk, IfErr, length};
-ghost use Rattle.cover_core.specs.FirstLeast.{AllWithin, AreCheap};
-ghost use Rattle.cover_core.specs.Plans.{IsPlan};
-ghost use Rattle.vdv451_text.specs.Plain.{are_plain, is_plain_table, text};
+ghost use Rattle.std.specs.Prelude.{◌≡◌, ◌<◌, ◌^◌, None, All, IsTrue, IfOk, IfErr, length};
+ghost use Rattle.vdv451_text.specs.Plain.{are_plain, is_plain_table};
 ghost use Rattle.vdv452_tables.specs.declared.reading.Needs.TheVariants as needs;
 ghost use Rattle.vdv452_tables.specs.Calendar.{net_of, schemas_of};
 ghost use Rattle.vdv452_tables.specs.Rows.{first_fault};
-ghost use Rattle.plan_round.specs.Rounding.{rounded, whole};
-ghost use Rattle.depot_network.specs.Network.{blocks_of};
-ghost use Rattle.umlauf_write.specs.Tables.{plan_tables_of};
-ghost use Rattle.planner_cli.specs.PlanText.{AreBlocksOf, IsLeftStatus, IsPlanRefused, IsPlanText, IsPlanTextOver, LeavesFor};
+ghost use Rattle.cover_plan.specs.Endings.{numbers_of};
+ghost use Rattle.price_rounds.specs.Efforts.{IsEffort};
+ghost use Rattle.plan_command.specs.PlanText.{HasTripRows, IsPlanTextOver};
+ghost use Rattle.planner_cli.specs.PlanText.{IsPlanRefused, IsPlanStatus, IsPlanText, plan_status_of};
 
 use crate::model::{model_of, network};
-use crate::status::{Side, Status};
+use crate::status::Status;
 use crate::trips::trips_place;
-use column_pool::Pool;
-use cover_core::{Plan, Prices, Worth};
 use day_model::Day;
-use depot_network::PoolNet;
-use plan_core::{Bytes, Memory, Price, Seq};
-use plan_round::{RoundFault, round};
+use plan_command::{PlanFault, plan_text as plan_day_text};
+use plan_core::{Bytes, Gate};
+use price_rounds::Effort;
 use std::alloc::Global;
-use umlauf_write::{block_tables, in_printed_order};
-use vdv451_text::{Table, write_tables};
+use std::thread::Threads;
+use vdv451_text::Table;
 use vdv452_tables::{Needs, Network};
 
-/// Prices of 0 for so many items.
-fn no_prices(alloc: Global, count: usize) -> Result<Prices, Memory>
-    ensures count { IfOk result (λ prices. length prices.items ≡ count) }
-    ensures moderate { IfOk result (λ prices. AllWithin 10000000000000 prices.items) }
-{
-    let mut items = Seq::new(alloc);
-    for _item in 0..count {
-        items.push(Price(0))?;
-    }
-    Ok(Prices { items })
-}
-
-/// The status of rounding that leaves a trip of a day.
-fn left_status(model: &Day, fault: RoundFault) -> Status
-    requires cause { LeavesFor model.now fault }
-    ensures { IsLeftStatus model.now result }
+/// The status for a day without a plan.
+fn plan_status(fault: PlanFault) -> Status
+    ensures { result ≡ plan_status_of fault }
 {
     match fault {
-        RoundFault::NotPlaced { item, partial } => Status::NotPlaced {
-            side: Side::Vehicles,
+        PlanFault::NoPlan {
+            side,
+            bound,
+            places,
+        } => Status::NoPlan {
+            side,
+            bound,
+            places,
+        },
+        PlanFault::NotPlaced {
+            side,
             item,
-            fid: model.trip(item).fid,
+            name,
+            partial,
+        } => Status::NotPlaced {
+            side,
+            item,
+            name,
             partial,
         },
-        RoundFault::Memory => Status::Memory,
+        PlanFault::Memory => Status::Memory,
     }
-}
-
-/// The blocks of a day by rounding from no columns, where each trip goes where the cost rises least.
-fn rounded_blocks(alloc: Global, model: &Day) -> Result<Plan, Status>
-    ensures made { IfOk result (λ plan. rounded (blocks_of model.now false) [] ≡ whole plan.columns) }
-    ensures plan { IfOk result (λ plan. IsPlan (blocks_of model.now false) plan.columns) }
-    ensures cheap { IfOk result (λ plan. AreCheap plan.columns) }
-    ensures cause { IfErr result (IsLeftStatus model.now) }
-{
-    let prices = match no_prices(alloc, model.trips().len()) {
-        Ok(prices) => prices,
-        Err(_) => return Err(Status::Memory),
-    };
-    let net = PoolNet::new(model, Worth::Cost);
-    match round(alloc, &net, &Pool::new(alloc), &prices) {
-        Ok(plan) => Ok(plan),
-        Err(fault) => Err(left_status(model, fault)),
-    }
-}
-
-/// The blocks of a day in printed order.
-fn day_blocks(alloc: Global, model: &Day) -> Result<Plan, Status>
-    ensures blocks { IfOk result (λ plan. AreBlocksOf model.now plan.columns) }
-    ensures cheap { IfOk result (λ plan. AreCheap plan.columns) }
-    ensures cause { IfErr result (IsLeftStatus model.now) }
-{
-    let plan = match rounded_blocks(alloc, model) {
-        Ok(plan) => plan,
-        Err(status) => return Err(status),
-    };
-    match in_printed_order(plan) {
-        Ok(plan) => Ok(plan),
-        Err(_) => Err(Status::Memory),
-    }
-}
-
-/// The text of the tables of a plan of blocks.
-fn blocks_text(alloc: Global, model: &Day, rec_frt: &Table, blocks: Plan) -> Result<Bytes, Memory>
-    requires plain { IsTrue (is_plain_table rec_frt.now) }
-    requires rows { All (λ place. place < length rec_frt.now.rows) model.now.rows }
-    requires plan { IsPlan (blocks_of model.now false) blocks.columns }
-    requires cheap { AreCheap blocks.columns }
-    ensures { IfOk result (λ bytes. bytes ≡ text (plan_tables_of model.now rec_frt.now blocks.columns)) }
-{
-    // The trips of a day are few: it says so.
-    let _ = model.trips();
-    let tables = block_tables(alloc, model, rec_frt, &blocks)?;
-    write_tables(alloc, tables.as_slice())
 }
 
 /// The text of the plan of a day, from the table that its trips were read from.
-fn text_over(alloc: Global, model: &Day, rec_frt: &Table) -> Result<Bytes, Status>
+fn text_over<R: Threads + Sync, G: Gate + Sync>(
+    rt: &R,
+    alloc: Global,
+    model: &Day,
+    rec_frt: &Table,
+    effort: &Effort,
+    gate: &G,
+) -> Result<Bytes, Status>
     requires plain { IsTrue (is_plain_table rec_frt.now) }
-    requires rows { All (λ place. place < length rec_frt.now.rows) model.now.rows }
-    ensures written { IfOk result (IsPlanTextOver model.now rec_frt.now) }
-    ensures cause { IfErr result (IsLeftStatus model.now) }
+    requires trips { HasTripRows model.now rec_frt.now }
+    requires effort { IsEffort effort.now }
+    ensures written { IfOk result (IsPlanTextOver model.now (numbers_of effort.now) rec_frt.now) }
+    ensures cause { IfErr result (IsPlanStatus model.now (numbers_of effort.now)) }
 {
-    let blocks = match day_blocks(alloc, model) {
-        Ok(blocks) => blocks,
-        Err(status) => return Err(status),
-    };
-    match blocks_text(alloc, model, rec_frt, blocks) {
+    match plan_day_text(rt, alloc, model, rec_frt, effort, gate) {
         Ok(bytes) => Ok(bytes),
-        Err(_) => Err(Status::Memory),
+        Err(fault) => Err(plan_status(fault)),
     }
 }
 
 /// The text of the plan of a day in a network, from the tables that it was read from.
-fn text_in(alloc: Global, tables: &[Table], net: &Network, day: u32) -> Result<Bytes, Status>
+fn text_in<R: Threads + Sync, G: Gate + Sync>(
+    rt: &R,
+    alloc: Global,
+    tables: &[Table],
+    net: &Network,
+    day: u32,
+    effort: &Effort,
+    gate: &G,
+) -> Result<Bytes, Status>
     requires plain { IsTrue (are_plain tables.now) }
     requires faultless { first_fault (schemas_of needs.All) tables.now ≡ None }
     requires net { net.now ≡ net_of needs.All tables.now }
-    ensures written { IfOk result (IsPlanText tables.now day) }
-    ensures cause { IfErr result (IsPlanRefused tables.now day) }
+    requires effort { IsEffort effort.now }
+    ensures written { IfOk result (IsPlanText (numbers_of effort.now) tables.now day) }
+    ensures cause { IfErr result (IsPlanRefused (numbers_of effort.now) tables.now day) }
 {
     let model = match model_of(alloc, net, day) {
         Ok(model) => model,
         Err(status) => return Err(status),
     };
-    text_over(alloc, &model, &tables[trips_place(tables)])
+    // No number of a trip is above 10^18: the network says so.
+    let _ = net.trip_rows();
+    let rec_frt = &tables[trips_place(tables)];
+    text_over(rt, alloc, &model, rec_frt, effort, gate)
 }
 
-/// The text of the plan of the day that the tables of all files tell: REC_UMLAUF, REC_FRT and X_UMLAUF.
+/// The text of the plan of the day that the tables of all files tell: REC_UMLAUF, REC_FRT, X_UMLAUF, X_UMLAUF_TEIL, X_DIENST,
+/// X_DIENST_STUECK and X_SCHRANKE.
 ///
 /// # Errors
 ///
 /// `Input` with the first fault of the tables; then `Day` where the day has no kind; then `Input` with the number of trips where there
-/// are more than 3,000, the first fault of the settings, or the first trip without times; then `NotPlaced` where rounding leaves a trip;
-/// and `Memory`.
-pub fn plan_text(alloc: Global, tables: &[Table], day: u32) -> Result<Bytes, Status>
+/// are more than 3,000, the first fault of the settings, or the first trip without times; then, for vehicles and after them for drivers,
+/// `NoPlan` where the bound on their number is above how many there are, and `NotPlaced` where rounding leaves a trip or a piece; and
+/// `Memory`.
+pub fn plan_text<R: Threads + Sync, G: Gate + Sync>(
+    rt: &R,
+    alloc: Global,
+    tables: &[Table],
+    day: u32,
+    effort: &Effort,
+    gate: &G,
+) -> Result<Bytes, Status>
     requires plain { IsTrue (are_plain tables.now) }
     requires sized { All (λ table. length table.rows < 2 ^ 32) tables.now }
-    ensures written { IfOk result (IsPlanText tables.now day) }
-    ensures cause { IfErr result (IsPlanRefused tables.now day) }
+    requires effort { IsEffort effort.now }
+    ensures written { IfOk result (IsPlanText (numbers_of effort.now) tables.now day) }
+    ensures cause { IfErr result (IsPlanRefused (numbers_of effort.now) tables.now day) }
 {
     match network(alloc, tables, Needs::All) {
-        Ok(net) => text_in(alloc, tables, &net, day),
+        Ok(net) => text_in(rt, alloc, tables, &net, day, effort, gate),
         Err(status) => Err(status),
     }
 }

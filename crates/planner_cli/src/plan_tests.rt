@@ -1,7 +1,8 @@
 //! The commands `day` and `plan` over a small network in memory.
 
-use crate::status::{InputFault, Side, Status};
+use crate::status::{InputFault, Status};
 use crate::tests::{WRITTEN_HEAD, joined, run_on, sink};
+use day_method::Side;
 use plan_core::{Bytes, MemSink};
 use std::alloc::Global;
 use std::test::Fail;
@@ -30,14 +31,77 @@ const TOO_SOON: &[Change] = &[(SECOND, "rec; 1; 2; 32699; 1; 1; 1; 1; \"R\"; NUL
 /// The stand is longer than the greatest wait.
 const LATE: &[Change] = &[(SECOND, "rec; 1; 2; 40000; 1; 1; 1; 1; \"R\"; NULL")];
 
+/// The turn is just long enough.
+const IN_TIME: &[Change] = &[(SECOND, "rec; 1; 2; 32700; 1; 1; 1; 1; \"R\"; NULL")];
+
+/// Both trips run from A to B at one time.
+const TOGETHER: &[Change] = &[(SECOND, "rec; 1; 2; 28800; 1; 1; 1; 1; \"H\"; NULL")];
+
 /// Both trips run from A to B at one time, and there is one vehicle.
-const TOGETHER: &[Change] = &[
+const ONE_FOR_BOTH: &[Change] = &[
     (SECOND, "rec; 1; 2; 28800; 1; 1; 1; 1; \"H\"; NULL"),
     ONE_VEHICLE,
 ];
 
-/// The line admits another type of vehicles alone.
+const GROUP: &str = "rec; 1; 2; 9; 2; 500; 1; 600; 300";
+
+/// There are no drivers.
+const NO_DRIVERS: &[Change] = &[(GROUP, "rec; 1; 2; 9; 0; 500; 1; 600; 300")];
+
+/// No vehicle may move without passengers.
+const NO_DEADHEADS: &[Change] = &[(
+    "rec; 1; 1; 1; 2; 9; 1; 1; 600\nrec; 1; 1; 1; 1; 1; 2; 9; 600\nrec; 1; 1; 1; 2; 9; 1; 2; 900\nrec; 1; 1; 1; 1; 2; 2; 9; 900\nend; 4\n",
+    "end; 0\n",
+)];
+
+const RUN_TIME: &str = "rec; 1; 1; 1; 1; 1; 2; 1; 3600";
+
+/// The first trip drives for so long that with its pull-out four and a half hours are full.
+const FULL: &[Change] = &[
+    (RUN_TIME, "rec; 1; 1; 1; 1; 1; 2; 1; 15600"),
+    (SECOND, "rec; 1; 2; 45000; 1; 1; 1; 1; \"R\"; NULL"),
+];
+
+/// With its pull-out the first trip drives for more than four and a half hours.
+const TOO_LONG: &[Change] = &[
+    (RUN_TIME, "rec; 1; 1; 1; 1; 1; 2; 1; 15601"),
+    (SECOND, "rec; 1; 2; 45001; 1; 1; 1; 1; \"R\"; NULL"),
+    (
+        "rec; 1; 2; 9; 1; 2; 1000; 1; 0",
+        "rec; 1; 2; 9; 1; 20; 1000; 1; 0",
+    ),
+];
+
+const GROUP_COLUMNS: &str =
+    "ANMELDE_SEK; ABMELDE_SEK\nfrm; num[10.0]; num[10.0]; num[10.0]; num[10.0]; num[10.0]; num[10.0]; num[10.0]; num[10.0]\nrec; 1; 2; 9; 2; 500; 1; 600; 300";
+
+/// The drivers may drive for ten hours and have the reduced rest.
+const ALLOWED: &[Change] = &[(
+    GROUP_COLUMNS,
+    "ANMELDE_SEK; ABMELDE_SEK; ZEHN_STD; KURZE_RUHE\nfrm; num[10.0]; num[10.0]; num[10.0]; num[10.0]; num[10.0]; num[10.0]; num[10.0]; num[10.0]; num[10.0]; num[10.0]\nrec; 1; 2; 9; 2; 500; 1; 600; 300; 1; 1",
+)];
+
+/// An allowance is neither there nor not.
+const HALF_ALLOWED: &[Change] = &[(
+    GROUP_COLUMNS,
+    "ANMELDE_SEK; ABMELDE_SEK; ZEHN_STD\nfrm; num[10.0]; num[10.0]; num[10.0]; num[10.0]; num[10.0]; num[10.0]; num[10.0]; num[10.0]; num[10.0]\nrec; 1; 2; 9; 2; 500; 1; 600; 300; 2",
+)];
+
+/// The first trip's line admits another type of vehicles alone; the second trip is of another line, and there are twenty vehicles.
 const OTHER_TYPE: &[Change] = &[
+    (SECOND, "rec; 1; 2; 33000; 2; 1; 1; 1; \"R\"; NULL"),
+    (
+        "rec; 1; 1; \"R\"; 1\nend; 2\n",
+        "rec; 1; 1; \"R\"; 1\nrec; 1; 2; \"R\"; 1\nend; 3\n",
+    ),
+    (
+        "\"R\"; 1; 1\nend; 4\n",
+        "\"R\"; 1; 1\nrec; 1; 1; 2; \"R\"; 1; 2\nrec; 1; 2; 2; \"R\"; 1; 1\nend; 6\n",
+    ),
+    (
+        "rec; 1; 2; 9; 1; 2; 1000; 1; 0",
+        "rec; 1; 2; 9; 1; 20; 1000; 1; 0",
+    ),
     (
         "FZG_TYP_NR\nfrm; num[10.0]; num[10.0]\nrec; 1; 1\nend; 1\n",
         "FZG_TYP_NR\nfrm; num[10.0]; num[10.0]\nrec; 1; 1\nrec; 1; 2\nend; 2\n",
@@ -109,7 +173,7 @@ const DAY_WRITTEN: &str =
     "tbl; X_TAG\natr; BETRIEBSTAG; WOCHENTAG; BASIS_VERSION; TAGESART_NR; FAHRTEN\nfrm; num[19.0]; num[19.0]; num[19.0]; num[19.0]; num[19.0]\nrec; 20260302; 1; 1; 1; 2\nend; 1\ntbl; X_FAHRT\natr; FRT_FID; LI_NR; VON_TYP; VON_NR; BEGINN; NACH_TYP; NACH_NR; ENDE; LAENGE\nfrm; num[19.0]; num[19.0]; num[19.0]; num[19.0]; num[19.0]; num[19.0]; num[19.0]; num[19.0]; num[19.0]\nrec; 1; 1; 1; 1; 28800; 1; 2; 32400; 60000\nrec; 2; 1; 1; 2; 33000; 1; 1; 36600; 60000\nend; 2\neof; 2\n";
 
 const PLAN_WRITTEN: &str =
-    "tbl; REC_UMLAUF\natr; BASIS_VERSION; TAGESART_NR; UM_UID; ANF_ORT; ANF_ONR_TYP; END_ORT; END_ONR_TYP; FZG_TYP_NR\nfrm; num[19.0]; num[19.0]; num[19.0]; num[19.0]; num[19.0]; num[19.0]; num[19.0]; num[19.0]\nrec; 1; 1; 1; 9; 2; 9; 2; 1\nend; 1\ntbl; REC_FRT\natr; BASIS_VERSION; FRT_FID; FRT_START; LI_NR; TAGESART_NR; FAHRTART_NR; FGR_NR; STR_LI_VAR; UM_UID\nfrm; num[10.0]; num[10.0]; num[10.0]; num[10.0]; num[10.0]; num[10.0]; num[10.0]; char[6]; num[10.0]\nrec; 1; 1; 28800; 1; 1; 1; 1; \"H\"; 1\nrec; 1; 2; 33000; 1; 1; 1; 1; \"R\"; 1\nend; 2\ntbl; X_UMLAUF\natr; UM_UID; HOF_NR; KOSTEN\nfrm; num[19.0]; num[19.0]; num[19.0]\nrec; 1; 1; 2200\nend; 1\neof; 3\n";
+    "tbl; REC_UMLAUF\natr; BASIS_VERSION; TAGESART_NR; UM_UID; ANF_ORT; ANF_ONR_TYP; END_ORT; END_ONR_TYP; FZG_TYP_NR\nfrm; num[19.0]; num[19.0]; num[19.0]; num[19.0]; num[19.0]; num[19.0]; num[19.0]; num[19.0]\nrec; 1; 1; 1; 9; 2; 9; 2; 1\nend; 1\ntbl; REC_FRT\natr; BASIS_VERSION; FRT_FID; FRT_START; LI_NR; TAGESART_NR; FAHRTART_NR; FGR_NR; STR_LI_VAR; UM_UID\nfrm; num[10.0]; num[10.0]; num[10.0]; num[10.0]; num[10.0]; num[10.0]; num[10.0]; char[6]; num[10.0]\nrec; 1; 1; 28800; 1; 1; 1; 1; \"H\"; 1\nrec; 1; 2; 33000; 1; 1; 1; 1; \"R\"; 1\nend; 2\ntbl; X_UMLAUF\natr; UM_UID; HOF_NR; KOSTEN\nfrm; num[19.0]; num[19.0]; num[19.0]\nrec; 1; 1; 2200\nend; 1\ntbl; X_UMLAUF_TEIL\natr; UM_UID; TEIL_NR; ART; FRT_FID; VON_TYP; VON_NR; BEGINN; NACH_TYP; NACH_NR; ENDE\nfrm; num[19.0]; num[19.0]; num[19.0]; num[19.0]; num[19.0]; num[19.0]; num[19.0]; num[19.0]; num[19.0]; num[19.0]\nrec; 1; 1; 1; NULL; 2; 9; 28200; 1; 1; 28800\nrec; 1; 2; 2; 1; 1; 1; 28800; 1; 2; 32400\nrec; 1; 3; 4; NULL; 1; 2; 32400; 1; 2; 33000\nrec; 1; 4; 2; 2; 1; 2; 33000; 1; 1; 36600\nrec; 1; 5; 5; NULL; 1; 1; 36600; 2; 9; 37200\nend; 5\ntbl; X_DIENST\natr; DIENST_NR; GRUPPE_NR; BEGINN; ENDE; LENKZEIT; KOSTEN\nfrm; num[19.0]; num[19.0]; num[19.0]; num[19.0]; num[19.0]; num[19.0]\nrec; 1; 1; 27600; 37500; 8400; 10400\nend; 1\ntbl; X_DIENST_STUECK\natr; DIENST_NR; LFD_NR; UM_UID; STUECK_NR; VON_TYP; VON_NR; BEGINN; NACH_TYP; NACH_NR; ENDE; LENKZEIT\nfrm; num[19.0]; num[19.0]; num[19.0]; num[19.0]; num[19.0]; num[19.0]; num[19.0]; num[19.0]; num[19.0]; num[19.0]; num[19.0]\nrec; 1; 1; 1; 1; 2; 9; 28200; 1; 2; 32400; 4200\nrec; 1; 2; 1; 2; 1; 2; 33000; 2; 9; 37200; 4200\nend; 2\ntbl; X_SCHRANKE\natr; ART; WERT; SCHRANKE\nfrm; num[19.0]; num[19.0]; num[19.0]\nrec; 1; 1; 1\nrec; 2; 2200; 2200\nrec; 3; 1; 1\nrec; 4; 10400; 10400\nend; 4\neof; 7\n";
 
 /// The text with the first place of a part changed.
 fn changed(alloc: Global, text: Bytes, change: Change) -> Result<Bytes, Fail> {
@@ -136,29 +200,30 @@ fn demo(alloc: Global, changes: &[Change]) -> Result<Bytes, Fail> {
     Ok(text)
 }
 
-/// Runs a command over the network with some changes.
+/// Runs the words over the network with some changes.
 fn answer<R: Threads + Sync>(
     rt: &R,
     alloc: Global,
-    command: &str,
+    words: &[&str],
     changes: &[Change],
     out: &mut MemSink,
     err: &mut MemSink,
 ) -> Result<Status, Fail> {
     let text = demo(alloc, changes)?;
-    run_on(rt, alloc, &[command, "20260302", "f"], text, &[], out, err)
+    run_on(rt, alloc, words, text, &[], out, err)
 }
 
-/// Whether a command writes this text and says nothing.
+/// Whether the words write this text and say nothing.
 fn is_written<R: Threads + Sync>(
     rt: &R,
     alloc: Global,
-    command: &str,
+    words: &[&str],
+    changes: &[Change],
     written: &str,
 ) -> Result<bool, Fail> {
     let mut out = sink(alloc, 10_000, &[])?;
     let mut err = sink(alloc, 10_000, &[])?;
-    let status = answer(rt, alloc, command, NO_CHANGE, &mut out, &mut err)?;
+    let status = answer(rt, alloc, words, changes, &mut out, &mut err)?;
     let want = joined(alloc, &[WRITTEN_HEAD, written], b"\r\n")?;
     Ok(status.code() == 0 && (out.taken() == want.as_slice() && err.taken().is_empty()))
 }
@@ -172,104 +237,182 @@ fn is_planned<R: Threads + Sync>(
 ) -> Result<bool, Fail> {
     let mut out = sink(alloc, 10_000, &[])?;
     let mut err = sink(alloc, 10_000, &[])?;
-    let status = answer(rt, alloc, "plan", changes, &mut out, &mut err)?;
+    let status = answer(rt, alloc, PLAN, changes, &mut out, &mut err)?;
     let want = joined(alloc, &[end], b"\r\n")?;
     Ok(status.code() == 0 && out.taken().ends_with(want.as_slice()))
 }
 
-/// Whether a command is refused with this status number and line, and writes nothing.
+/// Whether the words are refused with this status number and line, and nothing is written.
 fn is_refused<R: Threads + Sync>(
     rt: &R,
     alloc: Global,
-    command: &str,
+    words: &[&str],
     changes: &[Change],
     code: u8,
     line: &str,
 ) -> Result<bool, Fail> {
     let mut out = sink(alloc, 10_000, &[])?;
     let mut err = sink(alloc, 10_000, &[])?;
-    let status = answer(rt, alloc, command, changes, &mut out, &mut err)?;
+    let status = answer(rt, alloc, words, changes, &mut out, &mut err)?;
     let is_told = err.taken() == line.as_bytes();
     Ok(status.code() == code && (is_told && out.taken().is_empty()))
 }
 
+const DAY: &[&str] = &["day", "20260302", "f"];
+
+const PLAN: &[&str] = &["plan", "20260302", "f"];
+
+/// A plan with one price round and one lowering round.
+const SHORT_PLAN: &[&str] = &["plan", "20260302", "--rounds", "1", "--lower", "1", "f"];
+
 #[test]
 fn a_day_and_its_plan_are_written(rt: HostRuntime) -> Result<(), Fail> {
     let alloc = rt.alloc();
-    assert!(rt; is_written(&rt, alloc, "day", DAY_WRITTEN)?);
-    assert!(rt; is_written(&rt, alloc, "plan", PLAN_WRITTEN)?);
+    assert!(rt; is_written(&rt, alloc, DAY, NO_CHANGE, DAY_WRITTEN)?);
+    assert!(rt; is_written(&rt, alloc, PLAN, NO_CHANGE, PLAN_WRITTEN)?);
     Ok(())
 }
 
 #[test]
-fn blocks_follow_the_links(rt: HostRuntime) -> Result<(), Fail> {
+fn any_number_of_workers_writes_one_text(rt: HostRuntime) -> Result<(), Fail> {
     let alloc = rt.alloc();
-    let two = "rec; 1; 1; 2500\nrec; 2; 1; 2500\nend; 2\neof; 3\n";
-    assert!(rt; is_planned(&rt, alloc, TOO_SOON, two)?);
-    assert!(rt; is_planned(&rt, alloc, LATE, "rec; 1; 1; 4000\nend; 1\neof; 3\n")?);
-    let none = "KOSTEN\nfrm; num[19.0]; num[19.0]; num[19.0]\nend; 0\neof; 3\n";
-    assert!(rt; is_planned(&rt, alloc, NO_TRIPS, none)?);
+    for number in ["1", "2", "3", "8", "64"] {
+        let words = ["plan", "--workers", number, "20260302", "f"];
+        assert!(rt;
+            is_written(&rt, alloc, &words, NO_CHANGE, PLAN_WRITTEN)?,
+            "{number}"
+        );
+    }
+    assert!(rt; is_written(&rt, alloc, PLAN, ALLOWED, PLAN_WRITTEN)?);
+    Ok(())
+}
+
+/// The last rows of a plan's text have the number of blocks, their cost, the number of duties and theirs, each with its bound.
+#[test]
+fn plans_have_their_costs_and_bounds(rt: HostRuntime) -> Result<(), Fail> {
+    let alloc = rt.alloc();
+    let rows: [(&[Change], &str); 7] = [
+        (
+            TOO_SOON,
+            "rec; 1; 2; 2\nrec; 2; 5000; 5000\nrec; 3; 2; 2\nrec; 4; 13000; 13000\nend; 4\neof; 7\n",
+        ),
+        (
+            IN_TIME,
+            "rec; 1; 1; 1\nrec; 2; 2200; 2200\nrec; 3; 1; 1\nrec; 4; 10100; 10100\nend; 4\neof; 7\n",
+        ),
+        (
+            TOGETHER,
+            "rec; 1; 2; 2\nrec; 2; 5000; 5000\nrec; 3; 2; 2\nrec; 4; 13000; 13000\nend; 4\neof; 7\n",
+        ),
+        (
+            NO_TRIPS,
+            "rec; 1; 0; 0\nrec; 2; 0; 0\nrec; 3; 0; 0\nrec; 4; 0; 0\nend; 4\neof; 7\n",
+        ),
+        (
+            LATE,
+            "rec; 1; 1; 1\nrec; 2; 4000; 4000\nrec; 3; 2; 1\nrec; 4; 13000; 13000\nend; 4\neof; 7\n",
+        ),
+        (
+            FULL,
+            "rec; 2; 2200; 2200\nrec; 3; 2; 2\nrec; 4; 25600; 25600\nend; 4\neof; 7\n",
+        ),
+        (ALLOWED, "rec; 4; 10400; 10400\nend; 4\neof; 7\n"),
+    ];
+    for (changes, end) in rows {
+        assert!(rt; is_planned(&rt, alloc, changes, end)?, "{end}");
+    }
     Ok(())
 }
 
 #[test]
 fn refusals_have_their_lines(rt: HostRuntime) -> Result<(), Fail> {
     let alloc = rt.alloc();
-    let rows: [(&str, &[Change], u8, &str); 11] = [
-        ("day", NO_RUN_TIME, 3, "trip 2: NoRunTime 1/2 to 1/1\n"),
-        ("plan", NO_RUN_TIME, 3, "trip 2: NoRunTime 1/2 to 1/1\n"),
-        ("day", PAST_END, 3, "trip 1: PastEnd\n"),
-        ("day", SHORT, 3, "trip 1: ShortRoute\n"),
-        ("day", NO_ROUTE, 3, "trip 1: NoRoute\n"),
-        ("day", TWO_PLANS, 3, "table X_PLAN row 0: NotOne\n"),
+    let rows: [(&[&str], &[Change], u8, &str); 18] = [
+        (DAY, NO_RUN_TIME, 3, "trip 2: NoRunTime 1/2 to 1/1\n"),
+        (PLAN, NO_RUN_TIME, 3, "trip 2: NoRunTime 1/2 to 1/1\n"),
+        (DAY, PAST_END, 3, "trip 1: PastEnd\n"),
+        (DAY, SHORT, 3, "trip 1: ShortRoute\n"),
+        (DAY, NO_ROUTE, 3, "trip 1: NoRoute\n"),
+        (DAY, TWO_PLANS, 3, "table X_PLAN row 0: NotOne\n"),
+        (PLAN, UNKNOWN_DEPOT, 3, "table X_HOF row 1: UnknownPoint\n"),
+        (PLAN, UNKNOWN_TYPE, 3, "table X_HOF row 1: UnknownType\n"),
+        (PLAN, MANY_POOLS, 3, "table X_HOF row 0: TooMany\n"),
         (
-            "plan",
-            UNKNOWN_DEPOT,
+            PLAN,
+            HALF_ALLOWED,
             3,
-            "table X_HOF row 1: UnknownPoint\n",
+            "table X_FAHRER column ZEHN_STD row 1: Range\n",
         ),
-        ("plan", UNKNOWN_TYPE, 3, "table X_HOF row 1: UnknownType\n"),
-        ("plan", MANY_POOLS, 3, "table X_HOF row 0: TooMany\n"),
-        ("plan", TOGETHER, 6, "not placed: trip 2\n"),
-        ("plan", OTHER_TYPE, 6, "not placed: trip 1\n"),
+        (
+            &["plan", "20251231", "f"],
+            NO_CHANGE,
+            4,
+            "day 20251231: NoVersion\n",
+        ),
+        (
+            &["plan", "20260230", "f"],
+            NO_CHANGE,
+            4,
+            "day 20260230: NoDate\n",
+        ),
+        (
+            SHORT_PLAN,
+            ONE_FOR_BOTH,
+            5,
+            "no plan: vehicles bound 10 places 1\n",
+        ),
+        (PLAN, NO_DRIVERS, 5, "no plan: drivers bound 108 places 0\n"),
+        (SHORT_PLAN, OTHER_TYPE, 6, "not placed: trip 1\n"),
+        (PLAN, NO_DEADHEADS, 6, "not placed: trip 1\n"),
+        (SHORT_PLAN, TOO_LONG, 6, "not placed: trip 1\n"),
+        (
+            &["plan", "20260302", "--workers", "0", "f"],
+            NO_CHANGE,
+            2,
+            "usage: planner trips|day|plan|certify|check|make\n",
+        ),
     ];
-    for (command, changes, code, line) in rows {
+    for (words, changes, code, line) in rows {
         assert!(rt;
-            is_refused(&rt, alloc, command, changes, code, line)?,
+            is_refused(&rt, alloc, words, changes, code, line)?,
             "{line}"
         );
     }
     Ok(())
 }
 
-/// The trip that is left, how many blocks stand beside it, and what the first of them costs.
-fn left_of(status: &Status) -> (u32, usize, u64) {
+/// The trip that is left, and how many blocks stand beside it.
+fn left_of(status: &Status) -> (u32, usize) {
     match status {
         Status::NotPlaced {
             side: Side::Vehicles,
             item,
             partial,
             ..
-        } => {
-            let blocks = partial.columns.as_slice();
-            let cost = blocks.first().map_or(0, |block| block.worth);
-            (*item, blocks.len(), cost)
-        }
-        _ => (99, 99, 99),
+        } => (*item, partial.columns.len()),
+        _ => (99, 99),
     }
 }
 
 #[test]
-fn a_trip_that_is_left_is_named(rt: HostRuntime) -> Result<(), Fail> {
+fn what_is_left_and_what_is_too_few_is_told(rt: HostRuntime) -> Result<(), Fail> {
     let alloc = rt.alloc();
     let mut out = sink(alloc, 10_000, &[])?;
     let mut err = sink(alloc, 10_000, &[])?;
-    let status = answer(&rt, alloc, "plan", TOGETHER, &mut out, &mut err)?;
-    assert_eq!(rt; left_of(&status), (1, 1, 2500));
-    let status = answer(&rt, alloc, "plan", OTHER_TYPE, &mut out, &mut err)?;
-    assert_eq!(rt; left_of(&status), (0, 0, 0));
-    let status = answer(&rt, alloc, "day", NO_RUN_TIME, &mut out, &mut err)?;
-    match status {
+    let status = answer(&rt, alloc, SHORT_PLAN, OTHER_TYPE, &mut out, &mut err)?;
+    assert_eq!(rt; left_of(&status), (0, 0));
+    match answer(&rt, alloc, PLAN, NO_DRIVERS, &mut out, &mut err)? {
+        Status::NoPlan {
+            side,
+            bound,
+            places,
+        } => {
+            assert!(rt; side == Side::Drivers);
+            assert_eq!(rt; (bound, places), (108, 0));
+        }
+        _ => panic!(rt; "another status"),
+    }
+    match answer(&rt, alloc, DAY, NO_RUN_TIME, &mut out, &mut err)? {
         Status::Input(InputFault::Trip { fid, fault }) => {
             assert_eq!(rt; fid, 2);
             assert!(rt; fault != TripFault::NoRoute);

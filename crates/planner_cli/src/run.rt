@@ -2,7 +2,8 @@
 
 ghost use Rattle.std.specs.Prelude.{◌≡◌, ◌≢◌, ◌↔◌, ◌⊎◌, ◌++◌, ℕ, List, Some, None, IfSome, IsSomeAnd};
 ghost use Rattle.plan_core.specs.Outside.{Rose};
-ghost use Rattle.planner_cli.specs.declared.status.Side.{Side as RunSide};
+ghost use Rattle.day_method.specs.declared.side.Side.{Side as RunSide};
+ghost use Rattle.plan_command.specs.declared.fault.ItemName.{ItemName as RunName};
 ghost use Rattle.planner_cli.specs.declared.status.Status.{Status as RunStatus};
 ghost use Rattle.planner_cli.specs.declared.status.InputFault.{InputFault as RunFault};
 ghost use Rattle.planner_cli.specs.declared.words.Request.{Request as RunRequest};
@@ -10,7 +11,8 @@ ghost use Rattle.cover_core.specs.declared.Plan.{Plan as RunPlan};
 ghost use Rattle.day_calendar.specs.declared.day.DayFault.{DayFault as FaultOfDay};
 ghost use Rattle.planner_cli.specs.Inputs.{IsReadFault, NoneRose};
 ghost use Rattle.planner_cli.specs.Lines.{IsTold, line_of};
-ghost use Rattle.planner_cli.specs.Run.{HasOneText, IsAnswer, IsRefusal, TakesAnswer, TakesFrontOfAnswer, names_for, told, told_for};
+ghost use Rattle.planner_cli.specs.Run.{IsAnswer, IsRefusal, TakesAnswer, TakesFrontOfAnswer, names_for, told, told_for};
+ghost use Rattle.planner_cli.specs.Tasks.{task_of};
 ghost use Rattle.planner_cli.specs.Words.{asked, day_said};
 
 use crate::answer::carry_out;
@@ -22,29 +24,37 @@ use std::alloc::Global;
 use std::thread::Threads;
 
 /// Answers what the words ask for, without a word on standard error.
-fn answered<F: Files, O: Sink>(alloc: Global, words: &[Bytes], files: &mut F, out: &mut O) -> Status
+fn answered<R: Threads + Sync, F: Files, O: Sink, G: Gate + Sync>(
+    rt: &R,
+    alloc: Global,
+    words: &[Bytes],
+    files: &mut F,
+    out: &mut O,
+    gate: &G,
+) -> Status
     ensures usage { (result ≡ Status.Usage) ↔ (asked words.now ≡ None) }
-    ensures input { (fault : RunFault) → result ≡ Status.Input fault → IfSome (asked words.now) (λ request. IfSome (told_for (F.held files.old) request.names (Status.Input fault)) (λ contents. IsRefusal request.command contents request.day (Status.Input fault))) }
-    ensures day { (fault : FaultOfDay) → result ≡ Status.Day fault → IfSome (asked words.now) (λ request. IfSome (told (F.held files.old) request) (λ contents. IsRefusal request.command contents request.day (Status.Day fault))) }
-    ensures left { (side : RunSide) (item fid : ℕ) (partial : RunPlan) → result ≡ Status.NotPlaced side item fid partial → IfSome (asked words.now) (λ request. IfSome (told (F.held files.old) request) (λ contents. IsRefusal request.command contents request.day (Status.NotPlaced side item fid partial))) }
+    ensures input { (fault : RunFault) → result ≡ Status.Input fault → IfSome (asked words.now) (λ request. IfSome (told_for (F.held files.old) request.names (Status.Input fault)) (λ contents. IsRefusal (task_of request) contents request.day (Status.Input fault))) }
+    ensures day { (fault : FaultOfDay) → result ≡ Status.Day fault → IfSome (asked words.now) (λ request. IfSome (told (F.held files.old) request) (λ contents. IsRefusal (task_of request) contents request.day (Status.Day fault))) }
+    ensures no_plan { (side : RunSide) (bound places : ℕ) → result ≡ Status.NoPlan side bound places → IfSome (asked words.now) (λ request. IfSome (told (F.held files.old) request) (λ contents. IsRefusal (task_of request) contents request.day (Status.NoPlan side bound places))) }
+    ensures left { (side : RunSide) (item : ℕ) (name : RunName) (partial : RunPlan) → result ≡ Status.NotPlaced side item name partial → IfSome (asked words.now) (λ request. IfSome (told (F.held files.old) request) (λ contents. IsRefusal (task_of request) contents request.day (Status.NotPlaced side item name partial))) }
     ensures read_fault { (file : ℕ) → result ≡ Status.ReadFault file → IfSome (asked words.now) (λ request. IsReadFault (F.held files.old) request.names (F.faults files.old) (F.faults files.new) file) }
     ensures write_fault { result ≡ Status.WriteFault → Rose (O.faults out.old) (O.faults out.new) }
-    ensures ok { result ≡ Status.Ok → IfSome (asked words.now) (λ request. IfSome (told (F.held files.old) request) (λ contents. IfSome (O.taken out.old) (TakesAnswer request.command contents request.day (O.taken out.new)))) }
-    ensures front { result ≡ Status.WriteFault → IfSome (asked words.now) (λ request. IfSome (told (F.held files.old) request) (λ contents. IfSome (O.taken out.old) (TakesFrontOfAnswer request.command contents request.day (O.taken out.new)))) }
-    ensures only { (request : RunRequest) (bytes : List ℕ) → result ≡ Status.Ok → asked words.now ≡ Some request → HasOneText request.command
-        → IfSome (told (F.held files.old) request) (λ contents. IsAnswer request.command contents request.day bytes → IfSome (O.taken out.old) (λ old. O.taken out.new ≡ Some (old ++ bytes))) }
+    ensures ok { result ≡ Status.Ok → IfSome (asked words.now) (λ request. IfSome (told (F.held files.old) request) (λ contents. IfSome (O.taken out.old) (TakesAnswer (task_of request) contents request.day (O.taken out.new)))) }
+    ensures front { result ≡ Status.WriteFault → IfSome (asked words.now) (λ request. IfSome (told (F.held files.old) request) (λ contents. IfSome (O.taken out.old) (TakesFrontOfAnswer (task_of request) contents request.day (O.taken out.new)))) }
+    ensures only { (request : RunRequest) (bytes : List ℕ) → result ≡ Status.Ok → asked words.now ≡ Some request
+        → IfSome (told (F.held files.old) request) (λ contents. IsAnswer (task_of request) contents request.day bytes → IfSome (O.taken out.old) (λ old. O.taken out.new ≡ Some (old ++ bytes))) }
     ensures nothing { result ≢ Status.Ok → result ≢ Status.WriteFault → out.new ≡ out.old }
     ensures still { ((file : ℕ) → result ≢ Status.ReadFault file) → (other : List ℕ) → F.faults files.new other ≡ F.faults files.old other }
     ensures same { (other : List ℕ) → F.held files.new other ≡ F.held files.old other }
     ensures unmoved { result ≢ Status.WriteFault → O.faults out.new ≡ O.faults out.old }
-    ensures refused { (status : RunStatus) (request : RunRequest) → asked words.now ≡ Some request → IsSomeAnd (told_for (F.held files.old) request.names status) (λ contents. IsRefusal request.command contents request.day status)
+    ensures refused { (status : RunStatus) (request : RunRequest) → asked words.now ≡ Some request → IsSomeAnd (told_for (F.held files.old) request.names status) (λ contents. IsRefusal (task_of request) contents request.day status)
         → NoneRose (names_for request.names status) (F.faults files.old) (F.faults files.new) → (result ≡ status) ⊎ (result ≡ Status.Memory) }
-    ensures complete { (request : RunRequest) → asked words.now ≡ Some request → IsSomeAnd (told (F.held files.old) request) (λ contents. (bytes : List ℕ) × IsAnswer request.command contents request.day bytes)
+    ensures complete { (request : RunRequest) → asked words.now ≡ Some request → IsSomeAnd (told (F.held files.old) request) (λ contents. (bytes : List ℕ) × IsAnswer (task_of request) contents request.day bytes)
         → NoneRose request.names (F.faults files.old) (F.faults files.new) → ¬ Rose (O.faults out.old) (O.faults out.new)
         → (result ≡ Status.Ok) ⊎ (result ≡ Status.Memory) }
 {
     match read_words(alloc, words) {
-        Ok(request) => carry_out(alloc, &request, files, out),
+        Ok(request) => carry_out(rt, alloc, &request, files, out, gate),
         Err(status) => status,
     }
 }
@@ -64,8 +74,11 @@ fn tell_refusal<E: Sink>(err: &mut E, words: &[Bytes], status: &Status)
 ///
 /// `words` has no program name. The command `trips DAY FILE..` writes to `out` the table REC_FRT with the rows of the day's trips,
 /// unchanged, by departure and number; `day DAY FILE..` writes X_TAG and X_FAHRT, what the day is and when and how far its trips go;
-/// `plan DAY FILE..` covers the day's trips by vehicle blocks and writes REC_UMLAUF, REC_FRT and X_UMLAUF. Nothing is written before the
-/// whole text is computed. A refusal writes one line to `err`; a write that fails there changes no status.
+/// `plan DAY FILE..` plans the day: vehicle blocks of its trips, each trip in exactly one block of one pool within its vehicles; driver
+/// duties over the pieces that the blocks are cut into, each piece in exactly one duty that keeps articles 6 to 8 of Regulation (EC)
+/// 561/2006; their costs; and bounds that no lawful plan lies below. It writes REC_UMLAUF, REC_FRT, X_UMLAUF, X_UMLAUF_TEIL, X_DIENST,
+/// X_DIENST_STUECK and X_SCHRANKE. Its text is the same for any number of workers, any `rt` and any `gate`. Nothing is written before
+/// the whole text is computed. A refusal writes one line to `err`; a write that fails there changes no status.
 pub fn run<R: Threads + Sync, F: Files, O: Sink, E: Sink, G: Gate + Sync>(
     rt: &R,
     alloc: Global,
@@ -80,17 +93,18 @@ pub fn run<R: Threads + Sync, F: Files, O: Sink, E: Sink, G: Gate + Sync>(
 
     // A refusal has its cause in what the files hold, one of text in the files up to its own, and a fault of the outside in a count
     // that rose; a read fault comes only where the files before it are right.
-    ensures input { (fault : RunFault) → result ≡ Status.Input fault → IfSome (asked words.now) (λ request. IfSome (told_for (F.held files.old) request.names (Status.Input fault)) (λ contents. IsRefusal request.command contents request.day (Status.Input fault))) }
-    ensures day { (fault : FaultOfDay) → result ≡ Status.Day fault → IfSome (asked words.now) (λ request. IfSome (told (F.held files.old) request) (λ contents. IsRefusal request.command contents request.day (Status.Day fault))) }
-    ensures left { (side : RunSide) (item fid : ℕ) (partial : RunPlan) → result ≡ Status.NotPlaced side item fid partial → IfSome (asked words.now) (λ request. IfSome (told (F.held files.old) request) (λ contents. IsRefusal request.command contents request.day (Status.NotPlaced side item fid partial))) }
+    ensures input { (fault : RunFault) → result ≡ Status.Input fault → IfSome (asked words.now) (λ request. IfSome (told_for (F.held files.old) request.names (Status.Input fault)) (λ contents. IsRefusal (task_of request) contents request.day (Status.Input fault))) }
+    ensures day { (fault : FaultOfDay) → result ≡ Status.Day fault → IfSome (asked words.now) (λ request. IfSome (told (F.held files.old) request) (λ contents. IsRefusal (task_of request) contents request.day (Status.Day fault))) }
+    ensures no_plan { (side : RunSide) (bound places : ℕ) → result ≡ Status.NoPlan side bound places → IfSome (asked words.now) (λ request. IfSome (told (F.held files.old) request) (λ contents. IsRefusal (task_of request) contents request.day (Status.NoPlan side bound places))) }
+    ensures left { (side : RunSide) (item : ℕ) (name : RunName) (partial : RunPlan) → result ≡ Status.NotPlaced side item name partial → IfSome (asked words.now) (λ request. IfSome (told (F.held files.old) request) (λ contents. IsRefusal (task_of request) contents request.day (Status.NotPlaced side item name partial))) }
     ensures read_fault { (file : ℕ) → result ≡ Status.ReadFault file → IfSome (asked words.now) (λ request. IsReadFault (F.held files.old) request.names (F.faults files.old) (F.faults files.new) file) }
     ensures write_fault { result ≡ Status.WriteFault → Rose (O.faults out.old) (O.faults out.new) }
 
     // What the sink took: the whole text and no other, a front of it, or nothing.
-    ensures ok { result ≡ Status.Ok → IfSome (asked words.now) (λ request. IfSome (told (F.held files.old) request) (λ contents. IfSome (O.taken out.old) (TakesAnswer request.command contents request.day (O.taken out.new)))) }
-    ensures front { result ≡ Status.WriteFault → IfSome (asked words.now) (λ request. IfSome (told (F.held files.old) request) (λ contents. IfSome (O.taken out.old) (TakesFrontOfAnswer request.command contents request.day (O.taken out.new)))) }
-    ensures only { (request : RunRequest) (bytes : List ℕ) → result ≡ Status.Ok → asked words.now ≡ Some request → HasOneText request.command
-        → IfSome (told (F.held files.old) request) (λ contents. IsAnswer request.command contents request.day bytes → IfSome (O.taken out.old) (λ old. O.taken out.new ≡ Some (old ++ bytes))) }
+    ensures ok { result ≡ Status.Ok → IfSome (asked words.now) (λ request. IfSome (told (F.held files.old) request) (λ contents. IfSome (O.taken out.old) (TakesAnswer (task_of request) contents request.day (O.taken out.new)))) }
+    ensures front { result ≡ Status.WriteFault → IfSome (asked words.now) (λ request. IfSome (told (F.held files.old) request) (λ contents. IfSome (O.taken out.old) (TakesFrontOfAnswer (task_of request) contents request.day (O.taken out.new)))) }
+    ensures only { (request : RunRequest) (bytes : List ℕ) → result ≡ Status.Ok → asked words.now ≡ Some request
+        → IfSome (told (F.held files.old) request) (λ contents. IsAnswer (task_of request) contents request.day bytes → IfSome (O.taken out.old) (λ old. O.taken out.new ≡ Some (old ++ bytes))) }
     ensures nothing { result ≢ Status.Ok → result ≢ Status.WriteFault → out.new ≡ out.old }
 
     // A count of faults moves only with the answer of that fault, and the files hold what they held.
@@ -103,15 +117,13 @@ pub fn run<R: Threads + Sync, F: Files, O: Sink, E: Sink, G: Gate + Sync>(
     ensures line { result ≢ Status.Ok → IsTold (E.taken err.old) (E.taken err.new) (E.faults err.old) (E.faults err.new) (line_of (day_said words.now) result) }
 
     // Where no count rises, what the files call for is answered, or want of memory.
-    ensures refused { (status : RunStatus) (request : RunRequest) → asked words.now ≡ Some request → IsSomeAnd (told_for (F.held files.old) request.names status) (λ contents. IsRefusal request.command contents request.day status)
+    ensures refused { (status : RunStatus) (request : RunRequest) → asked words.now ≡ Some request → IsSomeAnd (told_for (F.held files.old) request.names status) (λ contents. IsRefusal (task_of request) contents request.day status)
         → NoneRose (names_for request.names status) (F.faults files.old) (F.faults files.new) → (result ≡ status) ⊎ (result ≡ Status.Memory) }
-    ensures complete { (request : RunRequest) → asked words.now ≡ Some request → IsSomeAnd (told (F.held files.old) request) (λ contents. (bytes : List ℕ) × IsAnswer request.command contents request.day bytes)
+    ensures complete { (request : RunRequest) → asked words.now ≡ Some request → IsSomeAnd (told (F.held files.old) request) (λ contents. (bytes : List ℕ) × IsAnswer (task_of request) contents request.day bytes)
         → NoneRose request.names (F.faults files.old) (F.faults files.new) → ¬ Rose (O.faults out.old) (O.faults out.new)
         → (result ≡ Status.Ok) ⊎ (result ≡ Status.Memory) }
 {
-    let _ = rt;
-    let _ = gate;
-    let status = answered(alloc, words, files, out);
+    let status = answered(rt, alloc, words, files, out, gate);
     tell_refusal(err, words, &status);
     status
 }

@@ -4,6 +4,8 @@ ghost use Rattle.std.specs.Prelude.{◌≡◌};
 
 use cover_core::Plan;
 use day_calendar::DayFault;
+use day_method::Side;
+use plan_command::ItemName;
 use plan_core::Memory;
 use plan_params::ParamFault;
 use trip_times::TripFault;
@@ -25,15 +27,6 @@ pub enum InputFault {
     Trip { fid: u64, fault: TripFault },
 }
 
-/// The side of a plan that a refusal speaks of.
-#[derive(Clone, Copy, Debug, PartialEq, Eq)]
-pub enum Side {
-    /// The trips of the day and their vehicle blocks.
-    Vehicles,
-    /// The pieces of the blocks and their driver duties; no refusal speaks of them until duties are built.
-    Drivers,
-}
-
 /// How a command ends, with the cause where it refused.
 #[derive(Drop)]
 pub enum Status {
@@ -45,15 +38,25 @@ pub enum Status {
     Input(InputFault),
     /// The day is no date, has no version or no kind.
     Day(DayFault),
-    /// Rounding leaves a trip: each pool in which it alone is a block has all its vehicles in use, and it fits into no block.
-    NotPlaced {
-        /// The side of the plan: always vehicles, so far.
+    /// The bound on the number of blocks is above the number of vehicles, and then the day has no blocks; or the bound on the number of
+    /// duties is above the number of drivers, and then there are no duties over the pieces of the blocks that were planned.
+    NoPlan {
+        /// The side that has no plan.
         side: Side,
-        /// The number of the trip among those of the day, from 0.
+        /// The bound.
+        bound: u64,
+        /// The number of vehicles, or of drivers.
+        places: u64,
+    },
+    /// Rounding leaves a trip or a piece: each pool or group in which it alone has a worth is full, and it fits into no block or duty.
+    NotPlaced {
+        /// The side that it is of.
+        side: Side,
+        /// Its number among the trips of the day or the pieces of the blocks, from 0.
         item: u32,
-        /// FRT_FID of the trip.
-        fid: u64,
-        /// The blocks beside which it is left.
+        /// The trip or piece.
+        name: ItemName,
+        /// The blocks or duties beside which it is left.
         partial: Plan,
     },
     /// A read of the file of this number failed.
@@ -79,7 +82,7 @@ impl From<Memory> for Status {
 impl Status {
     ghost use Rattle.planner_cli.specs.Codes.{code_of};
 
-    /// The status number with which the program ends: 0 Ok, 2 Usage, 3 Input, 4 Day, 6 NotPlaced, 7 ReadFault, 8 WriteFault, 9 Memory.
+    /// The status number with which the program ends: 0 Ok, 2 Usage, 3 Input, 4 Day, 5 NoPlan, 6 NotPlaced, 7 ReadFault, 8 WriteFault, 9 Memory.
     pub fn code(&self) -> u8
         ensures { result ≡ code_of self.now }
     {
@@ -88,6 +91,7 @@ impl Status {
             Status::Usage => 2,
             Status::Input(_) => 3,
             Status::Day(_) => 4,
+            Status::NoPlan { .. } => 5,
             Status::NotPlaced { .. } => 6,
             Status::ReadFault { .. } => 7,
             Status::WriteFault => 8,

@@ -1,41 +1,42 @@
-use Rattle.std.proofs.Common.{◌≡◌, ◌⊎◌, Err, MatchResult, ap, refl}
+use Rattle.std.proofs.Common.{◌≡◌, Err, MatchResult, ap, refl}
 use Rattle.planner_cli.proofs.FileLemmas.{err_same}
-use Rattle.planner_cli.specs.Inputs.{HasTextFault, IsUnread, SpellTables, held_under, most_bytes, refused_text}
-use Rattle.planner_cli.specs.Run.{IsAnswer, IsRefusal}
+use Rattle.planner_cli.specs.Inputs.{IsUnread, SpellTables, held_under, most_bytes}
+use Rattle.planner_cli.specs.Run.{IsAnswer}
+use Rattle.planner_cli.specs.Tasks.{task_of}
 use Rattle.planner_cli.proofs.InputLemmas.{if_told, of_told}
 use Rattle.planner_cli.proofs.AnswerLemmas.{read_cause, read_complete, read_refused, read_written, unread_answer, unread_refused}
 use Rattle.planner_cli.proofs.answer.answer_of.Goals as goal
 
 pub returns-in-Ok-clause-written : goal.returns-in-Ok-clause-written
-returns-in-Ok-clause-written g c = read_written c.args.command (g.F.Files.held c.args.files.now) c.args.names.now c.in-Ok.tables.items c.args.day c.text_of.result c.in-Ok.ensures.found (rw (← c.as_slice.ensures.value) c.text_of.ensures.written)
+returns-in-Ok-clause-written g c = read_written (task_of c.args.request.now) (g.F.Files.held c.args.files.now) c.args.names.now c.in-Ok.tables.items c.args.request.now.day c.text_of.result c.in-Ok.ensures.found (rw (← c.as_slice.ensures.value) c.text_of.ensures.written)
 
 pub returns-in-Ok-clause-cause : goal.returns-in-Ok-clause-cause
-returns-in-Ok-clause-cause g c = read_cause c.args.command (g.F.Files.held c.args.files.now) c.args.names.now c.in-Ok.tables.items c.args.day _ c.text_of.result c.in-Ok.ensures.found (rw (← c.as_slice.ensures.value) c.text_of.ensures.cause)
+returns-in-Ok-clause-cause g c = read_cause (task_of c.args.request.now) (g.F.Files.held c.args.files.now) c.args.names.now c.in-Ok.tables.items c.args.request.now.day _ c.text_of.result c.in-Ok.ensures.found (rw (← c.as_slice.ensures.value) c.text_of.ensures.cause)
 
 pub returns-in-Ok-clause-refused : goal.returns-in-Ok-clause-refused
 returns-in-Ok-clause-refused g c = λ status.
-    read_refused c.args.command (g.F.Files.held c.args.files.now) c.args.names.now c.in-Ok.tables.items c.args.day c.text_of.result status c.in-Ok.ensures.only c.in-Ok.ensures.exact
+    read_refused (task_of c.args.request.now) (g.F.Files.held c.args.files.now) c.args.names.now c.in-Ok.tables.items c.args.request.now.day c.text_of.result status c.in-Ok.ensures.only c.in-Ok.ensures.exact
     (rw (← c.as_slice.ensures.value) c.text_of.ensures.written) (rw (← c.as_slice.ensures.value) c.text_of.ensures.cause)
 
 pub returns-in-Ok-clause-complete : goal.returns-in-Ok-clause-complete
 returns-in-Ok-clause-complete g c = λ bytes.
     let told = held_under (g.F.Files.held c.args.files.now) c.args.names.now in
-    if_told told (λ contents. IsAnswer c.args.command contents c.args.day bytes → MatchResult c.text_of.result (λ x. Unit {0}) IsUnread) (λ contents e answer.
-    read_complete c.args.command contents c.in-Ok.tables.items c.args.day c.text_of.result bytes
+    if_told told (λ contents. IsAnswer (task_of c.args.request.now) contents c.args.request.now.day bytes → MatchResult c.text_of.result (λ x. Unit {0}) IsUnread) (λ contents e answer.
+    read_complete (task_of c.args.request.now) contents c.in-Ok.tables.items c.args.request.now.day c.text_of.result bytes
     (λ others. of_told told (λ contents. SpellTables most_bytes contents others → c.in-Ok.tables.items ≡ others) contents e (c.in-Ok.ensures.only others))
     (rw (← c.as_slice.ensures.value) c.text_of.ensures.cause) answer)
 
 pub returns-in-Err-clause-cause : goal.returns-in-Err-clause-cause
-returns-in-Err-clause-cause g c = unread_answer c.args.command (g.F.Files.held c.args.files.now) c.args.names.now c.args.day _ c.in-Err.status c.in-Err.ensures.cause
+returns-in-Err-clause-cause g c = unread_answer (task_of c.args.request.now) (g.F.Files.held c.args.files.now) c.args.names.now c.args.request.now.day _ c.in-Err.status c.in-Err.ensures.cause
 
 pub returns-in-Err-clause-refused : goal.returns-in-Err-clause-refused
 returns-in-Err-clause-refused g c = λ status.
-    unread_refused c.args.command (g.F.Files.held c.args.files.now) c.args.names.now c.args.day c.in-Err.status status c.in-Err.ensures.only c.in-Err.ensures.exact
+    unread_refused (task_of c.args.request.now) (g.F.Files.held c.args.files.now) c.args.names.now c.args.request.now.day c.in-Err.status status c.in-Err.ensures.only c.in-Err.ensures.exact
 
 pub returns-in-Err-clause-complete : goal.returns-in-Err-clause-complete
 returns-in-Err-clause-complete g c = λ bytes.
     let told = held_under (g.F.Files.held c.args.files.now) c.args.names.now in
-    if_told told (λ contents. IsAnswer c.args.command contents c.args.day bytes → IsUnread c.in-Err.status) (λ contents e answer.
+    if_told told (λ contents. IsAnswer (task_of c.args.request.now) contents c.args.request.now.day bytes → IsUnread c.in-Err.status) (λ contents e answer.
     of_told told (λ contents. SpellTables most_bytes contents answer.tables → IsUnread c.in-Err.status) contents e (c.in-Err.ensures.only answer.tables) answer.spelled)
 
 pub returns-in-Ok-clause-still : goal.returns-in-Ok-clause-still

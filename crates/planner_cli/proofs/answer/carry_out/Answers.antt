@@ -1,6 +1,7 @@
-use Rattle.std.proofs.Common.{◌≡◌, ◌∙◌, ℕ, List, Some, inr, refl}
+use Rattle.std.proofs.Common.{◌≡◌, ◌∙◌, inr, refl}
 use Rattle.planner_cli.specs.Inputs.{held_under}
 use Rattle.planner_cli.specs.Run.{IsAnswer, IsRefusal, told_for}
+use Rattle.planner_cli.specs.Tasks.{task_of}
 use Rattle.planner_cli.proofs.FileLemmas.{err_same}
 use Rattle.planner_cli.proofs.InputLemmas.{if_told, of_told}
 use Rattle.planner_cli.proofs.OneText.{one_answer, same_taken}
@@ -9,21 +10,21 @@ use Rattle.planner_cli.proofs.answer.carry_out.Goals as goal
 
 pub returns-in-Ok-clause-refused : goal.returns-in-Ok-clause-refused
 returns-in-Ok-clause-refused g c = λ status some none.
-    absurd (called_for (told_for (g.F.Files.held c.args.files.now) c.args.request.now.names status) (λ contents. IsRefusal c.args.request.now.command contents c.args.request.now.day status) ⊥ some (c.in-Ok.ensures.refused status))
+    absurd (called_for (told_for (g.F.Files.held c.args.files.now) c.args.request.now.names status) (λ contents. IsRefusal (task_of c.args.request.now) contents c.args.request.now.day status) ⊥ some (c.in-Ok.ensures.refused status))
 
 pub returns-in-Err-clause-refused : goal.returns-in-Err-clause-refused
 returns-in-Err-clause-refused g c = λ status some none.
-    refused_run c.args.request.now.command (g.F.Files.held c.args.files.now) c.args.request.now.names c.args.request.now.day _ _ c.in-Err.status status (c.in-Err.ensures.refused status) c.in-Err.ensures.cause some none
+    refused_run (task_of c.args.request.now) (g.F.Files.held c.args.files.now) c.args.request.now.names c.args.request.now.day _ _ c.in-Err.status status (c.in-Err.ensures.refused status) c.in-Err.ensures.cause some none
 
 pub returns-in-Err-clause-complete : goal.returns-in-Err-clause-complete
 returns-in-Err-clause-complete g c = λ some none quiet.
-    inr (complete_run c.args.request.now.command (g.F.Files.held c.args.files.now) c.args.request.now.names c.args.request.now.day _ _ c.in-Err.status c.in-Err.ensures.complete c.in-Err.ensures.cause some none)
+    inr (complete_run (task_of c.args.request.now) (g.F.Files.held c.args.files.now) c.args.request.now.names c.args.request.now.day _ _ c.in-Err.status c.in-Err.ensures.complete c.in-Err.ensures.cause some none)
 
 pub returns-in-Ok-clause-only : goal.returns-in-Ok-clause-only
-returns-in-Ok-clause-only g c = λ bytes ok one.
+returns-in-Ok-clause-only g c = λ bytes ok.
     if_told (held_under (g.F.Files.held c.args.files.now) c.args.request.now.names) _ (λ contents told answer.
-    let first = of_told (held_under (g.F.Files.held c.args.files.now) c.args.request.now.names) (λ contents. IsAnswer c.args.request.now.command contents c.args.request.now.day c.in-Ok.text) contents told c.in-Ok.ensures.written in
-    let same : c.as_slice.result.now ≡ bytes = c.as_slice.ensures ∙ one_answer c.args.request.now.command contents c.args.request.now.day c.in-Ok.text bytes one first answer in
+    let first = of_told (held_under (g.F.Files.held c.args.files.now) c.args.request.now.names) (λ contents. IsAnswer (task_of c.args.request.now) contents c.args.request.now.day c.in-Ok.text) contents told c.in-Ok.ensures.written in
+    let same : c.as_slice.result.now ≡ bytes = c.as_slice.ensures ∙ one_answer (task_of c.args.request.now) contents c.args.request.now.day c.in-Ok.text bytes first answer in
     same_taken _ _ _ _ c.as_slice.result.now bytes c.written.result same c.written.ensures.written ok)
 
 pub returns-in-Ok-clause-still : goal.returns-in-Ok-clause-still

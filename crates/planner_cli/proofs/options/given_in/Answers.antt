@@ -1,6 +1,5 @@
-use Rattle.std.proofs.Common.{◌≡◌, List, ℕ, suc, drop, slice_index_or, sym, ◌∙◌}
+use Rattle.std.proofs.Common.{◌≡◌, suc, drop, slice_index_or}
 use Rattle.std.specs.Option.{option_map}
-use Rattle.planner_cli.specs.Options as spec
 use Rattle.planner_cli.proofs.OptionLemmas.{given_none}
 use Rattle.planner_cli.proofs.options.given_in.Goals as goal
 

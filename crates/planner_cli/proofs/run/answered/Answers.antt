@@ -8,8 +8,11 @@ returns-in-Ok-clause-input g c = λ fault is. rw c.in-Ok.ensures.request (c.carr
 pub returns-in-Ok-clause-day : goal.returns-in-Ok-clause-day
 returns-in-Ok-clause-day g c = λ fault is. rw c.in-Ok.ensures.request (c.carry_out.ensures.day fault is)
 
+pub returns-in-Ok-clause-no_plan : goal.returns-in-Ok-clause-no_plan
+returns-in-Ok-clause-no_plan g c = λ side bound places is. rw c.in-Ok.ensures.request (c.carry_out.ensures.no_plan side bound places is)
+
 pub returns-in-Ok-clause-left : goal.returns-in-Ok-clause-left
-returns-in-Ok-clause-left g c = λ item fid partial is. rw c.in-Ok.ensures.request (c.carry_out.ensures.left item fid partial is)
+returns-in-Ok-clause-left g c = λ side item name partial is. rw c.in-Ok.ensures.request (c.carry_out.ensures.left side item name partial is)
 
 pub returns-in-Ok-clause-refused : goal.returns-in-Ok-clause-refused
 returns-in-Ok-clause-refused g c = λ status request asks.
