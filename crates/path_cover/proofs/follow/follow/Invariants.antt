@@ -1,0 +1,9 @@
+use Rattle.std.proofs.Common.{◌≡◌, ◌-◌, ◌<◌, ℕ, List, ◌∷◌, slice_index}
+use Rattle.path_cover.proofs.Following.{ComesTo}
+use Rattle.path_cover.proofs.follow.follow.Given as goal
+
+abbrev pub invariant-loop-last : goal.invariant-loop-last
+invariant-loop-last l = (l.last < l.n) × ((rest : List ℕ) × (l.path ≡ l.start ∷ rest) × ComesTo l.n (slice_index l.to) l.start rest l.last)
+
+abbrev pub decreases-loop-last : goal.decreases-loop-last
+decreases-loop-last l = l.n - l.last

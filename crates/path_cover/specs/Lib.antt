@@ -1,0 +1,14 @@
+pub mod Nets
+pub mod Potentials
+pub mod Laws
+pub mod Walks
+pub mod Greatest
+pub mod Matchings
+pub mod Trees
+pub mod Scans
+pub mod Augmenting
+pub mod Searching
+pub mod Outcomes
+pub mod Firsts
+pub mod Sweeps
+pub mod Example
