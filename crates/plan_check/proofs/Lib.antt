@@ -1,0 +1,4 @@
+pub mod Lists
+pub mod Decided
+pub mod Counted
+pub mod Worthy

@@ -1,0 +1,168 @@
+//! Lists over a small problem, with their verdicts by hand.
+
+ghost use Rattle.std.specs.Prelude.{◌≡◌, ◌<◌, ◌≤◌, ◌∷◌, [], length, IfOk};
+ghost use Rattle.cover_core.specs.Plans.{all_items};
+ghost use Rattle.plan_check.specs.Example.{example, example-listed};
+
+use crate::{PlanVerdict, check_plan, lists_are_judged, plan_is_shown, plans_are_found};
+use cover_core::{Column, Columns, Items};
+use plan_core::{Memory, Seq};
+use std::alloc::Global;
+use std::test::Fail;
+
+/// Three items and two classes: item 0 or 1 alone is worth 3 more than the sum of its class and its number, two items are worth 5.
+struct Example;
+
+impl Columns for Example {
+    ghost problem = { λ _. example };
+
+    fn items(&self) -> u32 {
+        3
+    }
+
+    fn classes(&self) -> u32 {
+        2
+    }
+
+    fn cap(&self, class: u32) -> u32 {
+        if class == 0 { 2 } else { 1 }
+    }
+
+    fn worth(&self, class: u32, list: &[u32]) -> Option<u64> {
+        match list {
+            [x] if *x < 2 => Some(class as u64 + *x as u64 + 3),
+            [x, y] if *x < *y && *y < 3 => Some(5),
+            _ => None,
+        }
+    }
+
+    ghost listed = { λ _. example-listed };
+}
+
+/// A list of a class, with a worth that nobody asks for.
+fn list(alloc: Global, class: u32, items: &[u32]) -> Result<Column, Memory>
+    ensures { IfOk result (λ list. list.items ≡ items.now) }
+{
+    let items = Items::from_slice(alloc, items)?;
+    Ok(Column {
+        class,
+        worth: 77,
+        items,
+    })
+}
+
+/// A verdict as numbers: what it is, its place and its count, or the worths of a plan.
+fn spell(out: &mut Vec<u64>, verdict: &PlanVerdict) -> Result<(), Memory> {
+    match verdict {
+        PlanVerdict::Lawful(plan) => {
+            for column in plan.columns.as_slice() {
+                out.push(column.worth)?;
+            }
+        }
+        PlanVerdict::Times { item, count } => {
+            out.push(1000 + *item as u64)?;
+            out.push(*count as u64)?;
+        }
+        PlanVerdict::Unlawful { place } => out.push(2000 + *place as u64)?,
+        PlanVerdict::Over { class, used } => {
+            out.push(3000 + *class as u64)?;
+            out.push(*used as u64)?;
+        }
+    }
+    Ok(())
+}
+
+/// Whether two lists have a verdict.
+fn has(
+    alloc: Global,
+    first: (u32, &[u32]),
+    second: (u32, &[u32]),
+    verdict: &[u64],
+) -> Result<bool, Memory>
+    requires first { length first.1.now ≤ 3 }
+    requires second { length second.1.now ≤ 3 }
+{
+    let one = list(alloc, first.0, first.1)?;
+    let two = list(alloc, second.0, second.1)?;
+    let lists = [one, two];
+    let mut out = Vec::new(alloc);
+    spell(&mut out, &check_plan(alloc, &Example, &lists)?)?;
+    Ok(out.as_slice() == verdict)
+}
+
+#[test]
+fn verdicts_of_lists(rt: HostRuntime) -> Result<(), Fail> {
+    plan_is_shown::<Example>();
+    plans_are_found::<Example>();
+    lists_are_judged::<Example>();
+    let alloc = rt.alloc();
+    // a plan, with the worths of the problem
+    assert!(rt;
+        has(
+            alloc,
+            (0, [0].as_slice()),
+            (0, [1, 2].as_slice()),
+            [3, 5].as_slice()
+        )?
+    );
+    assert!(rt;
+        has(
+            alloc,
+            (1, [1].as_slice()),
+            (0, [0, 2].as_slice()),
+            [5, 5].as_slice()
+        )?
+    );
+    // an item twice, and one that is in no list, before all else
+    assert!(rt;
+        has(
+            alloc,
+            (9, [1, 1].as_slice()),
+            (0, [0, 2].as_slice()),
+            [1001, 2].as_slice()
+        )?
+    );
+    assert!(rt;
+        has(
+            alloc,
+            (0, [1].as_slice()),
+            (0, [0].as_slice()),
+            [1002, 0].as_slice()
+        )?
+    );
+    // a list without a worth: by its items, by its class, by an item that is not there
+    assert!(rt;
+        has(
+            alloc,
+            (0, [0, 1].as_slice()),
+            (1, [2].as_slice()),
+            [2001].as_slice()
+        )?
+    );
+    assert!(rt;
+        has(
+            alloc,
+            (2, [0].as_slice()),
+            (0, [1, 2].as_slice()),
+            [2000].as_slice()
+        )?
+    );
+    assert!(rt;
+        has(
+            alloc,
+            (0, [0, 3].as_slice()),
+            (0, [1, 2].as_slice()),
+            [2000].as_slice()
+        )?
+    );
+    // a class of one place with two lists
+    assert!(rt;
+        has(
+            alloc,
+            (1, [0].as_slice()),
+            (1, [1, 2].as_slice()),
+            [3001, 2].as_slice()
+        )?
+    );
+    Ok(())
+}
