@@ -1,195 +1,589 @@
 -- Completion bounds that are made from the last piece back.
-use Rattle.std.proofs.Common.{◌≡◌, ◌≢◌, ℕ, ℤ, pos, negsuc, neg_ℤ, ◌+◌, ◌*◌, ◌<◌, ◌≤◌, ◌+ℤ◌, ◌-ℤ◌, ◌≤ℤ◌, false, zero, suc, List, [], ◌∷◌, length, replicate, set, refl, sym, ap, subst, ◌∙◌, arith}
+use Rattle.std.proofs.Common.{◌≡◌, ◌≢◌, ℕ, ℤ, pos, neg_ℤ, ◌+◌, ◌-◌, ◌*◌, ◌/◌, ◌<◌, ◌≤◌, ◌-ℤ◌, ◌+ℤ◌, ◌≤ℤ◌, ◌<ℤ◌, Bool, true, false, cond, zero, suc, List, [], ◌∷◌, ◌++◌, length, replicate, set, refl, sym, ap, subst, ◌∙◌, arith}
 use Rattle.std.proofs.lemmas.Int.{ints}
-use Rattle.std.specs.Prelude.{Option, Some, None, slice_get, is_some}
-use Rattle.std.specs.Option.{option_map}
+use Rattle.std.proofs.lemmas.Bool.Decides.{nat_tests}
+use Rattle.std.specs.Prelude.{negsuc, nat_lt, Option, Some, None, nat_le, option_and_then, slice_get}
 use Rattle.plan_core.specs.declared.types.Piece.{Piece}
 use Rattle.plan_core.specs.declared.types.Price.{Price}
 use Rattle.cover_core.specs.FirstLeast.{AllWithin}
 use Rattle.cover_core.specs.Plans.{number_at, price_at}
 use Rattle.cover_core.proofs.Values.{price_at-within}
 use Rattle.plan_params.specs.declared.rows.group.Group.{Group}
-use Rattle.duty_network.specs.Duties.{DutyFacts, pause, pause_at, sign_off}
+use Rattle.plan_params.specs.LookUps.{way_in}
+use Rattle.duty_network.specs.Times.{seconds}
+use Rattle.duty_network.specs.Duties.{DutyFacts, follows, limits_of, pause, pause_at, sign_off}
 use Rattle.duty_network.specs.Ranges.{off_value}
 use Rattle.duty_network.proofs.Better.{Some-same}
-use Rattle.duty_network.proofs.Tied.{at-below}
-use Rattle.duty_pricing.specs.Bounds.{IsBound, IsBoundFrom, IsBounding, IsLowered}
+use Rattle.duty_pricing.specs.Bounds.{AreBelow, AreBounds, AreFalling, AreNumbered, AreOut, AreRows, AreStamped, IsBoundFrom, IsBoundRow, IsBounding, IsChain, IsFalling, IsLow, IsLoweredBy, IsReach, IsRaised, IsRowLowered, IsSettled, IsTail, IsTaken, IsUnder, behind, cell_at, low_of, row_at, stamp_at, stamp_of}
+use Rattle.duty_pricing.specs.declared.reach.Reach.{Reach}
+use Rattle.duty_pricing.proofs.Lowering.{split}
+use Rattle.duty_pricing.proofs.Stamps.{not-long, same-stamp, stamp-count, stamp-from, stamp-here, stamp-most, stamp-others}
 
-split : (P : Type 0) (a b : ℕ) → (a ≡ b → P) → (a ≢ b → P) → P
-split P zero zero f g = f refl
-split P zero (suc b) f g = g (λ e. absurd (omega arith))
-split P (suc a) zero f g = g (λ e. absurd (omega arith))
-split P (suc a) (suc b) f g = split P a b (λ e. f (ap suc e)) (λ n. g (λ e. n (omega arith)))
+-- a list of one number again and again
+pub repeated : (n x : ℕ) (v : ℤ) → x < n → number_at (replicate n v) x ≡ v
+repeated zero x v h = absurd (omega arith)
+repeated (suc n) zero v h = refl
+repeated (suc n) (suc x) v h = repeated n x v (omega arith)
 
-pub none-of : (o : Option ℕ) → is_some o ≡ false → o ≡ None
-none-of None e = refl
-none-of (Some x) e = absurd (cc)
+pub repeated-high : (n x : ℕ) (v : ℤ) → v ≤ℤ pos 7000000000000 → number_at (replicate n v) x ≤ℤ pos 7000000000000
+repeated-high zero x v h = omega (arith, ints)
+repeated-high (suc n) zero v h = h
+repeated-high (suc n) (suc x) v h = repeated-high n x v h
 
--- a list with one number changed
-pub set-others : (xs : List ℤ) (i k : ℕ) (v : ℤ) → k ≢ i → number_at (set xs i v) k ≡ number_at xs k
-set-others [] i k v h = refl
-set-others (x ∷ xs) zero zero v h = absurd (h refl)
-set-others (x ∷ xs) zero (suc k) v h = refl
-set-others (x ∷ xs) (suc i) zero v h = refl
-set-others (x ∷ xs) (suc i) (suc k) v h = set-others xs i k v (λ e. h (ap suc e))
+-- rows of which one is put in
+pub row-others : (rows : List (List ℤ)) (i k : ℕ) (row : List ℤ) → k ≢ i → row_at (set rows i row) k ≡ row_at rows k
+row-others [] i k row h = refl
+row-others (x ∷ xs) zero zero row h = absurd (h refl)
+row-others (x ∷ xs) zero (suc k) row h = refl
+row-others (x ∷ xs) (suc i) zero row h = refl
+row-others (x ∷ xs) (suc i) (suc k) row h = row-others xs i k row (λ e. h (ap suc e))
 
-pub set-here : (xs : List ℤ) (i : ℕ) (v : ℤ) → i < length xs → number_at (set xs i v) i ≡ v
-set-here [] i v h = absurd (omega arith)
-set-here (x ∷ xs) zero v h = refl
-set-here (x ∷ xs) (suc i) v h = set-here xs i v (omega arith)
+pub row-here : (rows : List (List ℤ)) (i : ℕ) (row : List ℤ) → i < length rows → row_at (set rows i row) i ≡ row
+row-here [] i row h = absurd (omega arith)
+row-here (x ∷ xs) zero row h = refl
+row-here (x ∷ xs) (suc i) row h = row-here xs i row (omega arith)
 
-pub set-count : (xs : List ℤ) (i : ℕ) (v : ℤ) → length (set xs i v) ≡ length xs
-set-count [] i v = refl
-set-count (x ∷ xs) zero v = refl
-set-count (x ∷ xs) (suc i) v = omega (arith, set-count xs i v)
+pub row-count : (rows : List (List ℤ)) (i : ℕ) (row : List ℤ) → length (set rows i row) ≡ length rows
+row-count [] i row = refl
+row-count (x ∷ xs) zero row = refl
+row-count (x ∷ xs) (suc i) row = omega (arith, row-count xs i row)
 
-pub lowered-of : (old : List ℤ) (place : ℕ) (value v here : ℤ) → place < length old → here ≡ number_at old place → v ≤ℤ here → v ≤ℤ value →
-    ((z : ℤ) → z ≤ℤ here → z ≤ℤ value → z ≤ℤ v) → IsLowered old (set old place v) place value
-lowered-of old place value v here below is first second least =
-    let own = set-here old place v below in
+-- what holds of all rows holds with another one put in
+pub rows-with : (P : List ℤ → Type 0) (rows : List (List ℤ)) (i k : ℕ) (row : List ℤ) → i < length rows → P (row_at rows k) → P row → P (row_at (set rows i row) k)
+rows-with P rows i k row below old new = split (P (row_at (set rows i row) k)) k i
+    (λ e. let Q : ℕ → Type 0 = λ n. P (row_at (set rows i row) n) in subst Q (sym e) (subst P (sym (row-here rows i row below)) new))
+    (λ n. subst P (sym (row-others rows i k row n)) old)
+
+seconds-is : (z : ℤ) (n : ℕ) → seconds z ≡ Some n → z ≡ pos n
+seconds-is (pos k) n e = let same = Some-same k n e in ap pos same
+seconds-is (negsuc k) n e = absurd (cc)
+
+-- a pause is no longer than the time between two pieces
+gap-cases : (b : Bool) (x y : ℤ) (h time : ℕ) (o : Option ℕ) → cond b (seconds (y -ℤ x)) (option_and_then (λ way. seconds (y -ℤ x -ℤ pos h -ℤ pos way)) o) ≡ Some time → pos time ≤ℤ (y -ℤ x)
+gap-cases true x y h time o e = let is = seconds-is (y -ℤ x) time e in omega (arith, ints)
+gap-cases false x y h time None e = absurd (cc)
+gap-cases false x y h time (Some way) e = let is = seconds-is (y -ℤ x -ℤ pos h -ℤ pos way) time e in omega (arith, ints)
+
+pub pause-gap : (d : DutyFacts) (k next time : ℕ) (p q : Piece) → slice_get d.pieces k ≡ Some p → slice_get d.pieces next ≡ Some q → pause_at d k next ≡ Some time →
+    pos time ≤ℤ (q.begin.0 -ℤ p.end.0)
+pause-gap d k next time p q is_p is_q e =
+    let here : pause_at d k next ≡ pause d p q = rw (is_p, is_q) refl in
+    gap-cases (follows p q) p.end.0 q.begin.0 d.params.settings.handover time (way_in d.params p.to q.from) (sym here ∙ e)
+
+-- a smaller number is not undercut either
+pub under-less : (d : DutyFacts) (prices : List Price) (r : Reach) (rows : List (List ℤ)) (next x : ℕ) (z w : ℤ) → IsUnder d prices r rows next x w → z ≤ℤ w → IsUnder d prices r rows next x z
+under-less d prices r rows next x z w u less q is_q in_time taken small = let own = u q is_q in_time taken small in omega (arith, ints)
+
+-- nor by the rows of a table that is no lower
+pub under-below : (d : DutyFacts) (prices : List Price) (r : Reach) (rows over : List (List ℤ)) (next x : ℕ) (z : ℤ) → IsReach r → AreBelow over rows →
+    IsUnder d prices r over next x z → IsUnder d prices r rows next x z
+under-below d prices r rows over next x z reach below u q is_q in_time taken small =
+    let own = u q is_q in_time taken small in let width = reach.width in let less = below next (x - q.driving / r.unit) (omega arith) in omega (arith, ints)
+
+pub under-either : (is : Bool) (d : DutyFacts) (prices : List Price) (r : Reach) (rows over : List (List ℤ)) (next x : ℕ) (z : ℤ) → IsReach r → AreBelow over rows →
+    IsUnder d prices r over next x z → IsUnder d prices r (cond is over rows) next x z
+under-either true d prices r rows over next x z reach below u = u
+under-either false d prices r rows over next x z reach below u = under-below d prices r rows over next x z reach below u
+
+-- what is said of a piece hangs on its row alone
+pub under-same : (d : DutyFacts) (prices : List Price) (r : Reach) (old new : List (List ℤ)) (next x : ℕ) (z : ℤ) → row_at new next ≡ row_at old next →
+    IsUnder d prices r old next x z → IsUnder d prices r new next x z
+under-same d prices r old new next x z same u q is_q in_time taken small =
+    let own = u q is_q in_time taken small in
+    let there : cell_at new next (x - q.driving / r.unit) ≡ cell_at old next (x - q.driving / r.unit) = ap (λ l. number_at l (x - q.driving / r.unit)) same in
+    omega (arith, ints)
+
+-- a row lowered to what going on with a piece adds
+pub lowered-by : (d : DutyFacts) (prices : List Price) (r : Reach) (rows : List (List ℤ)) (next : ℕ) (q : Piece) (old new : List ℤ) → IsReach r → slice_get d.pieces next ≡ Some q →
+    AllWithin 10000000000000 prices → IsLow (low_of next) (row_at rows next) → IsRowLowered old new (row_at rows next) (q.driving / r.unit) r.width (price_at prices next) →
+    IsLoweredBy d prices r rows next old new
+lowered-by d prices r rows next q old new reach is_q within low l =
+    let own = price_at-within 10000000000000 prices next within in
+    let phigh = own.high in
+    let width = reach.width in
     record {
-      count = set-count old place v;
-      others = λ k apart. set-others old place k v apart;
-      at_most = omega (arith, ints);
-      below = omega (arith, ints);
-      least = λ z h k. let at : z ≤ℤ here = omega (arith, ints) in let under = least z at k in omega (arith, ints);
+      at_most = λ x. l.at_most x;
+      under = λ x p is_p in_time taken less.
+          let same : q ≡ p = Some-same q p (sym is_q ∙ is_p) in
+          let P : Piece → Type 0 = λ s. s.driving / r.unit ≤ x → number_at new x ≤ℤ (cell_at rows next (x - s.driving / r.unit) -ℤ price_at prices next) in
+          subst P same (λ t. l.below x t less) taken;
+      least = λ z x small h bound. l.least z x h (λ from to. let least = low (x - q.driving / r.unit) (omega arith) in omega (arith, ints));
     }
 
--- a number lowered at one place
-from-lowered : (d : DutyFacts) (prices : List Price) (g : Group) (place : ℕ) (value : ℤ) (old new : List ℤ) → IsBoundFrom d prices g (place + 1) old → IsLowered old new place value →
-    (neg_ℤ (pos 30000000000000000) +ℤ pos (10000000000000 * place)) ≤ℤ value → IsBoundFrom d prices g (place + 1) new
-from-lowered d prices g place value old new b l above = record {
-  count = l.count ∙ b.count;
-  low = λ k h. split ((neg_ℤ (pos 30000000000000000) +ℤ pos (10000000000000 * k)) ≤ℤ number_at new k) k place
-      (λ e. let P : ℕ → Type 0 = λ n. (neg_ℤ (pos 30000000000000000) +ℤ pos (10000000000000 * n)) ≤ℤ number_at new n in
-      let Q : ℕ → Type 0 = λ n. (neg_ℤ (pos 30000000000000000) +ℤ pos (10000000000000 * n)) ≤ℤ number_at old n in
-      subst P (sym e) (l.least (neg_ℤ (pos 30000000000000000) +ℤ pos (10000000000000 * place)) (subst Q e (b.low k h)) above))
-      (λ n. let same = l.others k n in let low = b.low k h in omega (arith, ints));
-  high = λ k. split (number_at new k ≤ℤ pos 7000000000000) k place
-      (λ e. let P : ℕ → Type 0 = λ n. number_at new n ≤ℤ pos 7000000000000 in
-      let most = l.at_most in let high = b.high place in let own : number_at new place ≤ℤ pos 7000000000000 = omega (arith, ints) in subst P (sym e) own)
-      (λ n. let same = l.others k n in let high = b.high k in omega (arith, ints));
-  closes = λ k p off h is_p is_off.
-      let apart : k ≢ place = (λ e. absurd (omega arith)) in
-      let same = l.others k apart in let low = b.closes k p off h is_p is_off in omega (arith, ints);
-  steps = λ j k time h order below is_time.
-      let apart_j : j ≢ place = (λ e. absurd (omega arith)) in
-      let apart_k : k ≢ place = (λ e. absurd (omega arith)) in
-      let same_j = l.others j apart_j in let same_k = l.others k apart_k in let low = b.steps j k time h order below is_time in omega (arith, ints);
+-- or left, where no list in time goes on with it
+pub not-lowered : (d : DutyFacts) (prices : List Price) (r : Reach) (rows : List (List ℤ)) (next : ℕ) (q : Piece) (row : List ℤ) → slice_get d.pieces next ≡ Some q →
+    (q.end.0 ≤ℤ r.until → q.driving / r.unit < r.width → ⊥) → IsLoweredBy d prices r rows next row row
+not-lowered d prices r rows next q row is_q none = record {
+  at_most = λ x. omega (arith, ints);
+  under = λ x p is_p in_time taken less.
+      let same : p ≡ q = Some-same p q (sym is_p ∙ is_q) in
+      let P : Piece → Type 0 = λ s. s.end.0 ≤ℤ r.until in
+      let Q : Piece → Type 0 = λ s. s.driving / r.unit < r.width in
+      let few : p.driving / r.unit < r.width = omega arith in
+      absurd (none (subst P same in_time) (subst Q same few));
+  least = λ z x small h bound. h;
 }
+
+pub taken-alone : (d : DutyFacts) (prices : List Price) (r : Reach) (numbers : List ℕ) (rows : List (List ℤ)) (next stamp : ℕ) (met : List ℕ) (old new : List ℤ) →
+    IsLoweredBy d prices r rows next old new → IsTaken d prices r numbers rows next stamp met met old new
+taken-alone d prices r numbers rows next stamp met old new l = record { by = l; count = refl; others = λ m apart. refl; alike = λ later x order there is h. h is }
+
+-- with the later pieces of its number
+pub taken-chain : (d : DutyFacts) (prices : List Price) (r : Reach) (numbers : List ℕ) (rows chain : List (List ℤ)) (next stamp : ℕ) (met : List ℕ) (old new : List ℤ) → IsReach r →
+    next < length d.pieces → AreNumbered (length d.pieces) numbers → length met ≡ length d.pieces → IsChain d prices r numbers rows next chain →
+    IsRowLowered old new (row_at chain next) 0 r.width (pos 0) → IsTaken d prices r numbers rows next stamp met (set met (stamp_at numbers next) stamp) old new
+taken-chain d prices r numbers rows chain next stamp met old new reach below n count c l =
+    let width = reach.width in
+    let number = stamp_at numbers next in
+    let there = n.below next below in
+    let here = stamp-here met number stamp (omega arith) in
+    let all : (later x : ℕ) → next ≤ later → later < length d.pieces → stamp_at numbers later ≡ number → IsUnder d prices r rows later x (number_at new x) =
+    λ later x order last same q is_q in_time taken less.
+    let own = c.under next later x (omega arith) order last same q is_q in_time taken less in
+    let none : x - 0 ≡ x = omega arith in
+    let P : ℕ → Type 0 = λ k. number_at new x ≤ℤ (number_at (row_at chain next) k -ℤ pos 0) in
+    let most = subst P none (l.below x (omega arith) less) in
+    omega (arith, ints) in
+    record {
+      by = record {
+        at_most = λ x. l.at_most x;
+        under = λ x. all next x (omega arith) below refl;
+        least = λ z x small h bound. l.least z x h (λ from to. let low = c.low next (omega arith) below (x - 0) (omega arith) in omega (arith, ints));
+      };
+      count = stamp-count met number stamp;
+      others = λ m apart. split (stamp_at (set met number stamp) m ≡ stamp_at met m) m number
+          (λ e. absurd (apart (ap (stamp_at (set met number stamp)) e ∙ here)))
+          (λ other. stamp-others met number m stamp other);
+      alike = λ later x order last is h. split (IsUnder d prices r rows later x (number_at new x)) (stamp_at numbers later) number
+          (λ e. all later x order last e)
+          (λ other. h (sym (stamp-others met number (stamp_at numbers later) stamp other) ∙ is));
+    }
+
+-- a row as it begins: with what ending behind the piece in time adds
+pub ended : (d : DutyFacts) (prices : List Price) (g : Group) (r : Reach) (long : ℕ) (last : ℤ) (numbers : List ℕ) (rows over : List (List ℤ)) (k : ℕ) (met : List ℕ) (value : ℤ) → IsReach r → k < 3000 →
+    AreNumbered (length d.pieces) numbers → AreStamped (length d.pieces) (k + 1) met → neg_ℤ (pos 7000000000000) ≤ℤ value → value ≤ℤ pos 7000000000000 →
+    ((p : Piece) (off : ℤ) → slice_get d.pieces k ≡ Some p → sign_off d g p ≡ Some off → off ≤ℤ last → value ≤ℤ off_value d.counts g off) →
+    IsBounding d prices g r long last numbers rows over k (k + 1) met (replicate 16 value)
+ended d prices g r long last numbers rows over k met value reach few n stamped low high closes = record {
+  low = λ x less. let same = repeated 16 x value less in omega (arith, ints);
+  high = λ x. repeated-high 16 x value high;
+  closes = λ p off x less is_p is_off in_time.
+      let width = reach.width in
+      let same = repeated 16 x value (omega arith) in let close = closes p off is_p is_off in_time in omega (arith, ints);
+  steps = λ later time x from to is_time. absurd (omega arith);
+  stamped = record { count = stamped.count; from = λ m small. let own = stamped.from m small in omega arith };
+  alike = λ is later x order there e.
+      let own = stamped.from (stamp_at numbers later) (n.below later there) in let most = stamp-most k is in absurd (omega arith);
+}
+
+-- a later piece more
+pub stepped : (d : DutyFacts) (prices : List Price) (g : Group) (r : Reach) (long : ℕ) (last : ℤ) (numbers : List ℕ) (rows over : List (List ℤ)) (k next time : ℕ) (met stamps : List ℕ) (old new : List ℤ) →
+    k < next → pause_at d k next ≡ Some time → IsBounding d prices g r long last numbers rows over k next met old →
+    IsTaken d prices r numbers (behind long time rows over) next (stamp_of k (nat_le long time)) met stamps old new →
+    IsBounding d prices g r long last numbers rows over k (next + 1) stamps new
+stepped d prices g r long last numbers rows over k next time met stamps old new order is_time so_far t =
+    let now = nat_le long time in
+    record {
+      low = λ x small. t.by.least (low_of k) x small (so_far.low x small) (omega (arith, ints));
+      high = λ x. let most = t.by.at_most x in let high = so_far.high x in omega (arith, ints);
+      closes = λ p off x less is_p is_off in_time. let most = t.by.at_most x in let close = so_far.closes p off x less is_p is_off in_time in omega (arith, ints);
+      steps = λ later at x from to is_at. split (IsUnder d prices r (behind long at rows over) later x (number_at new x)) later next
+          (λ e. let here : pause_at d k next ≡ Some at = ap (pause_at d k) (sym e) ∙ is_at in
+          let one : time ≡ at = Some-same time at (sym is_time ∙ here) in
+          let P : ℕ → Type 0 = λ n. IsUnder d prices r (behind long n rows over) next x (number_at new x) in
+          let Q : ℕ → Type 0 = λ n. IsUnder d prices r (behind long at rows over) n x (number_at new x) in
+          subst Q (sym e) (subst P one (t.by.under x)))
+          (λ n. under-less d prices r (behind long at rows over) later x (number_at new x) (number_at old x) (so_far.steps later at x from (omega arith) is_at) (t.by.at_most x));
+      stamped = record {
+        count = t.count ∙ so_far.stamped.count;
+        from = λ m small. split (2 * k ≤ stamp_at stamps m) (stamp_at stamps m) (stamp_of k now)
+            (λ e. let least = stamp-from k now in omega arith)
+            (λ n. let same = t.others m n in let own = so_far.stamped.from m small in omega arith);
+      };
+      alike = λ is later x from there e. split (IsUnder d prices r (cond is over rows) later x (number_at new x)) (stamp_of k is) (stamp_of k now)
+          (λ s. let one : now ≡ is = sym (same-stamp k is now s) in
+          let P : Bool → Type 0 = λ b. stamp_at stamps (stamp_at numbers later) ≡ stamp_of k b → IsUnder d prices r (cond b over rows) later x (number_at new x) in
+          subst P one (λ here. t.alike later x (omega arith) there here
+          (λ was. under-less d prices r (cond now over rows) later x (number_at new x) (number_at old x) (so_far.alike now later x (omega arith) there was) (t.by.at_most x))) e)
+          (λ n. let was : stamp_at met (stamp_at numbers later) ≡ stamp_of k is = sym (t.others (stamp_at numbers later) (λ b. n (sym e ∙ b))) ∙ e in
+          under-less d prices r (cond is over rows) later x (number_at new x) (number_at old x) (so_far.alike is later x (omega arith) there was) (t.by.at_most x));
+    }
+
+-- a later piece that is looked at already, or to which there is no pause
+pub unstepped : (d : DutyFacts) (prices : List Price) (g : Group) (r : Reach) (long : ℕ) (last : ℤ) (numbers : List ℕ) (rows over : List (List ℤ)) (k next : ℕ) (met : List ℕ) (row : List ℤ) →
+    IsBounding d prices g r long last numbers rows over k next met row →
+    ((time x : ℕ) → pause_at d k next ≡ Some time → IsUnder d prices r (behind long time rows over) next x (number_at row x)) →
+    IsBounding d prices g r long last numbers rows over k (next + 1) met row
+unstepped d prices g r long last numbers rows over k next met row so_far here = record {
+  low = so_far.low;
+  high = so_far.high;
+  closes = so_far.closes;
+  steps = λ later time x from to is_time. split (IsUnder d prices r (behind long time rows over) later x (number_at row x)) later next
+      (λ e. let Q : ℕ → Type 0 = λ n. IsUnder d prices r (behind long time rows over) n x (number_at row x) in subst Q (sym e) (here time x (ap (pause_at d k) (sym e) ∙ is_time)))
+      (λ n. so_far.steps later time x from (omega arith) is_time);
+  stamped = so_far.stamped;
+  alike = λ is later x from there e. so_far.alike is later x (omega arith) there e;
+}
+
+-- all pieces of its number are looked at
+pub looked-at : (d : DutyFacts) (prices : List Price) (g : Group) (r : Reach) (long : ℕ) (last : ℤ) (numbers : List ℕ) (rows over : List (List ℤ)) (k next : ℕ) (met : List ℕ) (row : List ℤ) → IsReach r →
+    AreBelow over rows → next < length d.pieces → stamp_at met (stamp_at numbers next) ≡ stamp_of k true → IsBounding d prices g r long last numbers rows over k next met row →
+    IsBounding d prices g r long last numbers rows over k (next + 1) met row
+looked-at d prices g r long last numbers rows over k next met row reach below there e so_far = unstepped d prices g r long last numbers rows over k next met row so_far
+    (λ time x is_time. under-either (nat_le long time) d prices r rows over next x (number_at row x) reach below (so_far.alike true next x (omega arith) there e))
+
+-- those behind pauses that are not long are looked at, and its pause is not long
+pub near-at : (d : DutyFacts) (prices : List Price) (g : Group) (r : Reach) (long : ℕ) (last : ℤ) (numbers : List ℕ) (rows over : List (List ℤ)) (k next : ℕ) (p q : Piece) (met : List ℕ) (row : List ℤ) →
+    next < length d.pieces → slice_get d.pieces k ≡ Some p → slice_get d.pieces next ≡ Some q → (q.begin.0 -ℤ p.end.0) <ℤ pos long →
+    stamp_at met (stamp_at numbers next) ≡ stamp_of k false → IsBounding d prices g r long last numbers rows over k next met row →
+    IsBounding d prices g r long last numbers rows over k (next + 1) met row
+near-at d prices g r long last numbers rows over k next p q met row there is_p is_q near e so_far = unstepped d prices g r long last numbers rows over k next met row so_far
+    (λ time x is_time.
+    let most = pause-gap d k next time p q is_p is_q is_time in
+    let short : nat_le long time ≡ false = not-long long time (omega (arith, ints)) in
+    let P : Bool → Type 0 = λ b. IsUnder d prices r (cond b over rows) next x (number_at row x) in
+    subst P (sym short) (so_far.alike false next x (omega arith) there e))
+
+-- all later pieces are passed, and the row is made to fall
+pub settled-row : (d : DutyFacts) (prices : List Price) (g : Group) (r : Reach) (long : ℕ) (last : ℤ) (numbers : List ℕ) (rows over : List (List ℤ)) (k next : ℕ) (met : List ℕ) (old new : List ℤ) →
+    IsBounding d prices g r long last numbers rows over k next met old → length d.pieces ≤ next → IsSettled old new 16 → IsBoundRow d prices g r long last rows over k new
+settled-row d prices g r long last numbers rows over k next met old new so_far past s = record {
+  closes = λ p off x less is_p is_off in_time. let most = s.at_most x in let close = so_far.closes p off x less is_p is_off in_time in omega (arith, ints);
+  steps = λ later time x from to is_time.
+      under-less d prices r (behind long time rows over) later x (number_at new x) (number_at old x) (so_far.steps later time x from (omega arith) is_time) (s.at_most x);
+}
+
+pub settled-falls : (d : DutyFacts) (prices : List Price) (g : Group) (r : Reach) (long : ℕ) (last : ℤ) (numbers : List ℕ) (rows over : List (List ℤ)) (k next : ℕ) (met : List ℕ) (old new : List ℤ) →
+    IsBounding d prices g r long last numbers rows over k next met old → IsSettled old new 16 → IsFalling new
+settled-falls d prices g r long last numbers rows over k next met old new so_far s = record {
+  high = λ x. let most = s.at_most x in let high = so_far.high x in omega (arith, ints);
+  falls = λ x y order less. s.falls x y order less;
+}
+
+kept-either : (is : Bool) (d : DutyFacts) (prices : List Price) (r : Reach) (old new over above : List (List ℤ)) (next x : ℕ) (z : ℤ) → row_at new next ≡ row_at old next →
+    row_at above next ≡ row_at over next → IsUnder d prices r (cond is over old) next x z → IsUnder d prices r (cond is above new) next x z
+kept-either true d prices r old new over above next x z same also u = under-same d prices r over above next x z also u
+kept-either false d prices r old new over above next x z same also u = under-same d prices r old new next x z same u
+
+-- what is said of a row hangs on later rows alone
+pub kept-row : (d : DutyFacts) (prices : List Price) (g : Group) (r : Reach) (long : ℕ) (last : ℤ) (old new over above : List (List ℤ)) (k : ℕ) (row : List ℤ) →
+    IsBoundRow d prices g r long last old over k row → ((n : ℕ) → k < n → row_at new n ≡ row_at old n) → ((n : ℕ) → k < n → row_at above n ≡ row_at over n) →
+    IsBoundRow d prices g r long last new above k row
+kept-row d prices g r long last old new over above k row b same also = record {
+  closes = b.closes;
+  steps = λ next time x from to is_time. kept-either (nat_le long time) d prices r old new over above next x (number_at row x) (same next from) (also next from) (b.steps next time x from to is_time);
+}
+
+-- one row more
+pub more-rows : (n k : ℕ) (rows : List (List ℤ)) (row : List ℤ) → AreRows n (k + 1) rows → k < n → IsFalling row → IsLow (low_of k) row → AreRows n k (set rows k row)
+more-rows n k rows row a below falling low =
+    let count = a.count in
+    record {
+      count = row-count rows k row ∙ a.count;
+      falling = λ m. rows-with IsFalling rows k m row (omega arith) (a.falling m) falling;
+      low = λ m from to. split (IsLow (low_of m) (row_at (set rows k row) m)) m k
+          (λ e. let P : ℕ → Type 0 = λ i. IsLow (low_of i) (row_at (set rows k row) i) in subst P (sym e) (subst (IsLow (low_of k)) (sym (row-here rows k row (omega arith))) low))
+          (λ apart. subst (IsLow (low_of m)) (sym (row-others rows k m row apart)) (a.low m (omega arith) to));
+    }
+
+pub placed : (d : DutyFacts) (prices : List Price) (g : Group) (r : Reach) (long : ℕ) (last : ℤ) (k : ℕ) (rows over above : List (List ℤ)) (row : List ℤ) →
+    IsBoundFrom d prices g r long last (k + 1) rows over → k < length d.pieces → IsBoundRow d prices g r long last rows over k row → IsFalling row → IsLow (low_of k) row →
+    ((n : ℕ) → k < n → row_at above n ≡ row_at over n) → IsBoundFrom d prices g r long last k (set rows k row) above
+placed d prices g r long last k rows over above row b below is falling low also =
+    let count = b.are.count in
+    let here : row_at (set rows k row) k ≡ row = row-here rows k row (omega arith) in
+    let others : (n : ℕ) → k < n → row_at (set rows k row) n ≡ row_at rows n = λ n order. row-others rows k n row (λ e. absurd (omega arith)) in
+    record {
+      are = more-rows (length d.pieces) k rows row b.are below falling low;
+      bounds = λ n from to. split (IsBoundRow d prices g r long last (set rows k row) above n (row_at (set rows k row) n)) n k
+          (λ e. let P : ℕ → Type 0 = λ m. IsBoundRow d prices g r long last (set rows k row) above m (row_at (set rows k row) m) in
+          let Q : List ℤ → Type 0 = λ l. IsBoundRow d prices g r long last (set rows k row) above k l in
+          subst P (sym e) (subst Q (sym here) (kept-row d prices g r long last rows (set rows k row) over above k row is others also)))
+          (λ apart. let later : k < n = omega arith in
+          let Q : List ℤ → Type 0 = λ l. IsBoundRow d prices g r long last (set rows k row) above n l in
+          subst Q (sym (others n later)) (kept-row d prices g r long last rows (set rows k row) over above n (row_at rows n) (b.bounds n (omega arith) to)
+          (λ m order. others m (omega arith)) (λ m order. also m (omega arith))));
+    }
+
+-- a row that is out of reach falls, and so do rows of which one more is put last
+pub out-falls : IsFalling (replicate 16 (pos 7000000000000))
+out-falls = record {
+  high = λ x. repeated-high 16 x (pos 7000000000000) (omega (arith, ints));
+  falls = λ x y order less.
+      let one = repeated 16 x (pos 7000000000000) less in let other = repeated 16 y (pos 7000000000000) (omega arith) in omega (arith, ints);
+}
+
+pub none-falls : AreFalling []
+none-falls k = record { high = λ x. omega (arith, ints); falls = λ x y order less. omega (arith, ints) }
+
+pub more-fall : (rows : List (List ℤ)) (row : List ℤ) → AreFalling rows → IsFalling row → AreFalling (rows ++ row ∷ [])
+more-fall [] row all own zero = own
+more-fall [] row all own (suc k) = none-falls k
+more-fall (x ∷ xs) row all own zero = all 0
+more-fall (x ∷ xs) row all own (suc k) = more-fall xs row (λ n. all (suc n)) own k
+
+pub length-more : (rows : List (List ℤ)) (row : List ℤ) → length (rows ++ row ∷ []) ≡ length rows + 1
+length-more [] row = refl
+length-more (x ∷ xs) row = omega (arith, length-more xs row)
+
+row-before : (rows : List (List ℤ)) (row : List ℤ) (k : ℕ) → k < length rows → row_at (rows ++ row ∷ []) k ≡ row_at rows k
+row-before [] row k h = absurd (omega arith)
+row-before (x ∷ xs) row zero h = refl
+row-before (x ∷ xs) row (suc k) h = row-before xs row k (omega arith)
+
+row-last : (rows : List (List ℤ)) (row : List ℤ) → row_at (rows ++ row ∷ []) (length rows) ≡ row
+row-last [] row = refl
+row-last (x ∷ xs) row = row-last xs row
+
+row-beyond : (rows : List (List ℤ)) (k : ℕ) → length rows ≤ k → row_at rows k ≡ []
+row-beyond [] zero h = refl
+row-beyond [] (suc k) h = refl
+row-beyond (x ∷ xs) zero h = absurd (omega arith)
+row-beyond (x ∷ xs) (suc k) h = row-beyond xs k (omega arith)
+
+low-apart : (n : ℕ) (rows : List (List ℤ)) (row : List ℤ) (k x : ℕ) → length rows ≡ n → x < 16 → k ≢ n → ((m : ℕ) → IsLow (pos 0) (row_at rows m)) → pos 0 ≤ℤ cell_at (rows ++ row ∷ []) k x
+low-apart n [] row zero x e small apart all = absurd (apart e)
+low-apart n [] row (suc k) x e small apart all = omega (arith, ints)
+low-apart n (y ∷ ys) row zero x e small apart all = all 0 x small
+low-apart zero (y ∷ ys) row (suc k) x e small apart all = absurd (omega arith)
+low-apart (suc n) (y ∷ ys) row (suc k) x e small apart all = low-apart n ys row k x (omega arith) small (λ same. apart (ap suc same)) (λ m. all (suc m))
+
+-- rows that are out of reach
+pub none-out : AreOut 0 []
+none-out = record { count = refl; falling = none-falls; low = λ k x less. omega (arith, ints); full = λ k x less small. absurd (omega arith) }
+
+pub more-out : (n : ℕ) (rows : List (List ℤ)) → AreOut n rows → AreOut (n + 1) (rows ++ replicate 16 (pos 7000000000000) ∷ [])
+more-out n rows a =
+    let row = replicate 16 (pos 7000000000000) in
+    let count = a.count in
+    let own : (x : ℕ) → x < 16 → number_at row x ≡ pos 7000000000000 = λ x less. repeated 16 x (pos 7000000000000) less in
+    let long = length-more rows row in
+    let last : row_at (rows ++ row ∷ []) n ≡ row = (let P : ℕ → Type 0 = λ m. row_at (rows ++ row ∷ []) m ≡ row in subst P count (row-last rows row)) in
+    record {
+      count = omega arith;
+      falling = more-fall rows row a.falling out-falls;
+      low = λ k x small. split (pos 0 ≤ℤ cell_at (rows ++ row ∷ []) k x) k n
+          (λ e. let P : ℕ → Type 0 = λ m. pos 0 ≤ℤ cell_at (rows ++ row ∷ []) m x in
+          let Q : List ℤ → Type 0 = λ l. pos 0 ≤ℤ number_at l x in
+          let high : pos 0 ≤ℤ number_at row x = (let same = own x small in omega (arith, ints)) in subst P (sym e) (subst Q (sym last) high))
+          (λ apart. low-apart n rows row k x count small apart a.low);
+      full = λ k x less small. split (cell_at (rows ++ row ∷ []) k x ≡ pos 7000000000000) k n
+          (λ e. let P : ℕ → Type 0 = λ m. cell_at (rows ++ row ∷ []) m x ≡ pos 7000000000000 in
+          let Q : List ℤ → Type 0 = λ l. number_at l x ≡ pos 7000000000000 in subst P (sym e) (subst Q (sym last) (own x small)))
+          (λ apart. let Q : List ℤ → Type 0 = λ l. number_at l x ≡ pos 7000000000000 in subst Q (sym (row-before rows row k (omega arith))) (a.full k x (omega arith) small));
+    }
 
 -- behind the last piece there is nothing yet
-pub ended : (d : DutyFacts) (prices : List Price) (g : Group) (place : ℕ) (value : ℤ) (old new : List ℤ) → IsBoundFrom d prices g (place + 1) old → IsLowered old new place value →
-    place ≤ 3000 → neg_ℤ (pos 7000000000000) ≤ℤ value → place < 3000 →
-    ((p : Piece) → slice_get d.pieces place ≡ Some p → Some value ≡ option_map (off_value d.counts g) (sign_off d g p)) → IsBounding d prices g place (place + 1) new
-ended d prices g place value old new b l few least below is = record {
-  later = from-lowered d prices g place value old new b l (omega (arith, ints));
-  closes = λ p off is_p is_off.
-      let e : Some value ≡ Some (off_value d.counts g off) = is p is_p ∙ ap (option_map (off_value d.counts g)) is_off in
-      let same : value ≡ off_value d.counts g off = Some-same value (off_value d.counts g off) e in
-      let under = l.below in omega (arith, ints);
-  steps = λ k time order less is_time. absurd (omega arith);
+pub out-rows : (n : ℕ) (rows : List (List ℤ)) → AreOut n rows → AreRows n n rows
+out-rows n rows a = record { count = a.count; falling = a.falling; low = λ k from to. absurd (omega arith) }
+
+pub unbounded : (d : DutyFacts) (prices : List Price) (g : Group) (r : Reach) (long : ℕ) (last : ℤ) (rows over : List (List ℤ)) → AreOut (length d.pieces) rows →
+    IsBoundFrom d prices g r long last (length d.pieces) rows over
+unbounded d prices g r long last rows over a = record { are = out-rows (length d.pieces) rows a; bounds = λ k from to. absurd (omega arith) }
+
+pub out-chain : (d : DutyFacts) (prices : List Price) (r : Reach) (numbers : List ℕ) (rows chain : List (List ℤ)) → AreOut (length d.pieces) chain →
+    IsChain d prices r numbers rows (length d.pieces) chain
+out-chain d prices r numbers rows chain a = record {
+  count = a.count;
+  low = λ k from to. absurd (omega arith);
+  high = λ k x. (a.falling k).high x;
+  under = λ k later x from order to same. absurd (omega arith);
 }
 
-pub unended : (d : DutyFacts) (prices : List Price) (g : Group) (place : ℕ) (rests : List ℤ) → IsBoundFrom d prices g (place + 1) rests →
-    ((p : Piece) → slice_get d.pieces place ≡ Some p → None ≡ option_map (off_value d.counts g) (sign_off d g p)) → IsBounding d prices g place (place + 1) rests
-unended d prices g place rests b is = record {
-  later = b;
-  closes = λ p off is_p is_off. absurd (let e : None ≡ Some (off_value d.counts g off) = is p is_p ∙ ap (option_map (off_value d.counts g)) is_off in cc);
-  steps = λ k time order less is_time. absurd (omega arith);
+pub out-tail : (d : DutyFacts) (prices : List Price) (r : Reach) (numbers : List ℕ) (rows tail : List (List ℤ)) → length d.pieces ≤ 3000 → AreOut (length d.pieces) tail →
+    IsTail d prices r numbers rows (length d.pieces) tail
+out-tail d prices r numbers rows tail few a = record {
+  count = a.count;
+  low = λ m x small. let low = a.low m x small in omega (arith, ints);
+  high = λ m x. (a.falling m).high x;
+  under = λ later x from to. absurd (omega arith);
 }
 
--- a piece more
-pub stepped : (d : DutyFacts) (prices : List Price) (g : Group) (place next : ℕ) (value : ℤ) (old new : List ℤ) → IsBounding d prices g place next old → IsLowered old new place value →
-    place < next → next < length d.pieces → AllWithin 10000000000000 prices → value ≡ number_at old next -ℤ price_at prices next → IsBounding d prices g place (next + 1) new
-stepped d prices g place next value old new b l order below w is =
-    let apart : next ≢ place = (λ e. absurd (omega arith)) in
-    let same_next = l.others next apart in
-    let own = price_at-within 10000000000000 prices next w in let plow = own.low in let phigh = own.high in
-    let low = b.later.low next below in
-    let above : (neg_ℤ (pos 30000000000000000) +ℤ pos (10000000000000 * place)) ≤ℤ value = omega (arith, ints) in
+not-lt : (k n : ℕ) → nat_lt k n ≡ false → n ≤ k
+not-lt k n e = grind (arith, nat_tests)
+
+lt-is : (k n : ℕ) → nat_lt k n ≡ true → k < n
+lt-is k n e = grind (arith, nat_tests)
+
+-- rows out of reach are above all that fall
+pub out-below : (n : ℕ) (over rows : List (List ℤ)) → length over ≡ n → AreFalling over → AreOut n rows → AreBelow over rows
+out-below n over rows count falling a k x small = elim (nat_lt k n) as (λ b. nat_lt k n ≡ b → cell_at over k x ≤ℤ cell_at rows k x) [
+  | true ↦ λ e. let full = a.full k x (lt-is k n e) small in let high = (falling k).high x in omega (arith, ints)
+  | false ↦ λ e. let past = not-lt k n e in let long = a.count in
+      let none : row_at over k ≡ [] = row-beyond over k (omega arith) in let also : row_at rows k ≡ [] = row-beyond rows k (omega arith) in
+      let P : List ℤ → Type 0 = λ l. number_at l x ≤ℤ cell_at rows k x in
+      let Q : List ℤ → Type 0 = λ l. number_at [] x ≤ℤ number_at l x in
+      let same : number_at [] x ≤ℤ number_at [] x = omega (arith, ints) in
+      subst P (sym none) (subst Q (sym also) same)
+] refl
+
+-- fewer rows are asked of
+pub bounded-from : (d : DutyFacts) (prices : List Price) (g : Group) (r : Reach) (long : ℕ) (last : ℤ) (place first : ℕ) (rows over : List (List ℤ)) → IsBoundFrom d prices g r long last place rows over → place ≤ first →
+    IsBoundFrom d prices g r long last first rows over
+bounded-from d prices g r long last place first rows over b order = record {
+  are = record { count = b.are.count; falling = b.are.falling; low = λ k from to. b.are.low k (omega arith) to };
+  bounds = λ k from to. b.bounds k (omega arith) to;
+}
+
+pub chain-from : (d : DutyFacts) (prices : List Price) (r : Reach) (numbers : List ℕ) (rows : List (List ℤ)) (place first : ℕ) (chain : List (List ℤ)) → IsChain d prices r numbers rows place chain → place ≤ first →
+    IsChain d prices r numbers rows first chain
+chain-from d prices r numbers rows place first chain c order = record {
+  count = c.count;
+  low = λ k from to. c.low k (omega arith) to;
+  high = c.high;
+  under = λ k later x from up to same. c.under k later x (omega arith) up to same;
+}
+
+-- rows that change before a place alone
+pub chain-kept : (d : DutyFacts) (prices : List Price) (r : Reach) (numbers : List ℕ) (old new : List (List ℤ)) (place : ℕ) (chain : List (List ℤ)) → IsChain d prices r numbers old place chain →
+    ((n : ℕ) → place ≤ n → row_at new n ≡ row_at old n) → IsChain d prices r numbers new place chain
+chain-kept d prices r numbers old new place chain c same = record {
+  count = c.count;
+  low = c.low;
+  high = c.high;
+  under = λ k later x from up to alike. under-same d prices r old new later x (cell_at chain k x) (same later (omega arith)) (c.under k later x from up to alike);
+}
+
+pub tail-kept : (d : DutyFacts) (prices : List Price) (r : Reach) (numbers : List ℕ) (old new : List (List ℤ)) (place : ℕ) (tail : List (List ℤ)) → IsTail d prices r numbers old place tail →
+    ((n : ℕ) → place ≤ n → row_at new n ≡ row_at old n) → IsTail d prices r numbers new place tail
+tail-kept d prices r numbers old new place tail t same = record {
+  count = t.count;
+  low = t.low;
+  high = t.high;
+  under = λ later x from to. under-same d prices r old new later x (cell_at tail (stamp_at numbers later) x) (same later from) (t.under later x from to);
+}
+
+tail-order : (numbers : List ℕ) (item later : ℕ) → item ≤ later → stamp_at numbers later ≢ stamp_at numbers item → item + 1 ≤ later
+tail-order numbers item later from other = split (item + 1 ≤ later) later item (λ e. absurd (other (ap (stamp_at numbers) e))) (λ n. omega arith)
+
+-- the row of a number lowered by one piece more
+pub tailed : (d : DutyFacts) (prices : List Price) (r : Reach) (numbers : List ℕ) (rows tail : List (List ℤ)) (item : ℕ) (row : List ℤ) → item < length d.pieces →
+    AreNumbered (length d.pieces) numbers → IsTail d prices r numbers rows (item + 1) tail → IsLoweredBy d prices r rows item (row_at tail (stamp_at numbers item)) row →
+    IsTail d prices r numbers rows item (set tail (stamp_at numbers item) row)
+tailed d prices r numbers rows tail item row below n t l =
+    let number = stamp_at numbers item in
+    let there = n.below item below in
+    let count = t.count in
+    let here : row_at (set tail number row) number ≡ row = row-here tail number row (omega arith) in
+    let least : ℤ = neg_ℤ (pos 30000000000000000) +ℤ pos (10000000000000 * item) -ℤ pos 10000000000000 in
     record {
-      later = from-lowered d prices g place value old new b.later l above;
-      closes = λ p off is_p is_off. let most = l.at_most in let close = b.closes p off is_p is_off in omega (arith, ints);
-      steps = λ k time up less is_time. split (number_at new place ≤ℤ (number_at new k -ℤ price_at prices k)) k next
-          (λ e. let P : ℕ → Type 0 = λ n. number_at new place ≤ℤ (number_at new n -ℤ price_at prices n) in
-          let under = l.below in let here : number_at new place ≤ℤ (number_at new next -ℤ price_at prices next) = omega (arith, ints) in subst P (sym e) here)
-          (λ n. let apart_k : k ≢ place = (λ e. absurd (omega arith)) in
-          let same_k = l.others k apart_k in let most = l.at_most in let old_step = b.steps k time up (omega arith) is_time in omega (arith, ints));
+      count = row-count tail number row ∙ t.count;
+      low = λ m. rows-with (IsLow least) tail number m row (omega arith) (λ x small. let own = t.low m x small in omega (arith, ints))
+          (λ x small. l.least least x small (let own = t.low number x small in omega (arith, ints)) (omega (arith, ints)));
+      high = λ m x. let P : List ℤ → Type 0 = λ z. number_at z x ≤ℤ pos 7000000000000 in
+          rows-with P tail number m row (omega arith) (t.high m x) (let most = l.at_most x in let own = t.high number x in omega (arith, ints));
+      under = λ later x from to. split (IsUnder d prices r rows later x (cell_at (set tail number row) (stamp_at numbers later) x)) (stamp_at numbers later) number
+          (λ e. let P : ℕ → Type 0 = λ m. IsUnder d prices r rows later x (cell_at (set tail number row) m x) in
+          let Q : List ℤ → Type 0 = λ z. IsUnder d prices r rows later x (number_at z x) in
+          subst P (sym e) (subst Q (sym here) (split (IsUnder d prices r rows later x (number_at row x)) later item
+          (λ same. let R : ℕ → Type 0 = λ m. IsUnder d prices r rows m x (number_at row x) in subst R (sym same) (l.under x))
+          (λ apart. let S : ℕ → Type 0 = λ m. IsUnder d prices r rows later x (cell_at tail m x) in
+          under-less d prices r rows later x (number_at row x) (number_at (row_at tail number) x) (subst S e (t.under later x (omega arith) to)) (l.at_most x)))))
+          (λ other. let later_on : item + 1 ≤ later = tail-order numbers item later from other in
+          let Q : List ℤ → Type 0 = λ z. IsUnder d prices r rows later x (number_at z x) in
+          subst Q (sym (row-others tail number (stamp_at numbers later) row other)) (t.under later x later_on to));
     }
 
-pub unstepped : (d : DutyFacts) (prices : List Price) (g : Group) (place next : ℕ) (rests : List ℤ) → IsBounding d prices g place next rests → pause_at d place next ≡ None →
-    IsBounding d prices g place (next + 1) rests
-unstepped d prices g place next rests b none = record {
-  later = b.later;
-  closes = b.closes;
-  steps = λ k time up less is_time. split (number_at rests place ≤ℤ (number_at rests k -ℤ price_at prices k)) k next
-      (λ e. absurd (let bad : None ≡ Some time = sym none ∙ ap (pause_at d place) (sym e) ∙ is_time in cc))
-      (λ n. b.steps k time up (omega arith) is_time);
+-- a row more in the chain
+pub chained : (d : DutyFacts) (prices : List Price) (r : Reach) (numbers : List ℕ) (rows chain tail : List (List ℤ)) (item : ℕ) (row : List ℤ) → item < length d.pieces →
+    IsChain d prices r numbers rows (item + 1) chain → IsTail d prices r numbers rows item tail → row ≡ row_at tail (stamp_at numbers item) →
+    IsChain d prices r numbers rows item (set chain item row)
+chained d prices r numbers rows chain tail item row below c t is =
+    let count = c.count in
+    let here : row_at (set chain item row) item ≡ row_at tail (stamp_at numbers item) = row-here chain item row (omega arith) ∙ is in
+    let least : ℕ → ℤ = λ k. neg_ℤ (pos 30000000000000000) +ℤ pos (10000000000000 * k) -ℤ pos 10000000000000 in
+    record {
+      count = row-count chain item row ∙ c.count;
+      low = λ k from to. split (IsLow (least k) (row_at (set chain item row) k)) k item
+          (λ e. let P : ℕ → Type 0 = λ m. IsLow (least m) (row_at (set chain item row) m) in
+          subst P (sym e) (subst (IsLow (least item)) (sym here) (t.low (stamp_at numbers item))))
+          (λ apart. subst (IsLow (least k)) (sym (row-others chain item k row apart)) (c.low k (omega arith) to));
+      high = λ k x. let P : List ℤ → Type 0 = λ z. number_at z x ≤ℤ pos 7000000000000 in
+          rows-with P chain item k row (omega arith) (c.high k x) (subst P (sym is) (t.high (stamp_at numbers item) x));
+      under = λ k later x from up to alike. split (IsUnder d prices r rows later x (cell_at (set chain item row) k x)) k item
+          (λ e. let P : ℕ → Type 0 = λ m. IsUnder d prices r rows later x (cell_at (set chain item row) m x) in
+          let Q : List ℤ → Type 0 = λ z. IsUnder d prices r rows later x (number_at z x) in
+          let S : ℕ → Type 0 = λ m. IsUnder d prices r rows later x (cell_at tail m x) in
+          let same : stamp_at numbers later ≡ stamp_at numbers item = alike ∙ ap (stamp_at numbers) e in
+          subst P (sym e) (subst Q (sym here) (subst S same (t.under later x (omega arith) to))))
+          (λ apart. let Q : List ℤ → Type 0 = λ z. IsUnder d prices r rows later x (number_at z x) in
+          subst Q (sym (row-others chain item k row apart)) (c.under k later x (omega arith) up to alike));
+    }
+
+same-over : (b : Bool) (rows : List (List ℤ)) → cond b rows rows ≡ rows
+same-over true rows = refl
+same-over false rows = refl
+
+all-over : (time : ℕ) (rows : List (List ℤ)) → behind 0 time rows rows ≡ rows
+all-over time rows = same-over (nat_le 0 time) rows
+
+-- a row raised to that of lists with a long pause
+pub raised-row : (d : DutyFacts) (prices : List Price) (g : Group) (r : Reach) (last : ℤ) (rows over : List (List ℤ)) (k : ℕ) (old new by : List ℤ) → IsReach r → AreBelow over rows → last ≤ℤ r.until →
+    IsBoundRow d prices g r 10800 last rows over k old → IsBoundRow d prices g r 0 r.until over over k by → IsRaised old new by 16 → IsBoundRow d prices g r 10800 last rows over k new
+raised-row d prices g r last rows over k old new by reach below order b o raised = record {
+  closes = λ p off x less is_p is_off in_time. raised.most (off_value d.counts g off) x (b.closes p off x less is_p is_off in_time) (o.closes p off x less is_p is_off (omega (arith, ints)));
+  steps = λ next time x from to is_time q is_q in_time taken small.
+      let own = b.steps next time x from to is_time q is_q in_time taken small in
+      let P : List (List ℤ) → Type 0 = λ l. IsUnder d prices r l next x (number_at by x) in
+      let under = subst P (all-over time over) (o.steps next time x from to is_time) in
+      let also = under-either (nat_le 10800 time) d prices r rows over next x (number_at by x) reach below under q is_q in_time taken small in
+      raised.most _ x own also;
 }
 
--- all later pieces are passed
-pub bounded : (d : DutyFacts) (prices : List Price) (g : Group) (place next : ℕ) (rests : List ℤ) → IsBounding d prices g place next rests → length d.pieces ≤ next → IsBoundFrom d prices g place rests
-bounded d prices g place next rests b past = record {
-  count = b.later.count;
-  low = b.later.low;
-  high = b.later.high;
-  closes = λ k p off h is_p is_off. split (number_at rests k ≤ℤ off_value d.counts g off) k place
-      (λ e. let P : ℕ → Type 0 = λ n. slice_get d.pieces n ≡ Some p → number_at rests n ≤ℤ off_value d.counts g off in
-      let own : slice_get d.pieces place ≡ Some p → number_at rests place ≤ℤ off_value d.counts g off = λ q. b.closes p off q is_off in subst P (sym e) own is_p)
-      (λ n. b.later.closes k p off (omega arith) is_p is_off);
-  steps = λ j k time h order below is_time. split (number_at rests j ≤ℤ (number_at rests k -ℤ price_at prices k)) j place
-      (λ e. let P : ℕ → Type 0 = λ n. n < k → pause_at d n k ≡ Some time → number_at rests n ≤ℤ (number_at rests k -ℤ price_at prices k) in
-      let own : place < k → pause_at d place k ≡ Some time → number_at rests place ≤ℤ (number_at rests k -ℤ price_at prices k) = λ up is. b.steps k time up (omega arith) is in subst P (sym e) own order is_time)
-      (λ n. b.later.steps j k time (omega arith) order below is_time);
+pub raised-falls : (old new by : List ℤ) → IsFalling old → IsFalling by → IsRaised old new by 16 → IsFalling new
+raised-falls old new by f h raised = record {
+  high = λ x. raised.most (pos 7000000000000) x (f.high x) (h.high x);
+  falls = λ x y order less.
+      let own = f.falls x y order less in let also = h.falls x y order less in let up = raised.own y in let by_up = raised.other y (omega arith) in
+      raised.most (number_at new y) x (omega (arith, ints)) (omega (arith, ints));
 }
 
--- numbers that are out of reach
-replicated : (n k : ℕ) → number_at (replicate n (pos 7000000000000)) k ≤ℤ pos 7000000000000
-replicated zero k = omega (arith, ints)
-replicated (suc n) zero = omega (arith, ints)
-replicated (suc n) (suc k) = replicated n k
+pub raised-low : (z : ℤ) (old new by : List ℤ) → IsLow z old → IsRaised old new by 16 → IsLow z new
+raised-low z old new by low raised x small = let own = low x small in let up = raised.own x in omega (arith, ints)
 
-replicated-low : (n k : ℕ) → pos 0 ≤ℤ number_at (replicate n (pos 7000000000000)) k
-replicated-low zero k = omega (arith, ints)
-replicated-low (suc n) zero = omega (arith, ints)
-replicated-low (suc n) (suc k) = replicated-low n k
+pub raised-below : (over rows : List (List ℤ)) (k : ℕ) (old new : List ℤ) → AreBelow over rows → k < length rows → IsRaised old new (row_at over k) 16 → AreBelow over (set rows k new)
+raised-below over rows k old new below less raised n x small = split (cell_at over n x ≤ℤ cell_at (set rows k new) n x) n k
+    (λ e. let P : ℕ → Type 0 = λ m. cell_at over m x ≤ℤ cell_at (set rows k new) m x in
+    let Q : List ℤ → Type 0 = λ l. cell_at over k x ≤ℤ number_at l x in
+    subst P (sym e) (subst Q (sym (row-here rows k new less)) (raised.other x small)))
+    (λ apart. let Q : List ℤ → Type 0 = λ l. cell_at over n x ≤ℤ number_at l x in subst Q (sym (row-others rows k n new apart)) (below n x small))
 
-replicated-count : (n : ℕ) → length (replicate n (pos 7000000000000)) ≡ n
-replicated-count zero = refl
-replicated-count (suc n) = omega (arith, replicated-count n)
+pub below-self : (rows : List (List ℤ)) → AreBelow rows rows
+below-self rows k x small = omega (arith, ints)
 
-pub unbounded : (d : DutyFacts) (prices : List Price) (g : Group) (rests : List ℤ) → length d.pieces ≤ 3000 → rests ≡ replicate (length d.pieces) (pos 7000000000000) → IsBoundFrom d prices g (length d.pieces) rests
-unbounded d prices g rests few e =
-    let all : IsBoundFrom d prices g (length d.pieces) (replicate (length d.pieces) (pos 7000000000000)) = record {
-      count = replicated-count (length d.pieces);
-      low = λ k h. let low = replicated-low (length d.pieces) k in omega (arith, ints);
-      high = λ k. replicated (length d.pieces) k;
-      closes = λ k p off h is_p is_off. absurd (let below = at-below d.pieces k p is_p in omega arith);
-      steps = λ j k time h order below is_time. absurd (omega arith);
-    } in
-    let P : List ℤ → Type 0 = λ l. IsBoundFrom d prices g (length d.pieces) l in subst P (sym e) all
+-- the table of lists with a long pause, or that of lists without
+pub chosen-count : (is : Bool) (n : ℕ) (over rows : List (List ℤ)) → length over ≡ n → length rows ≡ n → length (cond is over rows) ≡ n
+chosen-count true n over rows f g = f
+chosen-count false n over rows f g = g
 
-past-low : (xs : List ℤ) (k : ℕ) → length xs ≤ k → number_at xs k ≡ pos 0
-past-low [] k h = refl
-past-low (x ∷ xs) zero h = absurd (omega arith)
-past-low (x ∷ xs) (suc k) h = past-low xs k (omega arith)
+pub chosen-low : (is : Bool) (n place k x : ℕ) (over rows : List (List ℤ)) → AreRows n place over → AreRows n place rows → place ≤ k → k < n → x < 16 → neg_ℤ (pos 30000000000000000) ≤ℤ cell_at (cond is over rows) k x
+chosen-low true n place k x over rows a b from to less = let low = a.low k from to x less in omega (arith, ints)
+chosen-low false n place k x over rows a b from to less = let low = b.low k from to x less in omega (arith, ints)
 
-cases : (a b : ℕ) (P : Type 0) → (a < b → P) → (b ≤ a → P) → P
-cases zero zero P f g = g (omega arith)
-cases zero (suc b) P f g = f (omega arith)
-cases (suc a) zero P f g = g (omega arith)
-cases (suc a) (suc b) P f g = cases a b P (λ h. f (omega arith)) (λ h. g (omega arith))
+pub chosen-high : (is : Bool) (n place k x : ℕ) (over rows : List (List ℤ)) → AreRows n place over → AreRows n place rows → cell_at (cond is over rows) k x ≤ℤ pos 7000000000000
+chosen-high true n place k x over rows a b = (a.falling k).high x
+chosen-high false n place k x over rows a b = (b.falling k).high x
 
--- all are bounds
-pub all-bounded : (d : DutyFacts) (prices : List Price) (g : Group) (rests : List ℤ) → IsBoundFrom d prices g 0 rests → IsBound d prices g rests
-all-bounded d prices g rests b = record {
-  low = λ k. cases k (length d.pieces) (neg_ℤ (pos 30000000000000000) ≤ℤ number_at rests k)
-      (λ h. let low = b.low k h in omega (arith, ints))
-      (λ h. let count = b.count in let none = past-low rests k (omega arith) in omega (arith, ints));
-  high = b.high;
-  closes = λ k p off is_p is_off. b.closes k p off (omega arith) is_p is_off;
-  steps = λ j k p q time is_p is_q order is_time.
-      let there : pause_at d j k ≡ Some time = (let here : pause_at d j k ≡ pause d p q = rw (is_p, is_q) refl in here ∙ is_time) in
-      b.steps j k time (omega arith) order (at-below d.pieces k q is_q) there;
-}
+pub chosen-rows : (is : Bool) (n place : ℕ) (over rows : List (List ℤ)) → AreRows n place over → AreRows n place rows → AreRows n place (cond is over rows)
+chosen-rows true n place over rows a b = a
+chosen-rows false n place over rows a b = b
+
+pub chosen-chain : (is : Bool) (d : DutyFacts) (prices : List Price) (r : Reach) (numbers : List ℕ) (over rows : List (List ℤ)) (place : ℕ) (over_chain chain : List (List ℤ)) →
+    IsChain d prices r numbers over place over_chain → IsChain d prices r numbers rows place chain → IsChain d prices r numbers (cond is over rows) place (cond is over_chain chain)
+chosen-chain true d prices r numbers over rows place over_chain chain a b = a
+chosen-chain false d prices r numbers over rows place over_chain chain a b = b
+
+pub rows-from : (n place first : ℕ) (rows : List (List ℤ)) → AreRows n place rows → place ≤ first → AreRows n first rows
+rows-from n place first rows a order = record { count = a.count; falling = a.falling; low = λ k from to. a.low k (omega arith) to }
+
+-- both tables
+pub bounds-of : (d : DutyFacts) (prices : List Price) (g : Group) (r : Reach) (latest last : ℤ) (place first : ℕ) (rows over short long : List (List ℤ)) →
+    IsBoundFrom d prices g r 10800 last place rows over → IsBoundFrom d prices g r 0 r.until place over over → AreBelow over rows → last ≡ latest +ℤ pos (limits_of g).spread →
+    r.until ≡ latest +ℤ pos 54000 → place ≡ first → short ≡ rows → long ≡ over → AreBounds d prices g r latest first short long
+bounds-of d prices g r latest last place first rows over short long a b below is_last is_until same is_short is_long =
+    let P : ℤ → Type 0 = λ z. IsBoundFrom d prices g r 10800 z place rows over in
+    let Q : ℤ → Type 0 = λ z. IsBoundFrom d prices g r 0 z place over over in
+    let R : ℕ → Type 0 = λ n. AreBounds d prices g r latest n short long in
+    let S : List (List ℤ) → Type 0 = λ l. AreBounds d prices g r latest place l long in
+    let T : List (List ℤ) → Type 0 = λ l. AreBounds d prices g r latest place rows l in
+    subst R same (subst S (sym is_short) (subst T (sym is_long) (record { plain = subst P is_last a; long = subst Q is_until b; below = below })))

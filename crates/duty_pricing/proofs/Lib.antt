@@ -1,2 +1,4 @@
-pub mod Rests
+pub mod Lowering
+pub mod Stamps
 pub mod Bounding
+pub mod Checks

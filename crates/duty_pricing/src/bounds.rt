@@ -1,140 +1,440 @@
-//! Completion bounds: what the rest of a list adds to its value at least.
+//! Completion bounds: what the rest of a list adds to its value at least, for each amount of driving that is left of the day's.
 
-ghost use Rattle.std.specs.Prelude.{◌≡◌, ◌<◌, ◌≤◌, ◌+◌, ◌≤ℤ◌, ◌-ℤ◌, ℤ, neg_ℤ, pos, length, IfOk, Some, slice_get};
+ghost use Rattle.std.specs.Prelude.{◌≡◌, ◌<◌, ◌≤◌, ◌+◌, ◌*◌, ◌≤ℤ◌, ◌+ℤ◌, ◌-ℤ◌, ℕ, ℤ, neg_ℤ, pos, length, cond, IfOk, Some, true, false, slice_get};
+ghost use Rattle.plan_core.specs.declared.types.Piece.{Piece};
 ghost use Rattle.cover_core.specs.FirstLeast.{AllWithin};
 ghost use Rattle.plan_params.specs.Limits.{IsGroup};
-ghost use Rattle.duty_pricing.specs.Bounds.{IsBound, IsBoundFrom, IsBounding, IsLowered};
+ghost use Rattle.duty_network.specs.Duties.{sign_off};
+ghost use Rattle.duty_network.specs.Ranges.{IsShift, off_value};
+ghost use Rattle.duty_pricing.specs.Bounds.{AreBelow, AreNumbered, AreOut, AreRows, AreStamped, IsBoundFrom, IsBoundRow, IsBounding, IsChain, IsFalling, IsLow, IsLoweredBy, IsReach, IsTail, IsTaken, cell_at, low_of, row_at, stamp_at, stamp_of};
 
 use crate::labels::price;
+use crate::reach::{Reach, in_units};
+use crate::rows::{Row, lower_row, raise, settle};
 use duty_network::DutyNet;
-use label_search::rest;
-use plan_core::{Memory, Price};
+use plan_core::{Memory, Piece, Price};
 use plan_params::Group;
 use std::alloc::Global;
 
 /// More than any ending adds.
 const OUT_OF_REACH: i64 = 7_000_000_000_000;
 
-/// The lower of two numbers.
-fn lower(a: i64, b: i64) -> i64
-    ensures first { result ≤ℤ a }
-    ensures second { result ≤ℤ b }
-    ensures least { (z : ℤ) → z ≤ℤ a → z ≤ℤ b → z ≤ℤ result }
+/// The sign-off of a duty that ends with a piece.
+fn off_time(net: &DutyNet<'_>, class: u32, group: &Group, item: u32) -> Option<i64>
+    requires class { slice_get net.now.params.groups class ≡ Some group.now }
+    requires ranges { IsGroup group.now }
+    requires item { item < length net.now.pieces }
+    ensures { (p : Piece) → slice_get net.now.pieces item ≡ Some p → result ≡ sign_off net.now group.now p }
 {
-    if a < b { a } else { b }
+    let way = net.to_home(class, item)?;
+    Some(net.piece(item).end.0 + way as i64 + group.sign_off as i64)
 }
 
-/// Lowers the number at a place to another one, where it is above.
-fn lower_at(rests: &mut Vec<i64>, place: u32, value: i64)
-    requires { place < length rests.old.items }
-    ensures { IsLowered rests.old.items rests.new.items place value }
+/// What ending behind a piece in time adds, or a number out of reach.
+fn ending(net: &DutyNet<'_>, class: u32, group: &Group, item: u32, until: i64) -> i64
+    requires class { slice_get net.now.params.groups class ≡ Some group.now }
+    requires ranges { IsGroup group.now }
+    requires item { item < length net.now.pieces }
+    ensures low { neg_ℤ (pos 7000000000000) ≤ℤ result }
+    ensures high { result ≤ℤ pos 7000000000000 }
+    ensures closes { (p : Piece) (off : ℤ) → slice_get net.now.pieces item ≡ Some p → sign_off net.now group.now p ≡ Some off → off ≤ℤ until → result ≤ℤ off_value net.now.counts group.now off }
 {
-    let least = lower(rest(rests.as_slice(), place), value);
-    rests[place as usize] = least;
+    match off_time(net, class, group, item) {
+        Some(off) if off <= until => match net.closing(class, group, item) {
+            Some(value) => value,
+            None => OUT_OF_REACH,
+        },
+        _ => OUT_OF_REACH,
+    }
 }
 
-/// A number less a price.
-fn less(rest: i64, price: i64) -> i64
-    requires rest_low { neg_ℤ (pos 100000000000000000) ≤ℤ rest }
-    requires rest_high { rest ≤ℤ pos 100000000000000000 }
-    requires price_low { neg_ℤ (pos 10000000000000) ≤ℤ price }
-    requires price_high { price ≤ℤ pos 10000000000000 }
-    ensures { result ≡ rest -ℤ price }
+/// Lowers a row to what going on with a piece adds, where that ends in time.
+fn lower_by_piece(
+    net: &DutyNet<'_>,
+    prices: &[Price],
+    reach: &Reach,
+    rows: &[Row],
+    row: &mut Row,
+    next: u32,
+)
+    requires reach { IsReach reach.now }
+    requires next { next < length net.now.pieces }
+    requires count { length rows.now ≡ length net.now.pieces }
+    requires prices { length prices.now ≡ length net.now.pieces }
+    requires moderate { AllWithin 10000000000000 prices.now }
+    requires few { length net.now.pieces ≤ 3000 }
+    requires low { IsLow (low_of next) (row_at rows.now next) }
+    requires high { (x : ℕ) → cell_at rows.now next x ≤ℤ pos 7000000000000 }
+    ensures { IsLoweredBy net.now prices.now reach.now rows.now next row.old row.new }
 {
-    rest - price
+    let piece = net.piece(next);
+    let taken = in_units(reach, piece.driving);
+    if piece.end.0 <= reach.until && taken < reach.width {
+        lower_row(
+            row,
+            &rows[next as usize],
+            taken,
+            reach.width,
+            price(prices, next),
+        );
+    }
 }
 
-/// Lowers the number of a piece to what going on with a later one adds, where there is a pause between them.
+/// Lowers a row to what going on with a piece adds, or with it and all later pieces of its number, which is then stamped.
+fn take_step(
+    net: &DutyNet<'_>,
+    prices: &[Price],
+    reach: &Reach,
+    numbers: &[u32],
+    rows: &[Row],
+    chain: &[Row],
+    met: &mut Vec<u32>,
+    row: &mut Row,
+    next: u32,
+    alone: bool,
+    stamp: u32,
+)
+    requires reach { IsReach reach.now }
+    requires next { next < length net.now.pieces }
+    requires prices { length prices.now ≡ length net.now.pieces }
+    requires moderate { AllWithin 10000000000000 prices.now }
+    requires few { length net.now.pieces ≤ 3000 }
+    requires numbers { AreNumbered (length net.now.pieces) numbers.now }
+    requires rows { AreRows (length net.now.pieces) next rows.now }
+    requires chain { IsChain net.now prices.now reach.now numbers.now rows.now next chain.now }
+    requires met { length met.old.items ≡ length net.now.pieces }
+    ensures { IsTaken net.now prices.now reach.now numbers.now rows.now next stamp met.old.items met.new.items row.old row.new }
+{
+    if alone {
+        lower_by_piece(net, prices, reach, rows, row, next);
+    } else {
+        lower_row(row, &chain[next as usize], 0, reach.width, 0);
+        met[numbers[next as usize] as usize] = stamp;
+    }
+}
+
+/// One of two tables.
+pub(crate) fn pick<'a>(first: bool, a: &'a [Row], b: &'a [Row]) -> &'a [Row]
+    ensures { result.now ≡ cond first a.now b.now }
+{
+    if first { a } else { b }
+}
+
+/// The stamp of a piece: whether all pieces of a number are looked at, or only those behind pauses that are not long.
+fn stamp(item: u32, all: bool) -> u32
+    requires { item < 3000 }
+    ensures { result ≡ stamp_of item all }
+{
+    if all { 2 * item + 1 } else { 2 * item }
+}
+
+/// Whether a piece follows another directly in one block.
+fn is_next(piece: &Piece, next: &Piece) -> bool
+    ensures { result ≡ true → piece.now.block ≡ next.now.block }
+{
+    piece.block == next.block && piece.index as u64 + 1 == next.index as u64
+}
+
+/// The time from the end of a piece to the begin of another, in seconds: below 0 where they overlap.
+fn gap(piece: &Piece, next: &Piece) -> i64
+    requires piece { IsShift piece.now }
+    requires next { IsShift next.now }
+    ensures { result ≡ next.now.begin.0 -ℤ piece.now.end.0 }
+{
+    next.begin.0 - piece.end.0
+}
+
+/// Lowers the row of a piece to what going on with a later one adds, where there is a pause between them and its number is not stamped.
 fn bound_step(
     net: &DutyNet<'_>,
     group: &Group,
     prices: &[Price],
-    rests: &mut Vec<i64>,
+    reach: &Reach,
+    long: u32,
+    last: i64,
+    numbers: &[u32],
+    rows: &[Row],
+    over: &[Row],
+    chain: &[Row],
+    over_chain: &[Row],
+    met: &mut Vec<u32>,
+    row: &mut Row,
     item: u32,
     next: u32,
 )
+    requires reach { IsReach reach.now }
     requires order { item < next }
     requires next { next < length net.now.pieces }
     requires few { length net.now.pieces ≤ 3000 }
     requires prices { length prices.now ≡ length net.now.pieces }
     requires moderate { AllWithin 10000000000000 prices.now }
-    requires so_far { IsBounding net.now prices.now group.now item next rests.old.items }
-    ensures { IsBounding net.now prices.now group.now item (next + 1) rests.new.items }
+    requires numbers { AreNumbered (length net.now.pieces) numbers.now }
+    requires rows { AreRows (length net.now.pieces) (item + 1) rows.now }
+    requires over { AreRows (length net.now.pieces) (item + 1) over.now }
+    requires below { AreBelow over.now rows.now }
+    requires chain { IsChain net.now prices.now reach.now numbers.now rows.now (item + 1) chain.now }
+    requires over_chain { IsChain net.now prices.now reach.now numbers.now over.now (item + 1) over_chain.now }
+    requires so_far { IsBounding net.now prices.now group.now reach.now long last numbers.now rows.now over.now item next met.old.items row.old }
+    ensures { IsBounding net.now prices.now group.now reach.now long last numbers.now rows.now over.now item (next + 1) met.new.items row.new }
 {
-    if net.pause(item, next).is_some() {
-        let value = less(rest(rests.as_slice(), next), price(prices, next));
-        lower_at(rests, item, value);
+    let number = numbers[next as usize] as usize;
+    let stamped = met[number];
+    let full = stamp(item, true);
+    if stamped == full {
+        return;
+    }
+    let piece = net.piece(item);
+    let later = net.piece(next);
+    let between = gap(piece, later);
+    if between < 0 {
+        return;
+    }
+    let half = stamp(item, false);
+    if stamped == half && between < long as i64 {
+        return;
+    }
+    match net.pause(item, next) {
+        None => {}
+        Some(time) => {
+            let all = time >= long;
+            let table = pick(all, over, rows);
+            let links = pick(all, over_chain, chain);
+            let mark = stamp(item, all);
+            let alone = is_next(piece, later);
+            take_step(
+                net, prices, reach, numbers, table, links, met, row, next, alone, mark,
+            );
+        }
     }
 }
 
-/// Lowers the number of a piece to what ending behind it adds, where the way home is there.
-fn bound_end(
+/// The row of a piece, where those of the later pieces are bounds.
+fn bound_row(
     net: &DutyNet<'_>,
     class: u32,
     group: &Group,
     prices: &[Price],
-    rests: &mut Vec<i64>,
+    reach: &Reach,
+    long: u32,
+    last: i64,
+    numbers: &[u32],
+    rows: &[Row],
+    over: &[Row],
+    chain: &[Row],
+    over_chain: &[Row],
+    met: &mut Vec<u32>,
     item: u32,
-)
+) -> Row
     requires class { slice_get net.now.params.groups class ≡ Some group.now }
     requires ranges { IsGroup group.now }
-    requires item { item < length net.now.pieces }
-    requires few { length net.now.pieces ≤ 3000 }
-    requires later { IsBoundFrom net.now prices.now group.now (item + 1) rests.old.items }
-    ensures { IsBounding net.now prices.now group.now item (item + 1) rests.new.items }
-{
-    if let Some(value) = net.closing(class, group, item) {
-        lower_at(rests, item, value);
-    }
-}
-
-/// Makes the number of a piece a bound, where those of the later pieces are.
-fn bound_item(
-    net: &DutyNet<'_>,
-    class: u32,
-    group: &Group,
-    prices: &[Price],
-    rests: &mut Vec<i64>,
-    item: u32,
-)
-    requires class { slice_get net.now.params.groups class ≡ Some group.now }
-    requires ranges { IsGroup group.now }
+    requires reach { IsReach reach.now }
     requires item { item < length net.now.pieces }
     requires prices { length prices.now ≡ length net.now.pieces }
     requires moderate { AllWithin 10000000000000 prices.now }
-    requires later { IsBoundFrom net.now prices.now group.now (item + 1) rests.old.items }
-    ensures { IsBoundFrom net.now prices.now group.now item rests.new.items }
+    requires numbers { AreNumbered (length net.now.pieces) numbers.now }
+    requires rows { AreRows (length net.now.pieces) (item + 1) rows.now }
+    requires over { AreRows (length net.now.pieces) (item + 1) over.now }
+    requires below { AreBelow over.now rows.now }
+    requires chain { IsChain net.now prices.now reach.now numbers.now rows.now (item + 1) chain.now }
+    requires over_chain { IsChain net.now prices.now reach.now numbers.now over.now (item + 1) over_chain.now }
+    requires met { AreStamped (length net.now.pieces) (item + 1) met.old.items }
+    ensures row { IsBoundRow net.now prices.now group.now reach.now long last rows.now over.now item result }
+    ensures falling { IsFalling result }
+    ensures low { IsLow (low_of item) result }
+    ensures met { AreStamped (length net.now.pieces) item met.new.items }
 {
     net.fits();
-    bound_end(net, class, group, prices, rests, item);
+    let mut row = [ending(net, class, group, item, last); 16];
     for next in item + 1..net.pieces().len() as u32 {
-        bound_step(net, group, prices, rests, item, next);
+        bound_step(
+            net, group, prices, reach, long, last, numbers, rows, over, chain, over_chain, met,
+            &mut row, item, next,
+        );
     }
+    settle(&mut row);
+    row
 }
 
-/// For each piece what the rest of a list behind it adds to its value at least, in thousandths of a cost unit: the least over ending there
-/// and over going on with each later piece after a pause, the prices of these taken off. Article 7 and the other limits are left out.
-/// `Memory` is the only error.
+/// The row of a piece in the chain of its number, which goes from the last piece back.
+fn chain_row(
+    net: &DutyNet<'_>,
+    prices: &[Price],
+    reach: &Reach,
+    numbers: &[u32],
+    rows: &[Row],
+    tail: &mut Vec<Row>,
+    item: u32,
+) -> Row
+    requires reach { IsReach reach.now }
+    requires item { item < length net.now.pieces }
+    requires prices { length prices.now ≡ length net.now.pieces }
+    requires moderate { AllWithin 10000000000000 prices.now }
+    requires few { length net.now.pieces ≤ 3000 }
+    requires numbers { AreNumbered (length net.now.pieces) numbers.now }
+    requires rows { AreRows (length net.now.pieces) item rows.now }
+    requires tail { IsTail net.now prices.now reach.now numbers.now rows.now (item + 1) tail.old.items }
+    ensures tail { IsTail net.now prices.now reach.now numbers.now rows.now item tail.new.items }
+    ensures row { result ≡ row_at tail.new.items (stamp_at numbers.now item) }
+{
+    let number = numbers[item as usize] as usize;
+    let mut row = tail[number];
+    lower_by_piece(net, prices, reach, rows, &mut row, item);
+    tail[number] = row;
+    row
+}
+
+/// Rows that are out of reach.
+fn out_of_reach(alloc: Global, count: usize) -> Result<Vec<Row>, Memory>
+    ensures { IfOk result (λ rows. AreOut count rows.items) }
+{
+    let mut rows = Vec::new(alloc);
+    rows.reserve(count)?;
+    for _ in 0..count {
+        rows.push([OUT_OF_REACH; 16])?;
+    }
+    Ok(rows)
+}
+
+/// No number is stamped.
+fn unstamped(alloc: Global, count: usize) -> Result<Vec<u32>, Memory>
+    requires { count ≤ 3000 }
+    ensures { IfOk result (λ met. AreStamped count count met.items) }
+{
+    let mut met = Vec::new(alloc);
+    met.reserve(count)?;
+    for _ in 0..count {
+        met.push(6_000)?;
+    }
+    Ok(met)
+}
+
+/// The rows of pieces, and for each piece the least of what going on with it or with a later piece of its number adds.
+#[derive(Drop)]
+pub(crate) struct Table {
+    pub rows: Vec<Row>,
+    pub chain: Vec<Row>,
+}
+
+/// For each piece from a first one on, and for each amount of driving left, what the rest of a list behind it that has had a long pause
+/// adds to its value at least, in thousandths of a cost unit: the least over ending there and over going on with each later piece after a
+/// pause, the prices of these taken off. Article 7 and the other limits are left out. `Memory` is the only error.
+///
+/// Pieces are numbered, those that begin at one point alike. Behind the first piece of a number to which there is a pause the later ones of
+/// that number are looked at together, by its row in the chain: whether there is a pause to each of them does not matter, since a bound may
+/// only be too low. So most time goes into a few pieces of each number.
+pub(crate) fn bounds_over(
+    alloc: Global,
+    net: &DutyNet<'_>,
+    class: u32,
+    group: &Group,
+    prices: &[Price],
+    reach: &Reach,
+    numbers: &[u32],
+    first: usize,
+) -> Result<Table, Memory>
+    requires class { slice_get net.now.params.groups class ≡ Some group.now }
+    requires ranges { IsGroup group.now }
+    requires reach { IsReach reach.now }
+    requires prices { length prices.now ≡ length net.now.pieces }
+    requires moderate { AllWithin 10000000000000 prices.now }
+    requires numbers { AreNumbered (length net.now.pieces) numbers.now }
+    ensures rows { IfOk result (λ table. IsBoundFrom net.now prices.now group.now reach.now 0 reach.now.until first table.rows.items table.rows.items) }
+    ensures chain { IfOk result (λ table. IsChain net.now prices.now reach.now numbers.now table.rows.items first table.chain.items) }
+{
+    net.fits();
+    let count = net.pieces().len();
+    let mut rows = out_of_reach(alloc, count)?;
+    let mut chain = out_of_reach(alloc, count)?;
+    let mut tail = out_of_reach(alloc, count)?;
+    let mut met = unstamped(alloc, count)?;
+    let mut item = count;
+    while item > first {
+        item -= 1;
+        let so_far = rows.as_slice();
+        let links = chain.as_slice();
+        let row = bound_row(
+            net,
+            class,
+            group,
+            prices,
+            reach,
+            0,
+            reach.until,
+            numbers,
+            so_far,
+            so_far,
+            links,
+            links,
+            &mut met,
+            item as u32,
+        );
+        rows[item] = row;
+        let now = rows.as_slice();
+        let link = chain_row(net, prices, reach, numbers, now, &mut tail, item as u32);
+        chain[item] = link;
+    }
+    Ok(Table { rows, chain })
+}
+
+/// The same of lists that have had no long pause: they end by `last`, or have one that is still to come.
 pub(crate) fn bounds(
     alloc: Global,
     net: &DutyNet<'_>,
     class: u32,
     group: &Group,
     prices: &[Price],
-) -> Result<Vec<i64>, Memory>
+    reach: &Reach,
+    last: i64,
+    numbers: &[u32],
+    over: &Table,
+    first: usize,
+) -> Result<Vec<Row>, Memory>
     requires class { slice_get net.now.params.groups class ≡ Some group.now }
     requires ranges { IsGroup group.now }
+    requires reach { IsReach reach.now }
     requires prices { length prices.now ≡ length net.now.pieces }
     requires moderate { AllWithin 10000000000000 prices.now }
-    ensures { IfOk result (λ rests. IsBound net.now prices.now group.now rests.items) }
+    requires numbers { AreNumbered (length net.now.pieces) numbers.now }
+    requires in_time { last ≤ℤ reach.now.until }
+    requires over { IsBoundFrom net.now prices.now group.now reach.now 0 reach.now.until first over.now.rows.items over.now.rows.items }
+    requires over_chain { IsChain net.now prices.now reach.now numbers.now over.now.rows.items first over.now.chain.items }
+    ensures rows { IfOk result (λ rows. IsBoundFrom net.now prices.now group.now reach.now 10800 last first rows.items over.now.rows.items) }
+    ensures below { IfOk result (λ rows. AreBelow over.now.rows.items rows.items) }
 {
     net.fits();
     let count = net.pieces().len();
-    let mut rests = vec![in alloc; OUT_OF_REACH; count]?;
-    let mut item = count as u32;
-    while item > 0 {
+    let mut rows = out_of_reach(alloc, count)?;
+    let mut chain = out_of_reach(alloc, count)?;
+    let mut tail = out_of_reach(alloc, count)?;
+    let mut met = unstamped(alloc, count)?;
+    let mut item = count;
+    while item > first {
         item -= 1;
-        bound_item(net, class, group, prices, &mut rests, item);
+        let so_far = rows.as_slice();
+        let links = chain.as_slice();
+        let above = over.rows.as_slice();
+        let above_links = over.chain.as_slice();
+        let mut row = bound_row(
+            net,
+            class,
+            group,
+            prices,
+            reach,
+            10_800,
+            last,
+            numbers,
+            so_far,
+            above,
+            links,
+            above_links,
+            &mut met,
+            item as u32,
+        );
+        raise(&mut row, &over.rows[item]);
+        rows[item] = row;
+        let now = rows.as_slice();
+        let link = chain_row(net, prices, reach, numbers, now, &mut tail, item as u32);
+        chain[item] = link;
     }
-    Ok(rests)
+    Ok(rows)
 }

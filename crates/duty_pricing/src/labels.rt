@@ -1,37 +1,52 @@
 //! The marks of a group of lists as labels.
 
-ghost use Rattle.std.specs.Prelude.{◌≡◌, ◌<◌, ◌≤◌, ◌≤ℤ◌, ◌<ℤ◌, ◌+ℤ◌, ◌-ℤ◌, neg_ℤ, pos, length, cond, int_le, int_lt, IfSome, Some, None, true, not, ◌||◌, slice_get};
+ghost use Rattle.std.specs.Prelude.{◌≡◌, ◌<◌, ◌≤◌, ◌*◌, ◌≤ℤ◌, ◌<ℤ◌, ◌+ℤ◌, ◌-ℤ◌, neg_ℤ, pos, length, cond, int_le, int_lt, IfSome, Some, None, true, not, ◌||◌, slice_get};
 ghost use Rattle.cover_core.specs.FirstLeast.{AllWithin};
-ghost use Rattle.cover_core.specs.Plans.{number_at, price_at};
+ghost use Rattle.cover_core.specs.Plans.{price_at};
 ghost use Rattle.label_search.specs.Limits.{is_low, passed};
 ghost use Rattle.plan_params.specs.Limits.{IsGroup};
-ghost use Rattle.duty_network.specs.Duties.{pause_at};
-ghost use Rattle.duty_network.specs.Marks.{closed_value, floor_of, is_as_good};
-ghost use Rattle.duty_network.specs.Ranges.{MarkFits, NetFits};
-ghost use Rattle.duty_pricing.specs.Bounds.{AllWithin-prop, IsBound};
+ghost use Rattle.duty_network.specs.Duties.{limits_of, pause_at};
+ghost use Rattle.duty_network.specs.Marks.{closed_value, extended_mark, is_as_good};
+ghost use Rattle.duty_network.specs.Ranges.{NetFits};
+ghost use Rattle.duty_pricing.specs.Bounds.{AllWithin-prop, AreBounds, IsGroupMark, IsLatest, IsReach, cell_at, floor_of, units_left as left_of};
 ghost use Rattle.duty_pricing.specs.Laws.{duty-hides, duty-kept, duty-safe, duty-stepwise, duty-valued, duty_labels};
 
+use crate::bounds::pick;
+use crate::reach::{Reach, in_units, units_left};
+use crate::rows::{Row, cell};
 use cover_core::Mark;
 use duty_network::DutyNet;
-use label_search::{Labels, rest};
+use label_search::Labels;
 use plan_core::Price;
 use plan_params::Group;
 
-/// The marks of the lists of a class whose first item is in a group, with a completion bound for each piece.
+/// The marks of the lists of a class whose first item is in a group, with completion bounds for each piece of the group and behind it.
 #[derive(Drop)]
 pub(crate) struct DutyLabels<'a, 'p> {
     pub net: &'a DutyNet<'p>,
     pub class: u32,
     pub crew: Group,
+    /// The most driving of a day of the group, in seconds.
+    pub day: u32,
     pub prices: &'a [Price],
-    pub rests: &'a [i64],
+    pub reach: Reach,
+    /// Of lists without a long pause so far.
+    pub rows: &'a [Row],
+    /// Of lists with a long pause.
+    pub over: &'a [Row],
     pub group: u32,
+    /// No list of the group signs on later.
+    pub latest: i64,
     ghost fits: { NetFits net.now },
     ghost of_class: { slice_get net.now.params.groups class ≡ Some crew },
     ghost ranges: { IsGroup crew },
+    ghost of_day: { day ≡ (limits_of crew).day },
     ghost count: { length prices.now ≡ length net.now.pieces },
     ghost moderate: { AllWithin 10000000000000 prices.now } by { AllWithin-prop 10000000000000 prices.now },
-    ghost bound: { IsBound net.now prices.now crew rests.now },
+    ghost in_reach: { IsReach reach },
+    ghost starts: { IsLatest net.now prices.now class crew group latest },
+    ghost ends: { reach.until ≡ latest +ℤ pos 54000 },
+    ghost bound: { AreBounds net.now prices.now crew reach latest (16 * group) rows.now over.now },
 }
 
 /// The price of a piece.
@@ -103,27 +118,62 @@ fn is_better(a: &Mark, b: &Mark) -> bool
 }
 
 impl DutyLabels<'_, '_> {
+    /// How many units of driving are left of a day's.
+    fn left(&self, total: u32) -> u32
+        ensures value { result ≡ left_of self.now.reach self.now.crew total }
+        ensures few { result < 16 }
+    {
+        units_left(&self.reach, self.day, total)
+    }
+
+    /// What the rest of a mark's list adds to its value at least.
+    pub(crate) fn rest(&self, mark: &Mark) -> i64
+        requires { IsGroupMark (length self.now.net.now.pieces) self.now.group self.now.latest mark.now }
+        ensures value { result ≡ cell_at (cond mark.now.three self.now.over.now self.now.rows.now) mark.now.piece (left_of self.now.reach self.now.crew mark.now.total) }
+        ensures low { neg_ℤ (pos 30000000000000000) ≤ℤ result }
+        ensures high { result ≤ℤ pos 7000000000000 }
+    {
+        cell(
+            pick(mark.three, self.over, self.rows),
+            mark.piece,
+            self.left(mark.total),
+        )
+    }
+
     /// A mark that may still close within the limit.
     fn within(&self, mark: Option<Mark>, limit: i64) -> Option<Mark>
-        requires { IfSome mark (MarkFits (length self.now.net.now.pieces)) }
-        ensures { result ≡ passed (is_low (floor_of self.now.rests.now) limit) mark }
+        requires { IfSome mark (IsGroupMark (length self.now.net.now.pieces) self.now.group self.now.latest) }
+        ensures { result ≡ passed (is_low (floor_of self.now.reach self.now.crew self.now.rows.now self.now.over.now) limit) mark }
     {
         let found = mark?;
-        let rest = rest(self.rests, found.piece);
+        let rest = self.rest(&found);
         passing(is_low_enough(found.value, rest, limit), found)
     }
 
-    /// Whether a list with a value of at least this one is above the limit once it goes on with an item.
-    fn is_too_high(&self, least: i64, item: u32, limit: i64) -> bool
-        requires { item < length self.now.net.now.pieces }
-        ensures { result ≡ int_lt limit ((least -ℤ price_at self.now.prices.now item) +ℤ number_at self.now.rests.now item) }
+    /// Whether a list with a value of at least this one is above the limit once it goes on with an item and has so many units of driving
+    /// left behind it.
+    fn is_too_high(&self, least: i64, item: u32, left: u32, limit: i64) -> bool
+        requires item { item < length self.now.net.now.pieces }
+        requires left { left < 16 }
+        ensures { result ≡ int_lt limit ((least -ℤ price_at self.now.prices.now item) +ℤ cell_at self.now.over.now item left) }
     {
         is_above(
             least,
             price(self.prices, item),
-            rest(self.rests, item),
+            cell(self.over, item, left),
             limit,
         )
+    }
+
+    /// Whether a mark cannot go on with an item: too little driving is left, or it is above the limit then.
+    fn is_over(&self, mark: &Mark, item: u32, limit: i64) -> bool
+        requires item { item < length self.now.net.now.pieces }
+        requires sound { IsGroupMark (length self.now.net.now.pieces) self.now.group self.now.latest mark.now }
+        ensures { result ≡ true → passed (is_low (floor_of self.now.reach self.now.crew self.now.rows.now self.now.over.now) limit) (extended_mark self.now.net.now self.now.crew self.now.prices.now mark.now item) ≡ None }
+    {
+        let left = self.left(mark.total);
+        let taken = in_units(&self.reach, self.net.piece(item).driving);
+        taken > left || self.is_too_high(mark.value, item, left - taken, limit)
     }
 
     /// Whether there is no pause between two items.
@@ -150,9 +200,9 @@ impl Labels for DutyLabels<'_, '_> {
 
     ghost last = { λ s m. m.piece };
 
-    ghost sound = { λ s. MarkFits (length s.net.now.pieces) };
+    ghost sound = { λ s. IsGroupMark (length s.net.now.pieces) s.group s.latest };
 
-    ghost may_close = { λ s. is_low (floor_of s.rests.now) };
+    ghost may_close = { λ s. is_low (floor_of s.reach s.crew s.rows.now s.over.now) };
 
     ghost kept = { λ s. duty-kept s.net.now s.prices.now s.class s.crew s.group };
 
@@ -160,9 +210,9 @@ impl Labels for DutyLabels<'_, '_> {
 
     ghost stepwise = { λ s. duty-stepwise s.net.now s.prices.now s.class s.crew s.group };
 
-    ghost safe = { λ s. duty-safe s.net.now s.prices.now s.class s.crew s.group s.fits s.ranges s.moderate };
+    ghost safe = { λ s. duty-safe s.net.now s.prices.now s.class s.crew s.group s.latest s.fits s.ranges s.moderate s.starts };
 
-    ghost hides_none = { λ s. duty-hides s.net.now s.prices.now s.class s.crew s.group s.rests.now s.bound };
+    ghost hides_none = { λ s. duty-hides s.net.now s.prices.now s.class s.crew s.group s.reach s.latest s.rows.now s.over.now s.in_reach s.ends s.bound };
 
     fn items(&self) -> u32 {
         self.net.pieces().len() as u32
@@ -180,18 +230,18 @@ impl Labels for DutyLabels<'_, '_> {
     }
 
     fn extend(&self, label: &Mark, item: u32, limit: i64) -> Option<Mark> {
-        if self.is_too_high(label.value, item, limit) {
+        if self.is_over(label, item, limit) {
             return None;
         }
         self.within(self.net.next(&self.crew, self.prices, label, item), limit)
     }
 
     fn may_reach(&self, least: i64, item: u32, limit: i64) -> bool {
-        !self.is_too_high(least, item, limit)
+        !self.is_too_high(least, item, 15, limit)
     }
 
     fn may_follow(&self, before: u32, least: i64, item: u32, limit: i64) -> bool {
-        !self.is_too_high(least, item, limit) && !self.is_cut_off(before, item)
+        !self.is_too_high(least, item, 15, limit) && !self.is_cut_off(before, item)
     }
 
     fn value(&self, label: &Mark) -> i64 {

@@ -5,7 +5,10 @@
 mod bounds;
 mod labels;
 mod likely;
+mod numbering;
 mod pricer;
+mod reach;
+mod rows;
 #[cfg(test)]
 mod tests;
 

@@ -1,11 +1,11 @@
 //! Limits under which the first least list is likely to be found: they change the time of a search alone.
 
 ghost use Rattle.std.specs.Prelude.{IfSome, length};
-ghost use Rattle.duty_network.specs.Ranges.{MarkFits};
+ghost use Rattle.duty_pricing.specs.Bounds.{IsGroupMark};
 
 use crate::labels::DutyLabels;
 use cover_core::Mark;
-use label_search::{Labels, rest};
+use label_search::Labels;
 
 /// The lower of two numbers.
 fn lower(a: i64, b: i64) -> i64 {
@@ -20,16 +20,16 @@ fn part_way(from: i64, to: i64, percent: i64) -> i64 {
 impl DutyLabels<'_, '_> {
     /// What a list closes with at least.
     fn floor(&self, mark: &Mark) -> i64
-        requires { MarkFits (length self.now.net.now.pieces) mark.now }
+        requires { IsGroupMark (length self.now.net.now.pieces) self.now.group self.now.latest mark.now }
     {
-        mark.value + rest(self.rests, mark.piece)
+        mark.value + self.rest(mark)
     }
 
     /// The lower of two marks by what their lists close with at least.
     fn lower_mark(&self, best: Option<Mark>, next: Option<Mark>) -> Option<Mark>
-        requires best { IfSome best (MarkFits (length self.now.net.now.pieces)) }
-        requires next { IfSome next (MarkFits (length self.now.net.now.pieces)) }
-        ensures { IfSome result (MarkFits (length self.now.net.now.pieces)) }
+        requires best { IfSome best (IsGroupMark (length self.now.net.now.pieces) self.now.group self.now.latest) }
+        requires next { IfSome next (IsGroupMark (length self.now.net.now.pieces) self.now.group self.now.latest) }
+        ensures { IfSome result (IsGroupMark (length self.now.net.now.pieces) self.now.group self.now.latest) }
     {
         match (best, next) {
             (best, None) => best,
@@ -46,11 +46,11 @@ impl DutyLabels<'_, '_> {
 
     /// Of the extensions of a mark within a limit the one that closes with the least at least.
     fn dive_step(&self, mark: &Mark, limit: i64) -> Option<Mark>
-        requires { MarkFits (length self.now.net.now.pieces) mark.now }
-        ensures { IfSome result (MarkFits (length self.now.net.now.pieces)) }
+        requires { IsGroupMark (length self.now.net.now.pieces) self.now.group self.now.latest mark.now }
+        ensures { IfSome result (IsGroupMark (length self.now.net.now.pieces) self.now.group self.now.latest) }
     {
         let mut best = None;
-        for item in 0..self.items() {
+        for item in mark.piece + 1..self.items() {
             best = self.lower_mark(best, self.extend(mark, item, limit));
         }
         best
@@ -58,7 +58,7 @@ impl DutyLabels<'_, '_> {
 
     /// The least value with which some of the lists that a dive from a mark goes through close, or the limit.
     fn dive(&self, first: Mark, limit: i64) -> i64
-        requires { MarkFits (length self.now.net.now.pieces) first }
+        requires { IsGroupMark (length self.now.net.now.pieces) self.now.group self.now.latest first }
     {
         let mut mark = first;
         let mut least = limit;
@@ -74,20 +74,42 @@ impl DutyLabels<'_, '_> {
         least
     }
 
-    /// Limits to be tried before this one: 60 and 80 percent of the way from the least floor to the value that dives find, and that value.
-    pub(crate) fn likely(&self, limit: i64) -> [i64; 3] {
-        let mut least = limit;
-        let mut floor = limit;
+    /// Of the marks of lists of one piece within a limit the one that closes with the least at least.
+    pub(crate) fn first_mark(&self, limit: i64) -> Option<Mark>
+        ensures { IfSome result (IsGroupMark (length self.now.net.now.pieces) self.now.group self.now.latest) }
+    {
+        let mut best = None;
         for item in 0..self.items() {
-            if let Some(mark) = self.start(item, limit) {
-                floor = lower(floor, self.floor(&mark));
+            best = self.lower_mark(best, self.start(item, limit));
+        }
+        best
+    }
+
+    /// The least value with which some of the lists close that dives from the pieces of the group go through, or the limit.
+    fn dive_all(&self, limit: i64) -> i64 {
+        let mut least = limit;
+        for item in 0..self.items() {
+            if let Some(mark) = self.start(item, least) {
                 least = lower(least, self.dive(mark, least));
             }
         }
-        [
-            part_way(floor, least, 60),
-            part_way(floor, least, 80),
-            least,
-        ]
+        least
+    }
+
+    /// Limits to be tried before this one: parts of the way from the least floor to the value that dives find, and that value. A search
+    /// under a limit that is a little too high takes far longer than several under limits that are too low.
+    pub(crate) fn likely(&self, limit: i64) -> [i64; 3] {
+        match self.first_mark(limit) {
+            None => [limit; 3],
+            Some(mark) => {
+                let floor = self.floor(&mark);
+                let least = self.dive_all(limit);
+                [
+                    part_way(floor, least, 60),
+                    part_way(floor, least, 80),
+                    least,
+                ]
+            }
+        }
     }
 }

@@ -151,6 +151,47 @@ fn pieces(alloc: Global) -> Result<Vec<Piece>, Memory> {
     Ok(vec![in alloc; first, other, next]?)
 }
 
+/// The same with the two later pieces in the evening: a duty over the first and one of them is lawful by its long pause alone.
+fn late_pieces(alloc: Global) -> Result<Vec<Piece>, Memory> {
+    let first = Piece {
+        block: 1,
+        index: 1,
+        from: DEPOT,
+        begin: Sec(28_200),
+        to: STOP,
+        end: Sec(32_400),
+        driving: 4_200,
+    };
+    let other = Piece {
+        block: 2,
+        index: 1,
+        from: STOP,
+        begin: Sec(74_900),
+        to: DEPOT,
+        end: Sec(78_500),
+        driving: 3_600,
+    };
+    let next = Piece {
+        block: 1,
+        index: 2,
+        from: STOP,
+        begin: Sec(75_000),
+        to: DEPOT,
+        end: Sec(79_200),
+        driving: 4_200,
+    };
+    Ok(vec![in alloc; first, other, next]?)
+}
+
+/// The pieces of a day.
+fn pieces_of(alloc: Global, late: bool) -> Result<Vec<Piece>, Memory> {
+    if late {
+        late_pieces(alloc)
+    } else {
+        pieces(alloc)
+    }
+}
+
 /// The prices of three pieces.
 fn prices_of(alloc: Global, prices: [u32; 3]) -> Result<Prices, Memory>
     ensures three { IfOk result (λ prices. length prices.items ≡ 3) }
@@ -264,6 +305,7 @@ fn crosses<T: Send + Sync>(_value: &T) {}
 fn agrees(
     alloc: Global,
     params: &Params,
+    late: bool,
     worth: Worth,
     prices: [u32; 3],
     least: i64,
@@ -271,7 +313,7 @@ fn agrees(
 ) -> Result<bool, Fail>
     requires { HaveRanges params.now }
 {
-    let pieces = Seq::from_vec(pieces(alloc)?);
+    let pieces = Seq::from_vec(pieces_of(alloc, late)?);
     if !are_shifts(pieces.as_slice()) || pieces.len() > 3_000 {
         return Ok(false);
     }
@@ -292,13 +334,20 @@ fn agrees(
 fn the_best_duty_is_the_first_least(rt: HostRuntime) -> Result<(), Fail> {
     let params = settings(rt.alloc(), SETTINGS)?;
     let cases = [
-        (Worth::Cost, [5_200_001, 0, 5_200_000], -1, 4),
-        (Worth::Cost, [5_000_000, 5_000_000, 5_700_000], -300_000, 2),
-        (Worth::Count, [600, 500, 500], -100, 2),
-        (Worth::Count, [0, 1_001, 0], -1, 1),
+        (false, Worth::Cost, [5_200_001, 0, 5_200_000], -1, 4),
+        (
+            false,
+            Worth::Cost,
+            [5_000_000, 5_000_000, 5_700_000],
+            -300_000,
+            2,
+        ),
+        (false, Worth::Count, [600, 500, 500], -100, 2),
+        (true, Worth::Count, [600, 500, 500], -100, 2),
+        (false, Worth::Count, [0, 1_001, 0], -1, 1),
     ];
-    for (worth, prices, least, place) in cases {
-        assert!(rt; agrees(rt.alloc(), &params, worth, prices, least, place)?);
+    for (late, worth, prices, least, place) in cases {
+        assert!(rt; agrees(rt.alloc(), &params, late, worth, prices, least, place)?);
     }
     Ok(())
 }

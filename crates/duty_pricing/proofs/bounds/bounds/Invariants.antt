@@ -1,12 +1,16 @@
 use Rattle.std.proofs.Common.{◌≤◌, length}
-use Rattle.duty_pricing.specs.Bounds.{IsBoundFrom}
+use Rattle.duty_pricing.specs.Bounds.{AreBelow, AreStamped, IsBoundFrom, IsChain, IsTail}
 use Rattle.duty_pricing.proofs.bounds.bounds.Given as goal
 
--- the numbers of the pieces from this one on are bounds
+-- the rows of the pieces from this one on are bounds
 abbrev pub invariant-loop-item : goal.invariant-loop-item
 invariant-loop-item l = record {
   within : l.item ≤ length l.net.pieces;
-  so_far : IsBoundFrom l.net l.prices l.group l.item l.rests.items;
+  rows : IsBoundFrom l.net l.prices l.group l.reach 10800 l.last l.item l.rows.items l.over.rows.items;
+  chain : IsChain l.net l.prices l.reach l.numbers l.rows.items l.item l.chain.items;
+  tail : IsTail l.net l.prices l.reach l.numbers l.rows.items l.item l.tail.items;
+  met : AreStamped (length l.net.pieces) l.item l.met.items;
+  below : AreBelow l.over.rows.items l.rows.items;
 }
 
 abbrev pub decreases-loop-item : goal.decreases-loop-item

@@ -1,24 +1,18 @@
-use Rattle.std.proofs.Common.{◌∙◌, ◌≡◌, ◌≤ℤ◌, true, sym, arith, rules, length, w64}
+use Rattle.std.proofs.Common.{◌∙◌, sym, length, rules, w64}
+use Rattle.std.proofs.lemmas.Int.{to_z-of_z}
 use Rattle.std.specs.Prelude.{FitsSigned}
-use Rattle.std.proofs.lemmas.Int.{ints}
-use Rattle.duty_network.specs.Ranges.{MarkFits}
-use Rattle.duty_network.proofs.Sizes.{marking-safe}
-use Rattle.duty_pricing.specs.Laws.{none-reaches}
-use Rattle.duty_pricing.proofs.Rests.{if-some, too-high}
+use Rattle.duty_pricing.specs.Bounds.{IsGroupMark}
+use Rattle.duty_pricing.specs.Laws.{duty-safe}
+use Rattle.duty_pricing.proofs.Checks.{if-some}
 use Rattle.duty_pricing.proofs.labels.DutyLabelsLabels.extend.Goals as goal
 
-pub returns-then-is_too_high : goal.returns-then-is_too_high
-returns-then-is_too_high c =
-    let s = c.args.self.now in
-    let value = c.args.label.now.value in
-    let same : value ≤ℤ value = omega (arith, ints) in
+pub returns-then-is_over : goal.returns-then-is_over
+returns-then-is_over c =
     let limit_fits : FitsSigned w64 c.args.limit = search rules in
-    let value_fits : FitsSigned w64 value = search rules in
-    let high = too-high c.is_too_high.result c.args.limit value _ _ limit_fits value_fits c.is_too_high.ensures c.if-is_too_high.true in
-    sym (none-reaches s.net.now s.prices.now s.class s.crew s.group s.rests.now c.args.limit value c.args.item high c.args.label.now c.requires.sound same)
+    sym (rw (to_z-of_z w64 _ limit_fits) at (c.is_over.ensures c.if-is_over.true))
 
 pub within-requires : goal.within-requires
 within-requires c =
     let s = c.args.self.now in
-    let safe = marking-safe s.net.now s.prices.now s.class s.crew s.fits s.ranges s.moderate in
-    if-some (MarkFits (length s.net.now.pieces)) c.next.result (λ a e. safe.steps c.args.label.now a c.args.item c.requires.sound (sym c.next.ensures ∙ e))
+    let safe = duty-safe s.net.now s.prices.now s.class s.crew s.group s.latest s.fits s.ranges s.moderate s.starts in
+    if-some (IsGroupMark (length s.net.now.pieces) s.group s.latest) c.next.result (λ a e. safe.steps c.args.label.now a c.args.item c.requires.sound (sym c.next.ensures ∙ e))

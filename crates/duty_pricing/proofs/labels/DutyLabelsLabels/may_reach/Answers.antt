@@ -1,7 +1,7 @@
 use Rattle.std.proofs.Common.{◌≡◌, true, rules, w64}
 use Rattle.std.specs.Prelude.{FitsSigned}
 use Rattle.duty_pricing.specs.Laws.{none-reaches}
-use Rattle.duty_pricing.proofs.Rests.{not-false, too-high}
+use Rattle.duty_pricing.proofs.Checks.{not-false, too-high}
 use Rattle.duty_pricing.proofs.labels.DutyLabelsLabels.may_reach.Goals as goal
 
 pub returns : goal.returns
@@ -10,5 +10,5 @@ returns c = λ no.
     let high : c.is_too_high.result ≡ true = not-false c.is_too_high.result no in
     let limit_fits : FitsSigned w64 c.args.limit = search rules in
     let least_fits : FitsSigned w64 c.args.least = search rules in
-    none-reaches s.net.now s.prices.now s.class s.crew s.group s.rests.now c.args.limit c.args.least c.args.item
+    none-reaches s.net.now s.prices.now s.class s.crew s.group s.reach s.latest s.rows.now s.over.now c.args.limit c.args.least c.args.item s.in_reach s.bound
     (too-high c.is_too_high.result c.args.limit c.args.least _ _ limit_fits least_fits c.is_too_high.ensures high)

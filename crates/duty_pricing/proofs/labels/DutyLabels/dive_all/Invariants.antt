@@ -1,4 +1,4 @@
-use Rattle.duty_pricing.proofs.labels.DutyLabels.likely.Given as goal
+use Rattle.duty_pricing.proofs.labels.DutyLabels.dive_all.Given as goal
 
 -- nothing has to last
 abbrev pub invariant-loop-item : goal.invariant-loop-item

@@ -1,0 +1,18 @@
+use Rattle.std.proofs.Common.{arith, pos, get_or, rules, w64}
+use Rattle.std.proofs.lemmas.Int.{to_z-of_z}
+use Rattle.std.specs.Prelude.{FitsSigned}
+use Rattle.duty_pricing.proofs.Lowering.{lifted-of, number-get}
+use Rattle.duty_pricing.proofs.rows.raise_at.Goals as goal
+
+pub returns : goal.returns
+returns c =
+    let old = c.args.row.now in
+    let most_fits : FitsSigned w64 c.greater-most.result = search rules in
+    let value_fits : FitsSigned w64 c.args.value = search rules in
+    let vz = to_z-of_z w64 c.args.value value_fits in
+    let here_fits : FitsSigned w64 (get_or old c.args.place (pos 0)) = search rules in
+    let hz = to_z-of_z w64 (get_or old c.args.place (pos 0)) here_fits in
+    rw (to_z-of_z w64 _ most_fits)
+    (lifted-of old c.args.place c.args.value c.greater-most.result (get_or old c.args.place (pos 0)) (let long = c.told-row in omega arith) (number-get old c.args.place)
+    (rw hz at c.greater-most.ensures.first) (rw vz at c.greater-most.ensures.second)
+    (rw (hz, vz) at c.greater-most.ensures.least))
