@@ -14,6 +14,7 @@ use Rattle.cover_core.specs.Laws.{BestIsFirstLeast}
 use Rattle.dual_bound.specs.declared.kept.Kept.{Kept}
 use Rattle.dual_bound.specs.Ranges.{AreAtLeast}
 use Rattle.worker_price.specs.Priced.{groups_of, first_leasts, is_kept, least_value, kept_columns, priced_columns, least_of, priced_least, LeastIsOfLists, LeastIsBounded}
+use Rattle.worker_price.specs.Work.{ArePricesFor}
 use Rattle.price_rounds.specs.Steps.{IsOffer}
 use Rattle.price_rounds.specs.Rounds.{IsBoundOf}
 
@@ -71,6 +72,11 @@ offer_paid p prices lists paid =
 class_prices_length : (zs : List ℤ) → length (class_prices_of zs) ≡ length zs
 class_prices_length [] = refl
 class_prices_length (z ∷ zs) = ap suc (class_prices_length zs)
+
+pub kept_prices : (p : Problem) (kept : Kept) → IsOffer p kept → ArePricesFor p kept.prices.items
+kept_prices p kept offer =
+    let P : Kept → Type 0 = λ k. ArePricesFor p k.prices.items in
+    subst P (sym offer.is) offer.ready
 
 pub kept_class_prices : (p : Problem) (kept : Kept) → IsOffer p kept → length kept.class_prices ≡ length p.caps
 kept_class_prices p kept offer = ap (λ (k : Kept). length k.class_prices) offer.is ∙ (class_prices_length (priced_least p offer.prices) ∙ least_length p offer.prices)

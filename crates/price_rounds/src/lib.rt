@@ -10,6 +10,7 @@
 #![tactic(auto)]
 
 mod effort;
+mod laws;
 mod moves;
 mod passing;
 mod pricing;
@@ -20,4 +21,7 @@ mod test_pricer;
 mod tests;
 
 pub use effort::Effort;
+pub use laws::offers_are_paid;
+pub use moves::{add_all, caps_of};
 pub use passing::pass;
+pub use pricing::{first_offer, next_offer, price_once};

@@ -14,8 +14,12 @@ use cover_master::{lower, turn};
 use plan_core::{Memory, Price, Seq};
 use std::alloc::Global;
 
-/// The caps of all classes; there are few items and classes.
-pub(crate) fn caps_of<C: Columns>(alloc: Global, columns: &C) -> Result<Seq<u32>, Memory>
+/// The caps of all classes of a problem, by class; there are at most 3,000 items and 32 classes.
+///
+/// # Errors
+///
+/// [`Memory`] where it is refused.
+pub fn caps_of<C: Columns>(alloc: Global, columns: &C) -> Result<Seq<u32>, Memory>
     ensures caps { IfOk result (λ caps. caps ≡ (C.problem columns.now).caps) }
     ensures sized { IsSized (C.problem columns.now) }
 {
@@ -41,8 +45,12 @@ pub(crate) fn greatest(prices: &[Price]) -> i64
     greatest
 }
 
-/// Adds columns to a pool, one after another.
-pub(crate) fn add_all<C: Columns>(
+/// Adds columns of a problem to a pool, one after another; a column that the pool has is not added.
+///
+/// # Errors
+///
+/// [`Memory`] where it is refused.
+pub fn add_all<C: Columns>(
     pool: &mut Pool,
     columns: Seq<Column>,
     _columns: &C,

@@ -31,8 +31,13 @@ fn task_count<C: Columns>(columns: &C) -> u32
     columns.classes() * group_count(columns)
 }
 
-/// Prices all classes and groups at a new board, which is closed with its desk.
-fn price_once<R: Threads + Sync, P: Pricer + Sync, G: Gate + Sync>(
+/// Prices all classes and groups of a problem at a new board, which is closed with its desk: the columns to add to a pool, and the least
+/// value of each class.
+///
+/// # Errors
+///
+/// [`Memory`] where it is refused.
+pub fn price_once<R: Threads + Sync, P: Pricer + Sync, G: Gate + Sync>(
     rt: &R,
     alloc: Global,
     workers: u32,
@@ -53,8 +58,12 @@ fn price_once<R: Threads + Sync, P: Pricer + Sync, G: Gate + Sync>(
     Ok(priced)
 }
 
-/// Offers the first prices, and gives what is priced at them.
-pub(crate) fn first_offer<R: Threads + Sync, P: Pricer + Sync, G: Gate + Sync>(
+/// Offers the first prices: gives the offer, whose class prices are made of the least values, and the columns that are priced.
+///
+/// # Errors
+///
+/// [`Memory`] where it is refused.
+pub fn first_offer<R: Threads + Sync, P: Pricer + Sync, G: Gate + Sync>(
     rt: &R,
     alloc: Global,
     workers: u32,
@@ -76,8 +85,13 @@ pub(crate) fn first_offer<R: Threads + Sync, P: Pricer + Sync, G: Gate + Sync>(
     Ok((kept, columns))
 }
 
-/// Offers prices after others, and gives what is priced at them.
-pub(crate) fn next_offer<R: Threads + Sync, P: Pricer + Sync, G: Gate + Sync>(
+/// Offers prices after others, and gives the columns that are priced at them. The offer of the greater bound is kept, the older one where
+/// they are equal.
+///
+/// # Errors
+///
+/// [`Memory`] where it is refused.
+pub fn next_offer<R: Threads + Sync, P: Pricer + Sync, G: Gate + Sync>(
     rt: &R,
     alloc: Global,
     workers: u32,

@@ -20,6 +20,7 @@ fn effort(workers: u32, rounds: u32, lower: u32) -> Effort
         rounds,
         lower,
         exchange: 20,
+        climb: false,
     }
 }
 

@@ -1,0 +1,32 @@
+-- Lowering along places, one more at a time.
+use Rattle.std.proofs.Common.{◌≡◌, ℕ, ℤ, ◌+◌, ◌<◌, ◌≤◌, zero, suc, List, [], ◌∷◌, length, get_or, drop, refl, sym, ap, ◌∙◌, arith, add-one, drop-cons}
+use Rattle.std.proofs.lemmas.List.{drop_all}
+use Rattle.plan_core.specs.declared.Price.{Price}
+use Rattle.cover_core.specs.declared.Column.{Column}
+use Rattle.cover_core.specs.Parts.{column_at, no_column}
+use Rattle.cover_core.specs.Plans.{number_at}
+use Rattle.class_lowering.specs.Lowering.{lowered_along, lowered_prices}
+
+get_or-any : (cs : List Column) (i : ℕ) (d e : Column) → i < length cs → get_or cs i d ≡ get_or cs i e
+get_or-any [] i d e h = absurd (omega arith)
+get_or-any (c ∷ cs) zero d e h = refl
+get_or-any (c ∷ cs) (suc i) d e h = get_or-any cs i d e (omega arith)
+
+pub column-get : (cs : List Column) (i : ℕ) (d : Column) → i < length cs → d ≡ get_or cs i d → d ≡ column_at cs i
+column-get [] i d h is = absurd (omega arith)
+column-get (c ∷ cs) i d h is = is ∙ get_or-any (c ∷ cs) i d no_column h
+
+-- one more place
+pub along-more : (pool : List Column) (asked : List ℤ) (places : List ℕ) (i : ℕ) (now new : List Price) (goal : List Price) → i < length places →
+    new ≡ lowered_prices now (column_at pool (get_or places i 0)) (number_at asked (column_at pool (get_or places i 0)).class) →
+    lowered_along pool asked (drop i places) now ≡ goal → lowered_along pool asked (drop (i + 1) places) new ≡ goal
+along-more pool asked places i now new goal h is so_far =
+    let cons : drop i places ≡ get_or places i 0 ∷ drop (i + 1) places = rw add-one (drop-cons places i 0 h) in
+    let step : lowered_along pool asked (get_or places i 0 ∷ drop (i + 1) places) now ≡ goal = ap (λ (l : List ℕ). lowered_along pool asked l now) (sym cons) ∙ so_far in
+    ap (λ (l : List Price). lowered_along pool asked (drop (i + 1) places) l) is ∙ step
+
+pub along-end : (pool : List Column) (asked : List ℤ) (places : List ℕ) (i : ℕ) (now goal : List Price) → length places ≤ i →
+    lowered_along pool asked (drop i places) now ≡ goal → now ≡ goal
+along-end pool asked places i now goal h so_far =
+    let none : drop i places ≡ [] = drop_all i places h in
+    ap (λ (l : List ℕ). lowered_along pool asked l now) (sym none) ∙ so_far

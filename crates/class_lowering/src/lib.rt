@@ -1,0 +1,156 @@
+//! Prices are lowered by the columns of a pool, in the order of their values, where classes ask for their places.
+//!
+//! A class with no place left for a column of a value below 0 *asks* for a place: minus the value of the first column that found none (its
+//! class price, in the words of linear programming). A column has a *loss* where its value and what its class asks are together below 0.
+//! Columns go by value and place; each that has a loss at the prices reached by then takes it from the prices of its items, in equal
+//! shares that are rounded up. So what is priced at the new prices is mostly not what the pool has already: where no price came to the end
+//! of its range, the column has no loss any more.
+//!
+//! Prices, values, losses and what classes ask are in thousandths of a cost unit. What both calls do to prices is proved exactly
+//! (`specs/Lowering.antt`). It is the lowering of `cover_master` with class prices; Held, Wolfe and Crowder (1974) and the textbook
+//! chapters on dual ascent for set partitioning have relatives of it.
+#![tactic(auto)]
+
+ghost use Rattle.std.specs.Prelude.{◌≡◌, ◌≢◌, ℕ, ◌<◌, ◌≤◌, ◌≤ℤ◌, ◌<ℤ◌, ◌-ℤ◌, [], pos, neg_ℤ, length, OnOk, OnErr};
+ghost use Rattle.cover_core.specs.Cover.{AllBelow, Rises};
+ghost use Rattle.cover_core.specs.FirstLeast.{AllWithin};
+ghost use Rattle.cover_core.specs.Fitting.{AreFit};
+ghost use Rattle.cover_core.specs.Plans.{price_at, number_at};
+ghost use Rattle.cover_master.specs.Method.{clamped, share_of, lowered_by};
+ghost use Rattle.lagrangian_climb.specs.Choices.{AreAsked};
+ghost use Rattle.class_lowering.specs.Lowering.{HaveItems, IsLowered, lowered_prices};
+
+#[cfg(test)]
+mod tests;
+
+use column_pool::Pool;
+use cover_core::{Column, Prices, value};
+use plan_core::{Memory, Price, Seq};
+
+/// Lowers prices by all columns of a pool, by value and place at the old prices, each at the prices reached by then. There are at most
+/// 3,000 items and 32 classes; prices are from -10,000,000,000,000 to 10,000,000,000,000, and so they stay; each class asks from 0 to
+/// 30,000,000,000,000,000. Each column has items, which rise and are there, and is worth at most 4,000,000,000. Time is that of a sort by
+/// value and of one walk through all items of all columns.
+///
+/// # Errors
+///
+/// [`Memory`] where it is refused: then no price has changed.
+pub fn lower_in_order(prices: &mut Prices, pool: &Pool, asked: &[i64]) -> Result<(), Memory>
+    requires few { length prices.old.items ≤ 3000 }
+    requires moderate { AllWithin 10000000000000 prices.old.items }
+    requires classes { length asked.now ≤ 32 }
+    requires asked { AreAsked asked.now }
+    requires fit { AreFit (length prices.old.items) (length asked.now) pool.now }
+    requires some { HaveItems pool.now }
+    ensures lowered { OnOk result (IsLowered pool.now asked.now prices.old.items prices.new.items) }
+    ensures moderate { AllWithin 10000000000000 prices.new.items }
+    ensures len { length prices.new.items ≡ length prices.old.items }
+    ensures memory { OnErr result (prices.new.items ≡ prices.old.items) }
+{
+    let places = pool.sorted_by_value(prices)?;
+    let columns = pool.as_slice();
+    for place in places.as_slice() {
+        let column = &columns[*place as usize];
+        lower_by(prices, column, asked_at(asked, column.class));
+    }
+    Ok(())
+}
+
+/// What a class asks.
+fn asked_at(asked: &[i64], class: u32) -> i64
+    requires inside { class < length asked.now }
+    requires asked { AreAsked asked.now }
+    ensures value { result ≡ number_at asked.now class }
+    ensures low { pos 0 ≤ℤ result }
+    ensures high { result ≤ℤ pos 30000000000000000 }
+{
+    asked[class as usize]
+}
+
+/// Lowers the prices of a column's items where it has a loss, its class asking so much: each by the loss divided by the number of items,
+/// rounded up. No other price changes. There are at most 3,000 prices from -10,000,000,000,000 to 10,000,000,000,000, and so they stay.
+/// The column's list is not empty and rises, its items are there, and it is worth at most 4,000,000,000; its class asks from 0 to
+/// 30,000,000,000,000,000.
+pub fn lower_by(prices: &mut Prices, column: &Column, asked: i64)
+    requires few { length prices.old.items ≤ 3000 }
+    requires moderate { AllWithin 10000000000000 prices.old.items }
+    requires some { column.now.items ≢ [] }
+    requires rises { Rises column.now.items }
+    requires items { AllBelow (length prices.old.items) column.now.items }
+    requires cheap { column.now.worth ≤ 4000000000 }
+    requires low { pos 0 ≤ℤ asked }
+    requires high { asked ≤ℤ pos 30000000000000000 }
+    ensures lowered { prices.new.items ≡ lowered_prices prices.old.items column.now asked }
+    ensures moderate { AllWithin 10000000000000 prices.new.items }
+    ensures len { length prices.new.items ≡ length prices.old.items }
+{
+    let value = value(column, prices) + asked;
+    if value < 0 {
+        let items = column.items.as_slice();
+        lower_items(&mut prices.items, items, share(value, items.len()));
+    }
+}
+
+/// The share that each of so many items bears of a loss, rounded up.
+fn share(value: i64, count: usize) -> i64
+    requires low { neg_ℤ (pos 100000000000000000) ≤ℤ value }
+    requires loss { value <ℤ pos 0 }
+    requires some { 0 < count }
+    requires few { count ≤ 3000 }
+    ensures value { result ≡ pos (share_of value count) }
+    ensures low { pos 0 ≤ℤ result }
+    ensures high { result ≤ℤ pos 200000000000000000 }
+{
+    let loss = value.unsigned_abs();
+    let count = count as u64;
+    ((loss + (count - 1)) / count) as i64
+}
+
+/// Lowers the price of each item of a list by a share.
+fn lower_items(prices: &mut Seq<Price>, items: &[u32], share: i64)
+    requires moderate { AllWithin 10000000000000 prices.old }
+    requires rises { Rises items.now }
+    requires items { AllBelow (length prices.old) items.now }
+    requires low { pos 0 ≤ℤ share }
+    requires high { share ≤ℤ pos 200000000000000000 }
+    ensures len { length prices.new ≡ length prices.old }
+    ensures lowered { (item : ℕ) → price_at prices.new item ≡ lowered_by items.now share prices.old item }
+{
+    for item in items {
+        let place = *item as usize;
+        let price = price_in(prices, place);
+        prices.set(place, Price(lowered(price, share)));
+    }
+}
+
+/// The price of an item.
+fn price_in(prices: &Seq<Price>, item: usize) -> i64
+    requires { item < length prices.now }
+    ensures { result ≡ price_at prices.now item }
+{
+    prices.as_slice()[item].0
+}
+
+/// A price that is lowered by a share.
+fn lowered(price: i64, share: i64) -> i64
+    requires price_low { neg_ℤ (pos 10000000000000) ≤ℤ price }
+    requires price_high { price ≤ℤ pos 10000000000000 }
+    requires low { pos 0 ≤ℤ share }
+    requires high { share ≤ℤ pos 200000000000000000 }
+    ensures { result ≡ clamped (price -ℤ share) }
+{
+    clamp(price - share)
+}
+
+/// A price kept in its range.
+fn clamp(price: i64) -> i64
+    ensures { result ≡ clamped price }
+{
+    if 10000000000000 < price {
+        10000000000000
+    } else if price < -10000000000000 {
+        -10000000000000
+    } else {
+        price
+    }
+}

@@ -1,0 +1,116 @@
+//! The best estimate.
+
+ghost use Rattle.std.specs.Prelude.{true, false, None, ◌≡◌, ◌<◌, ◌≤◌, length, IfOk, IfSome, OnOk};
+ghost use Rattle.offer_estimate.specs.Scales.{IsScale};
+ghost use Rattle.worker_price.specs.Work.{ArePricesFor};
+ghost use Rattle.price_rounds.specs.Steps.{AreReady, IsOffer};
+ghost use Rattle.climb_rounds.specs.Settings.{IsSetting};
+ghost use Rattle.climb_rounds.specs.Walks.{IsWalk};
+
+use crate::best::Search;
+use crate::offers::{Offered, offer};
+use crate::setting::Setting;
+use crate::walk::{Walk, copy_of};
+use cover_core::{Column, Columns, Pricer, Prices};
+use offer_estimate::{Scale, scaled};
+use plan_core::{Gate, Memory, Seq};
+use plan_dive::Workers;
+use std::alloc::Global;
+use std::thread::Threads;
+
+/// Whether an estimate is above the best one so far.
+pub(crate) fn is_better(guess: Option<i128>, bound: i128) -> bool
+    ensures { guess ≡ None → result ≡ true }
+{
+    match guess {
+        None => true,
+        Some(guess) => guess < bound,
+    }
+}
+
+/// Prices at a scale.
+pub(crate) fn scaled_for<C: Columns>(
+    alloc: Global,
+    _problem: &C,
+    prices: &Prices,
+    scale: Scale,
+) -> Result<Prices, Memory>
+    requires prices { ArePricesFor (C.problem _problem.now) prices.now.items }
+    requires scale { IsScale scale }
+    ensures { IfOk result (λ new. ArePricesFor (C.problem _problem.now) new.items) }
+{
+    scaled(alloc, prices, scale)
+}
+
+/// Offers the next prices, and gives the columns that are priced at them. Where the estimate is the best so far, these prices are the
+/// centre from then on.
+pub(crate) fn offer_next<R: Threads + Sync, P: Pricer + Sync, G: Gate + Sync>(
+    alloc: Global,
+    problem: &P,
+    rt: &R,
+    gate: &G,
+    workers: &Workers,
+    setting: &Setting,
+    walk: Walk,
+) -> Result<(Walk, Seq<Column>), Memory>
+    requires setting { IsSetting (P.problem problem.now) setting.now }
+    requires walk { IsWalk (P.problem problem.now) walk }
+    ensures walk { IfOk result (λ r. IsWalk (P.problem problem.now) r.0) }
+    ensures columns { IfOk result (λ r. AreReady (P.problem problem.now) r.1) }
+{
+    let Walk {
+        course,
+        at,
+        centre,
+        scaled,
+        guess,
+        kept,
+        over,
+    } = walk;
+    let offered = offer(alloc, problem, rt, gate, workers, setting, &at, kept)?;
+    let Offered {
+        kept,
+        columns,
+        estimate,
+    } = offered;
+    let kept = Some(kept);
+    if is_better(guess, estimate.bound) {
+        let centre = copy_of(alloc, &at)?;
+        let scaled = scaled_for(alloc, problem, &at, estimate.scale)?;
+        let guess = Some(estimate.bound);
+        let walk = Walk {
+            course,
+            at,
+            centre,
+            scaled,
+            guess,
+            kept,
+            over,
+        };
+        return Ok((walk, columns));
+    }
+    let walk = Walk {
+        course,
+        at,
+        centre,
+        scaled,
+        guess,
+        kept,
+        over,
+    };
+    Ok((walk, columns))
+}
+
+/// Whether there is a plan, and the best estimate is so near its cost that no plan is cheaper where the estimate comes true: above the next
+/// lower cost by at least a thousandth of a cost unit an item.
+pub(crate) fn is_near(search: &Search, guess: Option<i128>, items: u32) -> bool
+    ensures { guess ≡ None → result ≡ false }
+{
+    match guess {
+        None => false,
+        Some(guess) => {
+            let next = search.aim() as i128 - 1000;
+            search.has_plan() && next + (items as i128) < guess
+        }
+    }
+}

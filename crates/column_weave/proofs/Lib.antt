@@ -1,0 +1,4 @@
+mod Lists
+mod Linked
+mod Wovens
+mod Nears

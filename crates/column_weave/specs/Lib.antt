@@ -1,0 +1,5 @@
+pub mod Sums
+pub mod Webs
+pub mod Nearest
+pub mod Woven
+pub mod Example

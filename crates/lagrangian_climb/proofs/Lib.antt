@@ -1,0 +1,7 @@
+mod Orders
+mod Gains
+mod Walks
+mod Keeps
+mod Times
+mod Ranges
+mod Fits

@@ -1,0 +1,4 @@
+pub mod Crews
+pub mod Grounds
+pub mod Descents
+pub mod Orders
