@@ -1,6 +1,5 @@
 -- Bounds on the number of columns, and why there is no plan.
 use Rattle.std.proofs.Common.{◌≡◌, ℕ, ◌<◌, ◌≤◌, List, length, sum, sym, ap, ◌∙◌, subst}
-use Rattle.cover_core.specs.declared.Column.{Column}
 use Rattle.cover_core.specs.Cover.{Problem}
 use Rattle.cover_core.specs.Plans.{bound_of}
 use Rattle.cover_core.specs.Laws.{IsCountOf, CountDuality, NoPlanAbove}
@@ -42,5 +41,5 @@ module _ (counted costed : Problem) (counts : IsCountOf costed counted) where
 
   pub cost_cause : (numbers : Numbers) (count : Kept) (fault : PlanFault) → HasPlaces counted numbers count → IsCostCause costed numbers fault → IsCause counted costed numbers fault
   cost_cause numbers count (faults.NoPlan bound places) has h = absurd h
-  cost_cause numbers count (faults.NotPlaced item partial) has h = (record { count = count; counts = has; cost = h.cost; kept = h.kept; rounds = h.rounds }, h.stuck, h.no_room)
+  cost_cause numbers count (faults.NotPlaced item partial) has h = (record { count = count; counts = has; leaves = h.0 }, h.1, h.2)
   cost_cause numbers count faults.Memory has h = tt

@@ -1,3 +1,4 @@
 pub mod Causes
+pub mod Methods
 pub mod Once
 pub mod Orders

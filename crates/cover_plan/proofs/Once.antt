@@ -1,7 +1,7 @@
 -- Planning ends in one way alone.
-use Rattle.std.proofs.Common.{◌≡◌, ◌≢◌, ℕ, ℤ, pos, ◌≤ℤ◌, ◌<ℤ◌, ◌+◌, ◌<◌, ◌≤◌, nat_lt, Bool, true, false, zero, suc, List, [], ◌∷◌, ◌++◌, All, Contains, Some, None, refl, sym, ap, ◌∙◌, subst, arith, sum}
+use Rattle.std.proofs.Common.{◌≡◌, ◌≢◌, ℕ, ℤ, ◌<◌, ◌≤◌, nat_lt, Bool, true, false, zero, suc, List, [], ◌∷◌, ◌++◌, All, refl, sym, ap, ◌∙◌, subst, arith}
 use Rattle.std.specs.FinMap.{nat_cmp-IsAntisymmetric, int_cmp-IsAntisymmetric}
-use Rattle.std.specs.Ordering.{nat_cmp, int_cmp, ordering_then, is_lt}
+use Rattle.std.specs.Ordering.{nat_cmp, int_cmp, ordering_then}
 use Rattle.std.specs.declared.cmp.Ordering.{Ordering}
 use Rattle.std.specs.declared.cmp.Ordering.TheVariants.{Less, Equal, Greater}
 use Rattle.std.proofs.lemmas.Int.{ints}
@@ -17,10 +17,11 @@ use Rattle.tail_exchange.specs.declared.candidate.Kind.{Kind}
 use Rattle.tail_exchange.specs.declared.candidate.Kind.TheVariants.{Swap, Cut}
 use Rattle.tail_exchange.specs.declared.candidate.Candidate.{Candidate}
 use Rattle.tail_exchange.specs.Order.{rank, candidate_cmp}
-use Rattle.tail_exchange.specs.Exchange.{applied, all_steps, IsStep, NoneLowers, Leads}
+use Rattle.tail_exchange.specs.Exchange.{applied, IsStep, NoneLowers, Leads}
 use Rattle.tail_exchange.proofs.Leasts.{candidate_total}
 use Rattle.price_rounds.specs.Rounds.{after_rounds, all_offers, IsFirstGreatest}
-use Rattle.cover_plan.specs.Endings.{Numbers, IsKept, IsImproved, HasPlaces, IsMade, IsPlanned, HasNoPlan, LeavesItem, Ending, planned, no_plan, not_placed, EndsAs, EndsOnce}
+use Rattle.cover_plan.specs.Endings.{Numbers, IsFirstKept, IsKept, IsImproved, HasPlaces, IsMade, IsRounded, HasNoPlan, LeavesBy, RoundingLeaves, Ending, planned, no_plan, not_placed, EndsAs}
+use Rattle.cover_plan.proofs.Methods.{first_kept, rounded_made, rounding_leaves}
 use Rattle.cover_plan.proofs.Orders.{one_by_value, then_equal, reversed_greater}
 
 -- the kept offer
@@ -66,6 +67,14 @@ one_split (x ∷ xs) (y ∷ ys) k l a d h less more less' more' =
 
 pub one_kept : (offers : List Kept) (one other : Kept) → IsFirstGreatest offers one → IsFirstGreatest offers other → one ≡ other
 one_kept offers one other h k = one_split h.before k.before one other h.after k.after (sym h.all ∙ k.all) h.less h.no_more k.less k.no_more
+
+-- a kept offer, with the columns of a plan
+record KeptPlan : Type 0 where
+  pub cost : Kept
+  pub columns : List Column
+
+abbrev planned_as : Kept → List Column → KeptPlan
+planned_as cost columns = record { cost = cost; columns = columns }
 
 -- rounding
 pub one_rounding : (p : Problem) (prices : List Price) (pool : List Column) (one other : Rounded) → RoundsTo p prices pool one → RoundsTo p prices pool other → one ≡ other
@@ -191,26 +200,38 @@ same_part : (i j : ℕ) (a b : List Column) → left i a ≡ left j b → a ≡ 
 unfolding part_of
 same_part i j a b h = ap part_of h
 
-module _ (counted costed : Problem) (numbers : Numbers) where
+module _ (counted costed : Problem) (numbers : Numbers) (fixed : numbers.climb ≡ false) where
+  -- two kept offers of a pass are one
+  same_kept : (p : Problem) (one other : Kept) → IsKept p numbers one → IsKept p numbers other → one ≡ other
+  same_kept p one other h k = one_kept (all_offers p numbers.rounds numbers.lower) one other (first_kept p numbers one fixed h) (first_kept p numbers other fixed k)
+
   -- a rounding at either kept offer is one at the other
-  at_other : (cost other : Kept) (r : Rounded) → IsKept costed numbers cost → IsKept costed numbers other → RoundsTo costed cost.prices.items (after_rounds costed numbers.rounds).pool r → RoundsTo costed other.prices.items (after_rounds costed numbers.rounds).pool r
+  at_other : (cost other : Kept) (r : Rounded) → IsFirstKept costed numbers cost → IsFirstKept costed numbers other → RoundsTo costed cost.prices.items (after_rounds costed numbers.rounds).pool r → RoundsTo costed other.prices.items (after_rounds costed numbers.rounds).pool r
   at_other cost other r h k rounds =
       let P : Kept → Type 0 = λ kept. RoundsTo costed kept.prices.items (after_rounds costed numbers.rounds).pool r in
       subst P (one_kept (all_offers costed numbers.rounds numbers.lower) cost other h k) rounds
 
-  one_plan : (cost other : Kept) (a b : List Column) → IsMade costed numbers cost a → IsMade costed numbers other b → a ≡ b
+  one_plan : (cost other : Kept) (a b : List Column) → IsRounded costed numbers cost a → IsRounded costed numbers other b → a ≡ b
   one_plan cost other a b h k =
       let first : h.first ≡ k.first = same_whole h.first k.first (one_rounding costed other.prices.items (after_rounds costed numbers.rounds).pool (whole h.first) (whole k.first) (at_other cost other (whole h.first) h.kept k.kept h.rounds) k.rounds) in
       let P : List Column → Type 0 = λ l. IsImproved costed numbers.exchange l a in
       one_improved costed numbers.exchange k.first a b (subst P first h.improved) k.improved
 
-  no_left : (cost other : Kept) (item : ℕ) (a b : List Column) → IsMade costed numbers cost a → IsKept costed numbers other → RoundsTo costed other.prices.items (after_rounds costed numbers.rounds).pool (left item b) → ⊥
-  no_left cost other item a b h kept rounds =
-      not_both h.first b item (one_rounding costed other.prices.items (after_rounds costed numbers.rounds).pool (whole h.first) (left item b) (at_other cost other (whole h.first) h.kept kept h.rounds) rounds)
+  same_plan : (k l : Kept) (a b : List Column) → IsMade costed numbers k a → IsMade costed numbers l b → planned_as k a ≡ planned_as l b
+  same_plan k l a b h m =
+      let one : IsRounded costed numbers k a = rounded_made costed numbers k a fixed h in
+      let other : IsRounded costed numbers l b = rounded_made costed numbers l b fixed m in
+      ap (λ (x : Kept). planned_as x a) (one_kept (all_offers costed numbers.rounds numbers.lower) k l one.kept other.kept) ∙ ap (λ (x : List Column). planned_as l x) (one_plan k l a b one other)
+
+  no_left : (cost : Kept) (item : ℕ) (a b : List Column) → IsMade costed numbers cost a → LeavesBy numbers.climb costed numbers item b → ⊥
+  no_left cost item a b made left_is =
+      let h : IsRounded costed numbers cost a = rounded_made costed numbers cost a fixed made in
+      let l : RoundingLeaves costed numbers item b = rounding_leaves costed numbers item b fixed left_is in
+      not_both h.first b item (one_rounding costed l.cost.prices.items (after_rounds costed numbers.rounds).pool (whole h.first) (left item b) (at_other cost l.cost (whole h.first) h.kept l.kept h.rounds) l.rounds)
 
   no_places : (bound places : ℕ) (count : Kept) → HasNoPlan counted numbers bound places → HasPlaces counted numbers count → ⊥
   no_places bound places count none has =
-      let same : none.count.bound ≡ count.bound = ap (λ (k : Kept). k.bound) (one_kept (all_offers counted numbers.rounds numbers.lower) none.count count none.kept has.kept) in
+      let same : none.count.bound ≡ count.bound = ap (λ (k : Kept). k.bound) (same_kept counted none.count count none.kept has.kept) in
       let above = none.above in
       let bound_is = none.bound_is in
       let places_are = none.places_are in
@@ -219,17 +240,19 @@ module _ (counted costed : Problem) (numbers : Numbers) where
 
   pub one_ending : (one other : Ending) → EndsAs counted costed numbers one → EndsAs counted costed numbers other → one ≡ other
   one_ending (planned c k a) (planned d l b) h m =
-      ap (λ (x : Kept). planned x k a) (one_kept (all_offers counted numbers.rounds numbers.lower) c d h.counts.kept m.counts.kept)
-      ∙ (ap (λ (x : Kept). planned d x a) (one_kept (all_offers costed numbers.rounds numbers.lower) k l h.made.kept m.made.kept) ∙ ap (λ (x : List Column). planned d l x) (one_plan k l a b h.made m.made))
+      ap (λ (x : Kept). planned x k a) (same_kept counted c d h.counts.kept m.counts.kept)
+      ∙ ap (λ (x : KeptPlan). planned d x.cost x.columns) (same_plan k l a b h.made m.made)
   one_ending (planned c k a) (no_plan bound places) h m = absurd (no_places bound places c m h.counts)
-  one_ending (planned c k a) (not_placed item b) h m = absurd (no_left k m.cost item a b h.made m.kept m.rounds)
+  one_ending (planned c k a) (not_placed item b) h m = absurd (no_left k item a b h.made m.leaves)
   one_ending (no_plan bound places) (planned d l b) h m = absurd (no_places bound places d h m.counts)
   one_ending (no_plan bound places) (no_plan bound' places') h m =
-      let bounds : bound ≡ bound' = h.bound_is ∙ (ap (λ (k : Kept). k.bound) (one_kept (all_offers counted numbers.rounds numbers.lower) h.count m.count h.kept m.kept) ∙ sym m.bound_is) in
+      let bounds : bound ≡ bound' = h.bound_is ∙ (ap (λ (k : Kept). k.bound) (same_kept counted h.count m.count h.kept m.kept) ∙ sym m.bound_is) in
       ap (λ (n : ℕ). no_plan n places) bounds ∙ ap (λ (n : ℕ). no_plan bound' n) (h.places_are ∙ sym m.places_are)
   one_ending (no_plan bound places) (not_placed item b) h m = absurd (no_places bound places m.count h m.counts)
-  one_ending (not_placed item a) (planned d l b) h m = absurd (no_left l h.cost item b a m.made h.kept h.rounds)
+  one_ending (not_placed item a) (planned d l b) h m = absurd (no_left l item b a m.made h.leaves)
   one_ending (not_placed item a) (no_plan bound places) h m = absurd (no_places bound places h.count m h.counts)
   one_ending (not_placed i a) (not_placed j b) h m =
-      let same : left i a ≡ left j b = one_rounding costed m.cost.prices.items (after_rounds costed numbers.rounds).pool (left i a) (left j b) (at_other h.cost m.cost (left i a) h.kept m.kept h.rounds) m.rounds in
+      let one : RoundingLeaves costed numbers i a = rounding_leaves costed numbers i a fixed h.leaves in
+      let other : RoundingLeaves costed numbers j b = rounding_leaves costed numbers j b fixed m.leaves in
+      let same : left i a ≡ left j b = one_rounding costed other.cost.prices.items (after_rounds costed numbers.rounds).pool (left i a) (left j b) (at_other one.cost other.cost (left i a) one.kept other.kept one.rounds) other.rounds in
       ap (λ (n : ℕ). not_placed n a) (same_item i j a b same) ∙ ap (λ (l : List Column). not_placed j l) (same_part i j a b same)

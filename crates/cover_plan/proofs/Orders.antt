@@ -1,5 +1,5 @@
 -- Numbers in order: a list that ascends is told by how often each number stands in it.
-use Rattle.std.proofs.Common.{◌≡◌, ◌==◌, ℕ, ◌+◌, ◌<◌, ◌≤◌, Bool, true, false, cond, zero, suc, List, [], ◌∷◌, get_or, length, IsPermutation, IsSortedBy, refl, sym, ap, ◌∙◌, subst, arith}
+use Rattle.std.proofs.Common.{◌≡◌, ◌==◌, ℕ, ◌+◌, ◌<◌, Bool, true, false, cond, suc, List, [], ◌∷◌, get_or, length, IsPermutation, IsSortedBy, refl, sym, ap, ◌∙◌, subst, arith}
 use Rattle.std.specs.Cmp.{IsStrictWeakOrder, IsTotalOrder}
 use Rattle.std.specs.List.{sum_by}
 use Rattle.std.specs.FinMap.{nat_cmp-IsAntisymmetric}

@@ -1,27 +1,40 @@
--- How planning ends, as it is defined: from a problem with each worth 1 and one with costs, and from numbers of rounds and steps.
-use Rattle.std.specs.Prelude.{◌≡◌, ℕ, ◌<◌, ◌≤◌, List, length, sum}
+-- How planning ends, as it is defined: from a problem with each worth 1 and one with costs, and from numbers of rounds and steps. There are
+-- two methods: that of fixed rounds is defined step by step, and ends in one way alone; climbing is told by what it promises.
+use Rattle.std.specs.Prelude.{◌≡◌, ℕ, ◌<◌, ◌≤◌, Bool, true, false, List, sum}
 use Rattle.cover_core.specs.declared.Column.{Column}
 use Rattle.cover_core.specs.Cover.{Problem}
+use Rattle.cover_core.specs.Plans.{IsPlan}
 use Rattle.dual_bound.specs.declared.kept.Kept.{Kept}
 use Rattle.plan_round.specs.Rounding.{whole, left}
 use Rattle.plan_round.specs.Faults.{RoundsTo}
+use Rattle.plan_round.specs.Laws.{HasRoomForEach, IsStuck}
 use Rattle.tail_exchange.specs.Exchange.{Leads, NoneLowers}
 use Rattle.price_rounds.specs.declared.effort.Effort.{Effort}
 use Rattle.price_rounds.specs.Rounds.{after_rounds, all_offers, IsFirstGreatest}
+use Rattle.price_rounds.specs.Steps.{IsOffer}
 
--- how many price rounds, lowering rounds and exchange steps
+-- how many price rounds, lowering rounds and exchange steps, and whether the method is climbing
 pub record Numbers : Type 0 where
   pub rounds : ℕ
   pub lower : ℕ
   pub exchange : ℕ
+  pub climb : Bool
 
 -- what decides on a plan: all but the number of workers
 abbrev pub numbers_of : Effort → Numbers
-numbers_of effort = record { rounds = effort.rounds; lower = effort.lower; exchange = effort.exchange }
+numbers_of effort = record { rounds = effort.rounds; lower = effort.lower; exchange = effort.exchange; climb = effort.climb }
 
--- the kept offer of a pass
+-- the kept offer of a pass of fixed rounds: the first one of the greatest bound
+abbrev pub IsFirstKept : Problem → Numbers → Kept → Type 0
+IsFirstKept p numbers kept = IsFirstGreatest (all_offers p numbers.rounds numbers.lower) kept
+
+-- the kept offer of a pass by either method: climbing keeps an offer of some prices in range
+abbrev pub IsKeptBy : Bool → Problem → Numbers → Kept → Type 0
+IsKeptBy false p numbers kept = IsFirstKept p numbers kept
+IsKeptBy true p numbers kept = IsOffer p kept
+
 abbrev pub IsKept : Problem → Numbers → Kept → Type 0
-IsKept p numbers kept = IsFirstGreatest (all_offers p numbers.rounds numbers.lower) kept
+IsKept p numbers kept = IsKeptBy numbers.climb p numbers kept
 
 -- as many exchange steps as are allowed, or fewer where then none lowers the cost
 pub record IsImproved (p : Problem) (steps : ℕ) (old new : List Column) : Type 0 where
@@ -35,12 +48,25 @@ pub record HasPlaces (counted : Problem) (numbers : Numbers) (count : Kept) : Ty
   pub kept : IsKept counted numbers count
   pub places : count.bound ≤ sum counted.caps
 
--- a plan: the pool of the pass with costs is rounded at its kept prices, and exchange steps are made
-pub record IsMade (costed : Problem) (numbers : Numbers) (cost : Kept) (columns : List Column) : Type 0 where
-  pub kept : IsKept costed numbers cost
+-- a plan of fixed rounds: the pool of the pass with costs is rounded at its kept prices, and exchange steps are made
+pub record IsRounded (costed : Problem) (numbers : Numbers) (cost : Kept) (columns : List Column) : Type 0 where
+  pub kept : IsFirstKept costed numbers cost
   pub first : List Column
   pub rounds : RoundsTo costed cost.prices.items (after_rounds costed numbers.rounds).pool (whole first)
   pub improved : IsImproved costed numbers.exchange first columns
+
+-- a plan by climbing: a plan, beside an offer
+pub record IsClimbed (costed : Problem) (cost : Kept) (columns : List Column) : Type 0 where
+  pub kept : IsOffer costed cost
+  pub plan : IsPlan costed columns
+
+-- a plan by either method
+abbrev pub IsMadeBy : Bool → Problem → Numbers → Kept → List Column → Type 0
+IsMadeBy false costed numbers cost columns = IsRounded costed numbers cost columns
+IsMadeBy true costed numbers cost columns = IsClimbed costed cost columns
+
+abbrev pub IsMade : Problem → Numbers → Kept → List Column → Type 0
+IsMade costed numbers cost columns = IsMadeBy numbers.climb costed numbers cost columns
 
 -- a plan, with the offers that were kept in both passes
 pub record IsPlanned (counted costed : Problem) (numbers : Numbers) (count cost : Kept) (columns : List Column) : Type 0 where
@@ -55,13 +81,22 @@ pub record HasNoPlan (counted : Problem) (numbers : Numbers) (bound places : ℕ
   pub places_are : places ≡ sum counted.caps
   pub above : places < bound
 
--- rounding leaves an item beside these columns
+-- rounding of the pass with costs leaves an item beside these columns
+pub record RoundingLeaves (costed : Problem) (numbers : Numbers) (item : ℕ) (partial : List Column) : Type 0 where
+  pub cost : Kept
+  pub kept : IsFirstKept costed numbers cost
+  pub rounds : RoundsTo costed cost.prices.items (after_rounds costed numbers.rounds).pool (left item partial)
+
+-- an item is left by either method: with climbing it has no place beside the columns, and not each item has room of its own
+abbrev pub LeavesBy : Bool → Problem → Numbers → ℕ → List Column → Type 0
+LeavesBy false costed numbers item partial = RoundingLeaves costed numbers item partial
+LeavesBy true costed numbers item partial = IsStuck costed item partial × (¬ HasRoomForEach costed)
+
+-- an item is left beside these columns
 pub record LeavesItem (counted costed : Problem) (numbers : Numbers) (item : ℕ) (partial : List Column) : Type 0 where
   pub count : Kept
   pub counts : HasPlaces counted numbers count
-  pub cost : Kept
-  pub kept : IsKept costed numbers cost
-  pub rounds : RoundsTo costed cost.prices.items (after_rounds costed numbers.rounds).pool (left item partial)
+  pub leaves : LeavesBy numbers.climb costed numbers item partial
 
 -- a plan with the offers kept in both passes; or a bound and the places; or an item with the columns so far
 pub data Ending : Type 0 where
@@ -75,6 +110,6 @@ EndsAs counted costed numbers (planned count cost columns) = IsPlanned counted c
 EndsAs counted costed numbers (no_plan bound places) = HasNoPlan counted numbers bound places
 EndsAs counted costed numbers (not_placed item partial) = LeavesItem counted costed numbers item partial
 
--- planning ends in one way alone
+-- planning by the method of fixed rounds ends in one way alone
 abbrev pub EndsOnce : Problem → Problem → Type 0
-EndsOnce counted costed = (numbers : Numbers) (one other : Ending) → EndsAs counted costed numbers one → EndsAs counted costed numbers other → one ≡ other
+EndsOnce counted costed = (numbers : Numbers) → numbers.climb ≡ false → (one other : Ending) → EndsAs counted costed numbers one → EndsAs counted costed numbers other → one ≡ other

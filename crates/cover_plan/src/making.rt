@@ -9,10 +9,11 @@ ghost use Rattle.plan_round.specs.Laws.{HasRoomForEach};
 ghost use Rattle.worker_price.specs.Work.{ArePricesFor};
 ghost use Rattle.price_rounds.specs.Efforts.{IsEffort};
 ghost use Rattle.price_rounds.specs.Rounds.{after_rounds, IsBoundOf};
-ghost use Rattle.cover_plan.specs.Endings.{HasPlaces, IsKept, IsMade, IsPlanned, numbers_of};
+ghost use Rattle.cover_plan.specs.Endings.{HasPlaces, IsFirstKept, IsKept, IsMade, IsPlanned, IsRounded, numbers_of};
 ghost use Rattle.cover_plan.specs.Ends.{IsCause, IsCountBoundOf, IsPaidOffer};
-ghost use Rattle.cover_plan.specs.Steps.{IsCountCause, IsCostCause, HasPool};
+ghost use Rattle.cover_plan.specs.Steps.{IsCountCause, IsCostCause, IsRoundedCause, HasPool};
 
+use crate::climbing::{climbed_count, climbed_plan};
 use crate::fault::PlanFault;
 use crate::planned::Planned;
 use cover_core::{Columns, Plan, Pricer, plan_sizes};
@@ -35,6 +36,41 @@ fn places<C: Columns>(columns: &C) -> u64
     sum
 }
 
+/// The kept offer with each worth 1, of a pass of fixed rounds.
+fn first_count<R: Threads + Sync, P: Pricer + Sync, G: Gate + Sync>(
+    rt: &R,
+    alloc: Global,
+    counted: &P,
+    effort: &Effort,
+    gate: &G,
+) -> Result<Kept, Memory>
+    requires effort { IsEffort effort.now }
+    ensures kept { IfOk result (IsFirstKept (P.problem counted.now) (numbers_of effort.now)) }
+    ensures paid { IfOk result (IsPaidOffer (P.problem counted.now)) }
+{
+    let (_pool, kept) = pass(rt, alloc, counted, effort, gate)?;
+    Ok(kept)
+}
+
+/// The kept offer with each worth 1, by the method of the effort.
+fn kept_count<R: Threads + Sync, P: Pricer + Sync, G: Gate + Sync>(
+    rt: &R,
+    alloc: Global,
+    counted: &P,
+    effort: &Effort,
+    gate: &G,
+) -> Result<Kept, Memory>
+    requires effort { IsEffort effort.now }
+    ensures kept { IfOk result (IsKept (P.problem counted.now) (numbers_of effort.now)) }
+    ensures paid { IfOk result (IsPaidOffer (P.problem counted.now)) }
+{
+    if effort.climb {
+        climbed_count(rt, alloc, counted, effort, gate)
+    } else {
+        first_count(rt, alloc, counted, effort, gate)
+    }
+}
+
 /// The kept offer with each worth 1, where its bound is not above the sum of all caps.
 fn count_offer<R: Threads + Sync, P: Pricer + Sync, G: Gate + Sync>(
     rt: &R,
@@ -48,9 +84,9 @@ fn count_offer<R: Threads + Sync, P: Pricer + Sync, G: Gate + Sync>(
     ensures paid { IfOk result (IsPaidOffer (P.problem counted.now)) }
     ensures cause { IfErr result (IsCountCause (P.problem counted.now) (numbers_of effort.now)) }
 {
-    match pass(rt, alloc, counted, effort, gate) {
+    match kept_count(rt, alloc, counted, effort, gate) {
         Err(Memory) => Err(PlanFault::Memory),
-        Ok((_pool, kept)) => {
+        Ok(kept) => {
             let places = places(counted);
             if places < kept.bound {
                 let bound = kept.bound;
@@ -74,7 +110,7 @@ fn improved<R: Threads + Sync, P: Pricer + Sync>(
     requires pool { HasPool (P.problem costed.now) (numbers_of effort.now) cost plan }
     requires paid { IsPaidOffer (P.problem costed.now) cost }
     requires bound { IsBoundOf (P.problem costed.now) cost.bound }
-    ensures made { IfOk result (λ r. IsMade (P.problem costed.now) (numbers_of effort.now) r.1 r.0.columns) }
+    ensures made { IfOk result (λ r. IsRounded (P.problem costed.now) (numbers_of effort.now) r.1 r.0.columns) }
     ensures plan { IfOk result (λ r. IsPlan (P.problem costed.now) r.0.columns) }
     ensures cheap { IfOk result (λ r. AreCheap r.0.columns) }
     ensures paid { IfOk result (λ r. IsPaidOffer (P.problem costed.now) r.1) }
@@ -88,7 +124,36 @@ fn improved<R: Threads + Sync, P: Pricer + Sync>(
     }
 }
 
-/// The pass with costs, rounding and exchange.
+/// The pass of fixed rounds with costs, rounding and exchange.
+fn rounded_plan<R: Threads + Sync, P: Pricer + Sync, G: Gate + Sync>(
+    rt: &R,
+    alloc: Global,
+    costed: &P,
+    effort: &Effort,
+    gate: &G,
+) -> Result<(Plan, Kept), PlanFault>
+    requires effort { IsEffort effort.now }
+    ensures made { IfOk result (λ r. IsRounded (P.problem costed.now) (numbers_of effort.now) r.1 r.0.columns) }
+    ensures plan { IfOk result (λ r. IsPlan (P.problem costed.now) r.0.columns) }
+    ensures cheap { IfOk result (λ r. AreCheap r.0.columns) }
+    ensures paid { IfOk result (λ r. IsPaidOffer (P.problem costed.now) r.1) }
+    ensures bound { IfOk result (λ r. IsBoundOf (P.problem costed.now) r.1.bound) }
+    ensures cause { IfErr result (IsRoundedCause (P.problem costed.now) (numbers_of effort.now)) }
+{
+    match pass(rt, alloc, costed, effort, gate) {
+        Err(Memory) => Err(PlanFault::Memory),
+        Ok((pool, kept)) => match round(alloc, costed, &pool, &kept.prices) {
+            Err(RoundFault::NotPlaced { item, partial }) => Err(PlanFault::NotPlaced {
+                item,
+                partial,
+            }),
+            Err(RoundFault::Memory) => Err(PlanFault::Memory),
+            Ok(plan) => improved(rt, alloc, costed, plan, kept, effort),
+        },
+    }
+}
+
+/// A plan with its bound, by the method of the effort.
 fn cost_plan<R: Threads + Sync, P: Pricer + Sync, G: Gate + Sync>(
     rt: &R,
     alloc: Global,
@@ -104,24 +169,20 @@ fn cost_plan<R: Threads + Sync, P: Pricer + Sync, G: Gate + Sync>(
     ensures bound { IfOk result (λ r. IsBoundOf (P.problem costed.now) r.1.bound) }
     ensures cause { IfErr result (IsCostCause (P.problem costed.now) (numbers_of effort.now)) }
 {
-    match pass(rt, alloc, costed, effort, gate) {
-        Err(Memory) => Err(PlanFault::Memory),
-        Ok((pool, kept)) => match round(alloc, costed, &pool, &kept.prices) {
-            Err(RoundFault::NotPlaced { item, partial }) => Err(PlanFault::NotPlaced {
-                item,
-                partial,
-            }),
-            Err(RoundFault::Memory) => Err(PlanFault::Memory),
-            Ok(plan) => improved(rt, alloc, costed, plan, kept, effort),
-        },
+    if effort.climb {
+        climbed_plan(rt, alloc, costed, effort, gate)
+    } else {
+        rounded_plan(rt, alloc, costed, effort, gate)
     }
 }
 
 /// Plans a problem: a pass with each worth 1, which bounds the number of columns of every plan; a pass with costs, which bounds their
-/// costs; then the pool of the second pass is rounded at its kept prices, and exchange steps make the plan cheaper.
+/// costs; then the pool of the second pass is rounded at its kept prices, and exchange steps make the plan cheaper. Where the effort is to
+/// climb, both passes are made by [`climb_rounds`] instead, and the second one has the plan.
 ///
 /// `counted` is the problem with each worth 1 and `costed` the one with costs. What is given is defined without workers and gates
-/// (`specs/Endings.antt`), and the definition admits one ending alone.
+/// (`specs/Endings.antt`). The definition admits one ending alone, unless the effort is to climb: then it says that the plan is one, and
+/// that both bounds are those of paid prices.
 ///
 /// # Errors
 ///

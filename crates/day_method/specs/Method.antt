@@ -63,6 +63,6 @@ pub record DayEndsAs (day : DayProblems) (numbers : Numbers) (ending : DayEnding
   pub ends : EndsAs (day.blocks true) (day.blocks false) numbers blocks
   pub goes_on : GoesOn day numbers blocks ending
 
--- a day ends in one way alone
+-- a day that is planned by fixed rounds ends in one way alone
 abbrev pub DayEndsOnce : DayProblems → Type 0
-DayEndsOnce day = (numbers : Numbers) (one other : DayEnding) → DayEndsAs day numbers one → DayEndsAs day numbers other → one ≡ other
+DayEndsOnce day = (numbers : Numbers) → numbers.climb ≡ false → (one other : DayEnding) → DayEndsAs day numbers one → DayEndsAs day numbers other → one ≡ other

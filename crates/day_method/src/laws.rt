@@ -2,7 +2,7 @@
 
 ghost use Rattle.day_method.specs.Method.{DayProblems, DayEndsOnce};
 
-/// The definition of the planning of a day admits one ending alone: one answer, or one refusal.
+/// The definition of the planning of a day by fixed rounds admits one ending alone: one answer, or one refusal.
 pub fn day_ends_once()
     ensures { (day : DayProblems) → DayEndsOnce day }
 {}
