@@ -1,0 +1,13 @@
+pub mod Calendar
+pub mod Adding
+pub mod Reduced
+pub mod Lists
+pub mod Examples
+pub mod OneDriver
+pub mod OneList
+pub mod Entries
+pub mod RosterFaults
+pub mod Columns
+pub mod Apart
+pub mod Near
+pub mod OneAnswer

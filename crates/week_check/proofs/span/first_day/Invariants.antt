@@ -1,0 +1,14 @@
+use Rattle.std.proofs.Common.{◌≡◌, ◌≤ℤ◌, All, true, take}
+use Rattle.std.specs.Prelude.{◌==◌}
+use Rattle.std.specs.List.{list_any}
+use Rattle.week_check.specs.declared.turn.Turn.{Turn}
+use Rattle.week_check.specs.Days.{IsDutyDay, number_of}
+use Rattle.week_check.proofs.span.first_day.Given as goal
+
+-- the day of a duty that is not after those of the duties so far
+abbrev pub invariant-loop-turn : goal.invariant-loop-turn
+invariant-loop-turn l = record {
+  day : IsDutyDay l.first;
+  least : All (λ (t : Turn). number_of l.first ≤ℤ number_of t.day) (take l.turn-index l.turns);
+  there : list_any (λ (t : Turn). t.day == l.first) l.turns ≡ true;
+}
