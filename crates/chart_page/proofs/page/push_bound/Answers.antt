@@ -1,0 +1,5 @@
+use Rattle.chart_page.proofs.PageLemmas.{then_ok, two_steps}
+use Rattle.chart_page.proofs.page.push_bound.Goals as goal
+
+pub returns : goal.returns
+returns c = then_ok c.push_distance.result _ _ (λ last. two_steps _ _ _ _ _ _ c.in_ok-push_values.ensures last) c.push_distance.ensures
