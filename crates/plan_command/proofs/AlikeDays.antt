@@ -33,9 +33,11 @@ use Rattle.plan_command.specs.declared.fault.ItemName.{ItemName}
 use Rattle.plan_command.specs.declared.fault.ItemName.TheVariants.{Trip, Piece}
 use Rattle.plan_command.specs.declared.fault.PlanFault.{PlanFault}
 use Rattle.plan_command.specs.declared.fault.PlanFault.TheVariants as faults
-use Rattle.plan_command.specs.Alike.{AreAlike, HaveSameCauses, HaveSameTexts}
+use Rattle.plan_command.specs.Alike.{AreAlike, HaveSameCauses, HaveSameShortTexts, HaveSameTexts}
 use Rattle.plan_command.specs.Planning.{ArePlannedBlocks, ArePlannedDuties, HasNoneOf, IsDayPlan, IsLeft, IsLeftItem, IsPlanCauseOver, IsPlannedSide, day_problems, duties_over}
 use Rattle.plan_command.specs.PlanText.{answer_of, four_bounds}
+use Rattle.umlauf_write.specs.Answers.{bound_table}
+use Rattle.plan_command.specs.ShortText.{count_table, short_tables}
 
 module _ (one other : DayFacts) (alike : AreAlike one other) where
   -- the one day with trips and settings, and with the deadheads of the other
@@ -158,6 +160,20 @@ module _ (one other : DayFacts) (alike : AreAlike one other) where
     duties = h.duties;
     plan = plans_alike numbers h.blocks h.duties h.plan;
     written = h.written ∙ (ap text (tables_alike table (answer_of one h.blocks h.duties)) ∙ ap (λ answer. text (answer_tables other table answer)) (answers_alike h.blocks h.duties));
+  }
+
+  shorts_alike : (blocks duties : SidePlan) → short_tables one blocks duties ≡ short_tables other blocks duties
+  shorts_alike blocks duties =
+      let tables : List DayTrip → List WorkPiece → List Table = λ trips pieces.
+      count_table (length trips) (length blocks.columns) (length pieces) (length duties.columns) ∷ bound_table blocks.columns duties.columns (four_bounds blocks duties) ∷ [] in
+      ap (λ trips. tables trips (pieces_of_plan one blocks.columns)) alike.trips ∙ ap (λ pieces. tables other.trips (pieces blocks.columns)) same_pieces
+
+  pub same_short_texts : HaveSameShortTexts one other
+  same_short_texts = λ numbers bytes h. record {
+    blocks = h.blocks;
+    duties = h.duties;
+    plan = plans_alike numbers h.blocks h.duties h.plan;
+    written = h.written ∙ ap text (shorts_alike h.blocks h.duties);
   }
 
   none_alike : (numbers : Numbers) (side : Side) → HasNoneOf one numbers side → HasNoneOf other numbers side

@@ -1,4 +1,5 @@
 pub mod Sides
 pub mod Printing
+pub mod CountTable
 pub mod OneAnswer
 pub mod AlikeDays

@@ -1,4 +1,4 @@
--- A day has one text, or one cause for a refusal.
+-- A day that is planned by fixed rounds has one text, or one cause for a refusal.
 use Rattle.std.proofs.Common.{◌≡◌, ◌⊎◌, inl, inr, ℕ, true, false, List, Option, Some, None, IsSomeAnd, slice_get, refl, sym, ap, ◌∙◌, subst, arith}
 use Rattle.plan_core.specs.declared.types.Piece.{Piece as WorkPiece}
 use Rattle.vdv451_text.specs.Plain.{text}
@@ -23,7 +23,8 @@ use Rattle.plan_command.specs.declared.fault.PlanFault.{PlanFault}
 use Rattle.plan_command.specs.declared.fault.PlanFault.TheVariants as faults
 use Rattle.plan_command.specs.Planning.{day_problems, ArePlannedBlocks, IsLeftItem, IsPlanCauseOver}
 use Rattle.plan_command.specs.PlanText.{answer_of}
-use Rattle.plan_command.specs.Once.{HasOneText, HasOneCause, HasTextOrCause}
+use Rattle.plan_command.specs.ShortText.{short_tables}
+use Rattle.plan_command.specs.Once.{HasOneText, HasOneCause, HasOneShortText, HasShortTextOrCause, HasTextOrCause}
 
 -- the parts of an ending
 blocks_in : SidePlan → DayEnding → SidePlan
@@ -119,10 +120,10 @@ piece_name : (o : Option WorkPiece) (name other : ItemName) →
 piece_name None name other h k = absurd h
 piece_name (Some piece) name other h k = h ∙ sym k
 
-module _ (facts : DayFacts) (numbers : Numbers) (ends : EndsOnce (blocks_of facts true) (blocks_of facts false)) where
+module _ (facts : DayFacts) (numbers : Numbers) (fixed : numbers.climb ≡ false) (ends : EndsOnce (blocks_of facts true) (blocks_of facts false)) where
   one_blocks : (a b : SidePlan) → ArePlannedBlocks facts numbers a → ArePlannedBlocks facts numbers b → a.columns ≡ b.columns
   one_blocks a b h k =
-      let same : planned a.count a.cost h.columns ≡ planned b.count b.cost k.columns = ends numbers (planned a.count a.cost h.columns) (planned b.count b.cost k.columns) h.planned k.planned in
+      let same : planned a.count a.cost h.columns ≡ planned b.count b.cost k.columns = ends numbers fixed (planned a.count a.cost h.columns) (planned b.count b.cost k.columns) h.planned k.planned in
       h.order ∙ (ap printed (same_planned a.count a.cost b.count b.cost h.columns k.columns same) ∙ sym k.order)
 
   one_name : (side : Side) (item : ℕ) (name other : ItemName) (columns : List Column) → IsLeftItem facts numbers side item name columns → IsLeftItem facts numbers side item other columns → name ≡ other
@@ -147,35 +148,46 @@ module _ (facts : DayFacts) (numbers : Numbers) (ends : EndsOnce (blocks_of fact
 
 module _ (facts : DayFacts) (once : DayEndsOnce (day_problems facts)) where
   pub one_text : HasOneText facts
-  one_text = λ numbers table one other h k.
-      let same : answered h.blocks h.duties ≡ answered k.blocks k.duties = once numbers (answered h.blocks h.duties) (answered k.blocks k.duties) h.plan.ends k.plan.ends in
+  one_text = λ numbers fixed table one other h k.
+      let same : answered h.blocks h.duties ≡ answered k.blocks k.duties = once numbers fixed (answered h.blocks h.duties) (answered k.blocks k.duties) h.plan.ends k.plan.ends in
       h.written
       ∙ (ap (λ (s : SidePlan). text (answer_tables facts table (answer_of facts s h.duties))) (same_blocks h.blocks h.duties k.blocks k.duties same)
       ∙ (ap (λ (s : SidePlan). text (answer_tables facts table (answer_of facts k.blocks s))) (same_duties h.blocks h.duties k.blocks k.duties same) ∙ sym k.written))
 
+  pub one_short_text : HasOneShortText facts
+  one_short_text = λ numbers fixed one other h k.
+      let same : answered h.blocks h.duties ≡ answered k.blocks k.duties = once numbers fixed (answered h.blocks h.duties) (answered k.blocks k.duties) h.plan.ends k.plan.ends in
+      h.written
+      ∙ (ap (λ (s : SidePlan). text (short_tables facts s h.duties)) (same_blocks h.blocks h.duties k.blocks k.duties same)
+      ∙ (ap (λ (s : SidePlan). text (short_tables facts k.blocks s)) (same_duties h.blocks h.duties k.blocks k.duties same) ∙ sym k.written))
+
+  -- a day that is planned has no cause for a refusal
+  plan_or_cause : (numbers : Numbers) → numbers.climb ≡ false → (blocks duties : SidePlan) (fault : PlanFault) → DayEndsAs (day_problems facts) numbers (answered blocks duties) → IsPlanCauseOver facts numbers fault → fault ≡ faults.Memory
+  plan_or_cause numbers fixed blocks duties (faults.NoPlan side bound places) ends cause =
+      absurd (not_refused blocks duties side bound places (once numbers fixed (answered blocks duties) (refused side bound places) ends cause.0))
+  plan_or_cause numbers fixed blocks duties (faults.NotPlaced side item name partial) ends cause =
+      absurd (not_left blocks duties side item partial.columns (once numbers fixed (answered blocks duties) (left_out side item partial.columns) ends cause.0))
+  plan_or_cause numbers fixed blocks duties faults.Memory ends cause = refl
+
   pub text_or_cause : HasTextOrCause facts
-  text_or_cause = λ numbers table bytes fault h. go numbers (h.blocks) (h.duties) fault h.plan.ends
-    where
-      go : (numbers : Numbers) (blocks duties : SidePlan) (fault : PlanFault) → DayEndsAs (day_problems facts) numbers (answered blocks duties) → IsPlanCauseOver facts numbers fault → fault ≡ faults.Memory
-      go numbers blocks duties (faults.NoPlan side bound places) ends cause =
-          absurd (not_refused blocks duties side bound places (once numbers (answered blocks duties) (refused side bound places) ends cause.0))
-      go numbers blocks duties (faults.NotPlaced side item name partial) ends cause =
-          absurd (not_left blocks duties side item partial.columns (once numbers (answered blocks duties) (left_out side item partial.columns) ends cause.0))
-      go numbers blocks duties faults.Memory ends cause = refl
+  text_or_cause = λ numbers fixed table bytes fault h. plan_or_cause numbers fixed h.blocks h.duties fault h.plan.ends
+
+  pub short_text_or_cause : HasShortTextOrCause facts
+  short_text_or_cause = λ numbers fixed bytes fault h. plan_or_cause numbers fixed h.blocks h.duties fault h.plan.ends
 
   module _ (ends : EndsOnce (blocks_of facts true) (blocks_of facts false)) where
     pub one_cause : HasOneCause facts
-    one_cause = λ numbers one other h k. go numbers one other h k
+    one_cause = λ numbers fixed one other h k. go numbers fixed one other h k
       where
-        go : (numbers : Numbers) (one other : PlanFault) → IsPlanCauseOver facts numbers one → IsPlanCauseOver facts numbers other → (one ≡ other) ⊎ ((one ≡ faults.Memory) ⊎ (other ≡ faults.Memory))
-        go numbers faults.Memory other h k = inr (inl refl)
-        go numbers (faults.NoPlan side bound places) faults.Memory h k = inr (inr refl)
-        go numbers (faults.NotPlaced side item name partial) faults.Memory h k = inr (inr refl)
-        go numbers (faults.NoPlan side bound places) (faults.NoPlan side' bound' places') h k =
-            inl (same_refusal side side' bound places bound' places' (once numbers (refused side bound places) (refused side' bound' places') h.0 k.0))
-        go numbers (faults.NoPlan side bound places) (faults.NotPlaced side' item name partial) h k =
-            absurd (not_both side side' bound places item partial.columns (once numbers (refused side bound places) (left_out side' item partial.columns) h.0 k.0))
-        go numbers (faults.NotPlaced side' item name partial) (faults.NoPlan side bound places) h k =
-            absurd (not_both side side' bound places item partial.columns (once numbers (refused side bound places) (left_out side' item partial.columns) k.0 h.0))
-        go numbers (faults.NotPlaced side i name a) (faults.NotPlaced other j other_name b) h k =
-            inl (one_left facts numbers ends side other i j name other_name a b (once numbers (left_out side i a.columns) (left_out other j b.columns) h.0 k.0) h.1 k.1)
+        go : (numbers : Numbers) → numbers.climb ≡ false → (one other : PlanFault) → IsPlanCauseOver facts numbers one → IsPlanCauseOver facts numbers other → (one ≡ other) ⊎ ((one ≡ faults.Memory) ⊎ (other ≡ faults.Memory))
+        go numbers fixed faults.Memory other h k = inr (inl refl)
+        go numbers fixed (faults.NoPlan side bound places) faults.Memory h k = inr (inr refl)
+        go numbers fixed (faults.NotPlaced side item name partial) faults.Memory h k = inr (inr refl)
+        go numbers fixed (faults.NoPlan side bound places) (faults.NoPlan side' bound' places') h k =
+            inl (same_refusal side side' bound places bound' places' (once numbers fixed (refused side bound places) (refused side' bound' places') h.0 k.0))
+        go numbers fixed (faults.NoPlan side bound places) (faults.NotPlaced side' item name partial) h k =
+            absurd (not_both side side' bound places item partial.columns (once numbers fixed (refused side bound places) (left_out side' item partial.columns) h.0 k.0))
+        go numbers fixed (faults.NotPlaced side' item name partial) (faults.NoPlan side bound places) h k =
+            absurd (not_both side side' bound places item partial.columns (once numbers fixed (refused side bound places) (left_out side' item partial.columns) k.0 h.0))
+        go numbers fixed (faults.NotPlaced side i name a) (faults.NotPlaced other j other_name b) h k =
+            inl (one_left facts numbers fixed ends side other i j name other_name a b (once numbers fixed (left_out side i a.columns) (left_out other j b.columns) h.0 k.0) h.1 k.1)

@@ -7,6 +7,7 @@ use Rattle.day_model.specs.Facts.{DayFacts, dead}
 use Rattle.plan_command.specs.declared.fault.PlanFault.{PlanFault}
 use Rattle.plan_command.specs.Planning.{IsPlanCauseOver}
 use Rattle.plan_command.specs.PlanText.{IsPlanTextOver}
+use Rattle.plan_command.specs.ShortText.{IsShortTextOver}
 
 -- Two days have the same version and kind, the same trips and settings, and the same times of deadheads. The lists that tell the
 -- deadheads may differ, as may the dates and the places of the trips' rows.
@@ -20,6 +21,10 @@ pub record AreAlike (one other : DayFacts) : Type 0 where
 -- a text of the one day is one of the other
 abbrev pub HaveSameTexts : DayFacts → DayFacts → Type 0
 HaveSameTexts one other = (numbers : Numbers) (table : Table) (bytes : List ℕ) → IsPlanTextOver one numbers table bytes → IsPlanTextOver other numbers table bytes
+
+-- a short text of the one day is one of the other
+abbrev pub HaveSameShortTexts : DayFacts → DayFacts → Type 0
+HaveSameShortTexts one other = (numbers : Numbers) (bytes : List ℕ) → IsShortTextOver one numbers bytes → IsShortTextOver other numbers bytes
 
 -- a cause for a refusal of the one day is one of the other
 abbrev pub HaveSameCauses : DayFacts → DayFacts → Type 0

@@ -3,3 +3,4 @@ pub mod PlanText
 pub mod Steps
 pub mod Once
 pub mod Alike
+pub mod ShortText

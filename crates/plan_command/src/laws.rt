@@ -1,27 +1,31 @@
 //! What holds of every day. The functions do nothing: their contracts are the theorems.
 
 ghost use Rattle.day_model.specs.Facts.{DayFacts};
-ghost use Rattle.plan_command.specs.Alike.{AreAlike, HaveSameCauses, HaveSameTexts};
-ghost use Rattle.plan_command.specs.Once.{HasOneCause, HasOneText, HasTextOrCause};
+ghost use Rattle.plan_command.specs.Alike.{AreAlike, HaveSameCauses, HaveSameShortTexts, HaveSameTexts};
+ghost use Rattle.plan_command.specs.Once.{HasOneCause, HasOneShortText, HasOneText, HasShortTextOrCause, HasTextOrCause};
 
 use cover_plan::ends_once;
 use day_method::day_ends_once;
 use depot_network::PoolNet;
 
-/// A day has one text or one cause for a refusal, and not both: the definitions of both admit one answer alone, whatever the number of
-/// workers.
+/// A day that is planned by fixed rounds has one text and one short text or one cause for a refusal, and not both: the definitions of both
+/// admit one answer alone, whatever the number of workers. Of climbing this is not said.
 pub fn day_answers_once()
     ensures text { (facts : DayFacts) → HasOneText facts }
     ensures cause { (facts : DayFacts) → HasOneCause facts }
     ensures either { (facts : DayFacts) → HasTextOrCause facts }
+    ensures short { (facts : DayFacts) → HasOneShortText facts }
+    ensures short_either { (facts : DayFacts) → HasShortTextOrCause facts }
 {
     day_ends_once();
     ends_once::<PoolNet>();
 }
 
-/// Two days that agree in their version and kind, their trips, their settings and the times of their deadheads have the same texts and
-/// the same causes for a refusal. So nothing of a plan hangs on the order in which a network tells its deadheads, nor on the date.
+/// Two days that agree in their version and kind, their trips, their settings and the times of their deadheads have the same texts, short
+/// texts and causes for a refusal, by either method. So nothing of a plan hangs on the order in which a network tells its deadheads, nor on
+/// the date.
 pub fn days_alike_answer_alike()
     ensures texts { (one other : DayFacts) → AreAlike one other → HaveSameTexts one other }
+    ensures shorts { (one other : DayFacts) → AreAlike one other → HaveSameShortTexts one other }
     ensures causes { (one other : DayFacts) → AreAlike one other → HaveSameCauses one other }
 {}

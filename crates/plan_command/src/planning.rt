@@ -230,7 +230,8 @@ fn with_duties<R: Threads + Sync, G: Gate + Sync>(
 ///
 /// For each side there is a pass with each worth 1, which bounds the number of columns of every plan; a pass with costs, which bounds
 /// their costs; rounding and exchange. What is given is defined without workers and gates, and the definition admits one plan or one
-/// refusal alone. The effort is in its ranges.
+/// refusal alone, unless the effort is to climb: then both sides are planned by climbing, and the promises are the same but for that. The
+/// effort is in its ranges.
 ///
 /// # Errors
 ///

@@ -2,7 +2,7 @@
 
 ghost use Rattle.std.specs.Prelude.{◌≡◌, false, map, All, IsTrue, IfOk, IfErr};
 ghost use Rattle.cover_core.specs.FirstLeast.{AreCheap};
-ghost use Rattle.vdv451_text.specs.Plain.{is_plain_table, text};
+ghost use Rattle.vdv451_text.specs.Plain.{are_plain, is_plain_table, text};
 ghost use Rattle.price_rounds.specs.Efforts.{IsEffort};
 ghost use Rattle.cover_plan.specs.Endings.{Numbers, numbers_of};
 ghost use Rattle.block_cut.specs.Cuts.{IsShift, pieces_of_plan};
@@ -72,6 +72,25 @@ fn answer_of(alloc: Global, model: &Day, plan: DayPlan) -> Result<Answer, Memory
     })
 }
 
+/// The tables of a plan that can be printed.
+pub(crate) fn tables_of(
+    alloc: Global,
+    model: &Day,
+    rec_frt: &Table,
+    plan: DayPlan,
+) -> Result<Seq<Table>, Memory>
+    requires plain { IsTrue (is_plain_table rec_frt.now) }
+    requires trips { HasTripRows model.now rec_frt.now }
+    requires printable { IsPrintable model.now (side_of plan.blocks) (side_of plan.duties) }
+    requires pieces { plan.pieces ≡ pieces_of_plan model.now plan.blocks.plan.columns }
+    requires shifts { All IsShift plan.pieces }
+    ensures tables { IfOk result (λ tables. tables ≡ answer_tables model.now rec_frt.now (answer_of_plan model.now (side_of plan.blocks) (side_of plan.duties))) }
+    ensures plain { IfOk result (λ tables. IsTrue (are_plain tables)) }
+{
+    let answer = answer_of(alloc, model, plan)?;
+    plan_tables(alloc, model, rec_frt, &answer)
+}
+
 /// The text of a plan that can be printed.
 fn text_of(alloc: Global, model: &Day, rec_frt: &Table, plan: DayPlan) -> Result<Bytes, Memory>
     requires plain { IsTrue (is_plain_table rec_frt.now) }
@@ -81,8 +100,7 @@ fn text_of(alloc: Global, model: &Day, rec_frt: &Table, plan: DayPlan) -> Result
     requires shifts { All IsShift plan.pieces }
     ensures { IfOk result (λ bytes. bytes ≡ text (answer_tables model.now rec_frt.now (answer_of_plan model.now (side_of plan.blocks) (side_of plan.duties)))) }
 {
-    let answer = answer_of(alloc, model, plan)?;
-    let tables = plan_tables(alloc, model, rec_frt, &answer)?;
+    let tables = tables_of(alloc, model, rec_frt, plan)?;
     write_tables(alloc, tables.as_slice())
 }
 
@@ -90,7 +108,7 @@ fn text_of(alloc: Global, model: &Day, rec_frt: &Table, plan: DayPlan) -> Result
 /// of VDV 451.
 ///
 /// `rec_frt` is the table that the day's trips were read from. It has exactly one row of the day's version for each trip of the day. The
-/// effort is in its ranges; its number of workers and the gate change nothing in the text.
+/// effort is in its ranges; its number of workers and the gate change nothing in the text of a plan that is made by fixed rounds.
 ///
 /// # Errors
 ///

@@ -113,6 +113,7 @@ cause_on T U R S (statuses.Input (inputs.Text file fault)) text read cause = tex
 cause_on T U R S (statuses.Input (inputs.Table fault)) text read cause = absurd cause
 cause_on T U R S (statuses.Input (inputs.Trips count)) text read cause = absurd cause
 cause_on T U R S (statuses.Input (inputs.Params fault)) text read cause = absurd cause
+cause_on T U R S (statuses.Input (inputs.Days first last)) text read cause = absurd cause
 cause_on T U R S (statuses.Input (inputs.Trip fid fault)) text read cause = absurd cause
 cause_on T U R S statuses.Ok text read cause = absurd cause
 cause_on T U R S statuses.Usage text read cause = absurd cause

@@ -2,6 +2,7 @@ pub mod AnswerLemmas
 pub mod FileLemmas
 pub mod InputLemmas
 pub mod LineLemmas
+pub mod MadeLemmas
 pub mod Outcomes
 pub mod PieceLemmas
 pub mod RequestLemmas
@@ -15,3 +16,4 @@ pub mod PlanOutcomes
 pub mod RowReads
 pub mod TripRows
 pub mod OneText
+pub mod WeekOutcomes

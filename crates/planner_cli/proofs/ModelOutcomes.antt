@@ -65,6 +65,7 @@ kinds_of : (tables : List Table) (day : ℕ) (status : Status) → IsModelCause 
 kinds_of tables day (statuses.Input (inputs.Table fault)) c = inl (fault, refl, c)
 kinds_of tables day (statuses.Input (inputs.Trips count)) c = inr (inr (models.TooManyTrips count, refl, c))
 kinds_of tables day (statuses.Input (inputs.Params fault)) c = inr (inr (models.Params fault, refl, c))
+kinds_of tables day (statuses.Input (inputs.Days first last)) c = absurd c
 kinds_of tables day (statuses.Input (inputs.Trip fid fault)) c = inr (inr (models.Trip fid fault, refl, c))
 kinds_of tables day (statuses.Day fault) c = inr (inl (fault, refl, c.0, c.1))
 kinds_of tables day (statuses.Input (inputs.Text file fault)) c = absurd c

@@ -1,5 +1,5 @@
--- The text of a task is one: files that are told, words and a day determine it.
-use Rattle.std.proofs.Common.{◌≡◌, ℕ, ◌+◌, ◌-◌, ℤ, pos, List, [], ◌∷◌, ◌++◌, length, Option, Some, Result, Ok, IfSome, sym, ◌∙◌, ap, subst}
+-- The text of a task is one, unless it climbs: files that are told, words and a day determine it.
+use Rattle.std.proofs.Common.{◌≡◌, ℕ, ◌+◌, ◌-◌, ℤ, pos, false, List, [], ◌∷◌, ◌++◌, length, Option, Some, Result, Ok, IfSome, sym, ◌∙◌, ap, subst}
 use Rattle.jiff_core.specs.Calendar.{days_from_civil, weekday_number}
 use Rattle.vdv451_text.specs.declared.table.Table.{Table}
 use Rattle.vdv451_text.specs.Plain.{text}
@@ -11,23 +11,26 @@ use Rattle.vdv452_tables.specs.Rows.{table_of}
 use Rattle.vdv452_tables.specs.Schema as schema
 use Rattle.day_calendar.specs.Days.{HasWeekday}
 use Rattle.day_model.specs.Facts.{DayFacts}
+use Rattle.day_maker.specs.Made.{made_tables}
 use Rattle.day_tables.specs.DayTables.{day_tables_of}
 use Rattle.cover_plan.specs.Endings.{Numbers}
 use Rattle.plan_command.specs.PlanText.{IsPlanTextOver}
-use Rattle.plan_command.proofs.AlikeDays.{same_texts}
+use Rattle.plan_command.proofs.AlikeDays.{same_short_texts, same_texts}
 use Rattle.trip_times.specs.declared.trip.Trip.{Trip}
-use Rattle.planner_cli.specs.Tasks.{Task}
-use Rattle.planner_cli.specs.Tasks.{Day, Plan, Trips}
+use Rattle.planner_cli.specs.Tasks.{Task, climbs}
+use Rattle.planner_cli.specs.Tasks.{Day, Make, MakeRun, Plan, Trips, Week}
 use Rattle.planner_cli.specs.declared.status.Status.{Status}
 use Rattle.planner_cli.specs.declared.status.Status.TheVariants as statuses
 use Rattle.planner_cli.specs.DayText.{IsDayText}
 use Rattle.planner_cli.specs.Inputs.{SpellTables, most_bytes}
 use Rattle.planner_cli.specs.Run.{IsAnswer, IsText, IsWritten}
+use Rattle.planner_cli.specs.MadeText.{IsShortText}
 use Rattle.planner_cli.specs.PlanText.{IsPlanText}
 use Rattle.planner_cli.specs.Trips.{IsTripsText, picked_table}
 use Rattle.planner_cli.proofs.ModelOutcomes.{days_alike, rows_same}
-use Rattle.planner_cli.proofs.PlanOutcomes.{days_text}
+use Rattle.planner_cli.proofs.PlanOutcomes.{days_short, days_text}
 use Rattle.planner_cli.proofs.Outcomes.{kinds_same, some_same}
+use Rattle.planner_cli.proofs.WeekOutcomes.{one_week_text}
 
 -- a text spells one list of tables
 ok_same : {E : Type 0} (xs ys : List Table) (r : Result (List Table) E) → r ≡ Ok xs → r ≡ Ok ys → xs ≡ ys
@@ -85,22 +88,30 @@ one_day_text tables day xs ys p q =
     ∙ sym q.written
 
 -- one text of a plan: two days of the tables plan alike, and a day has one text
-one_plan_text : (numbers : Numbers) (tables : List Table) (day : ℕ) (xs ys : List ℕ) → IsPlanText numbers tables day xs → IsPlanText numbers tables day ys → xs ≡ ys
-one_plan_text numbers tables day xs ys p q =
+one_plan_text : (numbers : Numbers) → numbers.climb ≡ false → (tables : List Table) (day : ℕ) (xs ys : List ℕ) → IsPlanText numbers tables day xs → IsPlanText numbers tables day ys → xs ≡ ys
+one_plan_text numbers fixed tables day xs ys p q =
     let table : p.table ≡ q.table = some_same (table_of schema.trips tables) p.table q.table p.found q.found in
     let P : Table → Type 0 = λ t. IsPlanTextOver p.facts numbers t xs in
-    days_text q.facts numbers q.table xs ys (same_texts p.facts q.facts (days_alike tables day p.facts q.facts p.model q.model) numbers q.table xs (subst P table p.plan)) q.plan
+    days_text q.facts numbers fixed q.table xs ys (same_texts p.facts q.facts (days_alike tables day p.facts q.facts p.model q.model) numbers q.table xs (subst P table p.plan)) q.plan
 
-one_text : (task : Task) (tables : List Table) (day : ℕ) (xs ys : List ℕ) → IsText task tables day xs → IsText task tables day ys → xs ≡ ys
-one_text Trips tables day xs ys p q = one_trips_text tables day xs ys p q
-one_text Day tables day xs ys p q = one_day_text tables day xs ys p q
-one_text (Plan numbers) tables day xs ys p q = one_plan_text numbers tables day xs ys p q
+-- and one short text
+one_short_text : (numbers : Numbers) → numbers.climb ≡ false → (tables : List Table) (day : ℕ) (xs ys : List ℕ) → IsShortText numbers tables day xs → IsShortText numbers tables day ys → xs ≡ ys
+one_short_text numbers fixed tables day xs ys p q =
+    days_short q.facts numbers fixed xs ys (same_short_texts p.facts q.facts (days_alike tables day p.facts q.facts p.model q.model) numbers xs p.plan) q.plan
 
-pub one_answer : (task : Task) (contents : List (List ℕ)) (day : ℕ) (xs ys : List ℕ) → IsAnswer task contents day xs → IsAnswer task contents day ys → xs ≡ ys
-one_answer task contents day xs ys p q =
+one_text : (task : Task) → climbs task ≡ false → (tables : List Table) (day : ℕ) (xs ys : List ℕ) → IsText task tables day xs → IsText task tables day ys → xs ≡ ys
+one_text Trips fixed tables day xs ys p q = one_trips_text tables day xs ys p q
+one_text Day fixed tables day xs ys p q = one_day_text tables day xs ys p q
+one_text (Plan numbers) fixed tables day xs ys p q = one_plan_text numbers fixed tables day xs ys p q
+one_text (Make seed trips) fixed tables day xs ys p q = p ∙ sym q
+one_text Week fixed tables day xs ys p q = one_week_text tables xs ys p q
+one_text (MakeRun seed trips numbers) fixed tables day xs ys p q = one_short_text numbers fixed (made_tables seed trips) day xs ys p q
+
+pub one_answer : (task : Task) → climbs task ≡ false → (contents : List (List ℕ)) (day : ℕ) (xs ys : List ℕ) → IsAnswer task contents day xs → IsAnswer task contents day ys → xs ≡ ys
+one_answer task fixed contents day xs ys p q =
     let same : p.tables ≡ q.tables = one_spelling most_bytes contents p.tables q.tables p.spelled q.spelled in
     let P : List Table → Type 0 = λ ts. IsText task ts day xs in
-    one_text task q.tables day xs ys (subst P same p.written) q.written
+    one_text task fixed q.tables day xs ys (subst P same p.written) q.written
 
 -- what was taken is any text that is the one written
 pub same_taken : (old new : Option (List ℕ)) (before now : ℕ) (text bytes : List ℕ) (status : Status) → text ≡ bytes → IsWritten old new before now text status → status ≡ statuses.Ok → IfSome old (λ bytes_before. new ≡ Some (bytes_before ++ bytes))

@@ -72,6 +72,7 @@ one_cause_from_table : (tables : List Table) (day : ℕ) (fault : TableFault) (t
 one_cause_from_table tables day fault (statuses.Input (inputs.Table other)) p q = ap (λ f. statuses.Input (inputs.Table f)) (some_same _ fault other p q)
 one_cause_from_table tables day fault (statuses.Input (inputs.Trips count)) p q = none_some _ fault q.day_is.faultless p
 one_cause_from_table tables day fault (statuses.Input (inputs.Params other)) p q = absurd q
+one_cause_from_table tables day fault (statuses.Input (inputs.Days first last)) p q = absurd q
 one_cause_from_table tables day fault (statuses.Input (inputs.Trip fid other)) p q = absurd q
 one_cause_from_table tables day fault (statuses.Day other) p q = none_some _ fault q.0 p
 one_cause_from_table tables day fault (statuses.NoPlan side bound places) p q = absurd q
@@ -87,6 +88,7 @@ one_cause_from_day : (tables : List Table) (day : ℕ) (fault : DayFault) (t : S
 one_cause_from_day tables day fault (statuses.Input (inputs.Table other)) p q = none_some _ other p.0 q
 one_cause_from_day tables day fault (statuses.Input (inputs.Trips count)) p q = absurd (kind_no_fault (net_of needs.Calendar tables) day q.kind fault q.day_is.kind_is p.1)
 one_cause_from_day tables day fault (statuses.Input (inputs.Params other)) p q = absurd q
+one_cause_from_day tables day fault (statuses.Input (inputs.Days first last)) p q = absurd q
 one_cause_from_day tables day fault (statuses.Input (inputs.Trip fid other)) p q = absurd q
 one_cause_from_day tables day fault (statuses.Day other) p q = ap (λ f. statuses.Day f) (one_day_fault (net_of needs.Calendar tables) day fault other p.1 q.1)
 one_cause_from_day tables day fault (statuses.NoPlan side bound places) p q = absurd q
@@ -103,6 +105,7 @@ one_cause_from_crowd tables day count (statuses.Input (inputs.Table other)) p q 
 one_cause_from_crowd tables day count (statuses.Input (inputs.Trips other)) p q =
     ap (λ n. statuses.Input (inputs.Trips n)) (p.count_is ∙ day_count tables day p.kind q.kind p.places q.places p.day_is q.day_is ∙ sym q.count_is)
 one_cause_from_crowd tables day count (statuses.Input (inputs.Params fault)) p q = absurd q
+one_cause_from_crowd tables day count (statuses.Input (inputs.Days first last)) p q = absurd q
 one_cause_from_crowd tables day count (statuses.Input (inputs.Trip fid fault)) p q = absurd q
 one_cause_from_crowd tables day count (statuses.Day other) p q = absurd (kind_no_fault (net_of needs.Calendar tables) day p.kind other p.day_is.kind_is q.1)
 one_cause_from_crowd tables day count (statuses.NoPlan side bound places) p q = absurd q
@@ -118,6 +121,7 @@ pub one_cause : (tables : List Table) (day : ℕ) (s t : Status) → IsDayCause 
 one_cause tables day (statuses.Input (inputs.Table fault)) t p q = one_cause_from_table tables day fault t p q
 one_cause tables day (statuses.Input (inputs.Trips count)) t p q = one_cause_from_crowd tables day count t p q
 one_cause tables day (statuses.Input (inputs.Params fault)) t p q = absurd p
+one_cause tables day (statuses.Input (inputs.Days first last)) t p q = absurd p
 one_cause tables day (statuses.Input (inputs.Trip fid fault)) t p q = absurd p
 one_cause tables day (statuses.Day fault) t p q = one_cause_from_day tables day fault t p q
 one_cause tables day (statuses.NoPlan side bound places) t p q = absurd p
@@ -138,6 +142,7 @@ text_no_cause tables day bytes (statuses.Input (inputs.Trips count)) p q =
     let many = q.many in
     absurd (omega (arith, same, few, many))
 text_no_cause tables day bytes (statuses.Input (inputs.Params fault)) p q = q
+text_no_cause tables day bytes (statuses.Input (inputs.Days first last)) p q = q
 text_no_cause tables day bytes (statuses.Input (inputs.Trip fid fault)) p q = q
 text_no_cause tables day bytes (statuses.Day fault) p q = kind_no_fault (net_of needs.Calendar tables) day p.kind fault p.day_is.kind_is q.1
 text_no_cause tables day bytes (statuses.NoPlan side bound places) p q = q

@@ -17,7 +17,9 @@ use Rattle.plan_command.specs.declared.fault.PlanFault.TheVariants as faults
 use Rattle.plan_command.specs.Planning.{IsPlanCauseOver}
 use Rattle.plan_command.specs.PlanText.{HasTripRows, IsPlanTextOver}
 use Rattle.planner_cli.specs.declared.status.Status.{Status}
+use Rattle.plan_command.specs.ShortText.{IsShortTextOver}
 use Rattle.planner_cli.specs.DayText.{IsDayText, IsDayTextIn}
+use Rattle.planner_cli.specs.MadeText.{IsShortText}
 use Rattle.planner_cli.specs.Model.{IsModelIn, IsModelOf, IsModelRefusalIn, IsModelRefused}
 use Rattle.planner_cli.specs.PlanText.{IsPlanRefused, IsPlanStatus, IsPlanText, plan_status_of}
 use Rattle.planner_cli.proofs.ModelLemmas.{day_refused}
@@ -45,6 +47,10 @@ pub plan_written : (numbers : Numbers) (tables : List Table) (day : ℕ) (facts 
 plan_written numbers tables day facts table (Ok bytes) model found written = record { facts = facts; model = model; table = table; found = found; plan = written }
 plan_written numbers tables day facts table (Err status) model found written = tt
 
+pub short_written : (numbers : Numbers) (tables : List Table) (day : ℕ) (facts : DayFacts) (r : Result (List ℕ) Status) → IsModelOf tables day facts → IfOk r (IsShortTextOver facts numbers) → IfOk r (IsShortText numbers tables day)
+short_written numbers tables day facts (Ok bytes) model written = record { facts = facts; model = model; plan = written }
+short_written numbers tables day facts (Err status) model written = tt
+
 pub plan_left : (numbers : Numbers) (tables : List Table) (day : ℕ) (facts : DayFacts) (r : Result (List ℕ) Status) → IsModelOf tables day facts → IfErr r (IsPlanStatus facts numbers) → IfErr r (IsPlanRefused numbers tables day)
 plan_left numbers tables day facts (Ok bytes) model cause = tt
 plan_left numbers tables day facts (Err status) model cause = unplanned numbers tables day facts status model cause.fault cause.cause cause.is
@@ -60,8 +66,8 @@ pub day_refused_answer : (tables : List Table) (net : Net) (day : ℕ) (r : Resu
 day_refused_answer tables net day (Ok bytes) none same cause = tt
 day_refused_answer tables net day (Err status) none same cause = let P : Net → Type 0 = λ n. IsModelRefusalIn n day status in day_refused tables day status none (subst P same cause)
 
-pub model_refusal : (numbers : Numbers) (tables : List Table) (net : Net) (day : ℕ) (status : Status) → first_fault (schemas_of needs.All) tables ≡ None → net ≡ net_of needs.All tables → IsModelRefusalIn net day status → IsPlanRefused numbers tables day status
-model_refusal numbers tables net day status none same cause = let P : Net → Type 0 = λ n. IsModelRefusalIn n day status in model_to_plan numbers tables day status (day_refused tables day status none (subst P same cause))
+pub model_refusal : (tables : List Table) (net : Net) (day : ℕ) (status : Status) → first_fault (schemas_of needs.All) tables ≡ None → net ≡ net_of needs.All tables → IsModelRefusalIn net day status → IsModelRefused tables day status
+model_refusal tables net day status none same cause = let P : Net → Type 0 = λ n. IsModelRefusalIn n day status in day_refused tables day status none (subst P same cause)
 
 pub model_is : (tables : List Table) (net : Net) (day : ℕ) (facts : DayFacts) → first_fault (schemas_of needs.All) tables ≡ None → net ≡ net_of needs.All tables → IsModelIn net day facts → IsModelOf tables day facts
 model_is tables net day facts none same model = let P : Net → Type 0 = λ n. IsModelIn n day facts in record { faultless = none; model = subst P same model }

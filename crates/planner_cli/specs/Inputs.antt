@@ -74,6 +74,7 @@ IsFileCause text_fault read_fault (statuses.Input (inputs.Text file fault)) = te
 IsFileCause text_fault read_fault (statuses.Input (inputs.Table fault)) = ⊥
 IsFileCause text_fault read_fault (statuses.Input (inputs.Trips count)) = ⊥
 IsFileCause text_fault read_fault (statuses.Input (inputs.Params fault)) = ⊥
+IsFileCause text_fault read_fault (statuses.Input (inputs.Days first last)) = ⊥
 IsFileCause text_fault read_fault (statuses.Input (inputs.Trip fid fault)) = ⊥
 IsFileCause text_fault read_fault statuses.Ok = ⊥
 IsFileCause text_fault read_fault statuses.Usage = ⊥

@@ -1,6 +1,7 @@
 pub mod Codes
 pub mod DayText
 pub mod Inputs
+pub mod MadeText
 pub mod Model
 pub mod Options
 pub mod PlanText
@@ -8,5 +9,6 @@ pub mod Run
 pub mod Taken
 pub mod Tasks
 pub mod Trips
+pub mod WeekText
 pub mod Words
 pub mod Lines

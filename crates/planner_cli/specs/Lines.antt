@@ -77,13 +77,14 @@ joined (part ∷ parts) = part ++ joined parts
 -- The line of a refusal, for a day as its word has it.
 abbrev pub line_of : List ℕ → Status → List ℕ
 line_of day statuses.Ok = []
-line_of day statuses.Usage = codes "usage: planner trips|day|plan|certify|check|make\n"
+line_of day statuses.Usage = codes "usage: planner trips|day|plan|certify|check|make|replan|week\n"
 line_of day (statuses.Input (inputs.Text file fault)) =
     joined (codes "file " ∷ decimal file ∷ codes " line " ∷ decimal fault.line ∷ codes ": " ∷ text_kind fault.kind ∷ codes "\n" ∷ [])
 line_of day (statuses.Input (inputs.Table fault)) =
     joined
     (codes "table " ∷ fault.table ∷ codes " column " ∷ fault.column ∷ codes " row " ∷ decimal fault.row ∷ codes ": " ∷ table_kind fault.kind ∷ codes "\n" ∷ [])
 line_of day (statuses.Input (inputs.Trips count)) = joined (codes "trips: " ∷ decimal count ∷ codes "\n" ∷ [])
+line_of day (statuses.Input (inputs.Days first last)) = joined (codes "days: " ∷ decimal first ∷ codes " to " ∷ decimal last ∷ codes "\n" ∷ [])
 line_of day (statuses.Input (inputs.Params fault)) =
     joined (codes "table " ∷ fault.table ∷ codes " row " ∷ decimal fault.row ∷ codes ": " ∷ param_kind fault.kind ∷ codes "\n" ∷ [])
 line_of day (statuses.Input (inputs.Trip fid fault)) = joined (codes "trip " ∷ decimal fid ∷ codes ": " ∷ (trip_words fault ++ codes "\n" ∷ []))

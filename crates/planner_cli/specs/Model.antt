@@ -44,6 +44,7 @@ abbrev pub IsModelCause : List Table → ℕ → Status → Type 0
 IsModelCause tables day (statuses.Input (inputs.Table fault)) = first_fault (schemas_of needs.All) tables ≡ Some fault
 IsModelCause tables day (statuses.Input (inputs.Trips count)) = HasModelFault tables day (models.TooManyTrips count)
 IsModelCause tables day (statuses.Input (inputs.Params fault)) = HasModelFault tables day (models.Params fault)
+IsModelCause tables day (statuses.Input (inputs.Days first last)) = ⊥
 IsModelCause tables day (statuses.Input (inputs.Trip fid fault)) = HasModelFault tables day (models.Trip fid fault)
 IsModelCause tables day (statuses.Day fault) = (first_fault (schemas_of needs.All) tables ≡ None) × IsDayFault (net_of needs.All tables) day fault
 IsModelCause tables day (statuses.Input (inputs.Text file fault)) = ⊥

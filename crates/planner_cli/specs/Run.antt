@@ -1,5 +1,5 @@
 -- What the top call answers, from the words, from what the files hold and from the counts of faults.
-use Rattle.std.specs.Prelude.{◌≡◌, ℕ, ◌⊎◌, List, ◌++◌, take, Option, Some, IfSome}
+use Rattle.std.specs.Prelude.{◌≡◌, ℕ, Bool, true, false, ◌&&◌, ◌⊎◌, List, ◌++◌, take, Option, Some, IfSome}
 use Rattle.plan_core.specs.Outside.{Rose}
 use Rattle.vdv451_text.specs.declared.table.Table.{Table}
 use Rattle.planner_cli.specs.declared.status.Status.{Status}
@@ -7,25 +7,34 @@ use Rattle.planner_cli.specs.declared.status.Status.TheVariants as statuses
 use Rattle.planner_cli.specs.declared.status.InputFault.TheVariants as inputs
 use Rattle.planner_cli.specs.Inputs.{HasTextFault, SpellTables, held_under, most_bytes}
 use Rattle.planner_cli.specs.Taken.{TakesFront}
+use Rattle.day_maker.specs.Made.{made_tables}
 use Rattle.planner_cli.specs.DayText.{IsDayText}
+use Rattle.planner_cli.specs.MadeText.{IsMadeText, IsShortText}
 use Rattle.planner_cli.specs.Model.{IsModelCause}
 use Rattle.planner_cli.specs.PlanText.{IsPlanCause, IsPlanText}
 use Rattle.planner_cli.specs.Trips.{IsDayCause, IsTripsText}
-use Rattle.planner_cli.specs.Tasks.{Task}
-use Rattle.planner_cli.specs.Tasks.{Day, Plan, Trips}
+use Rattle.planner_cli.specs.WeekText.{IsWeekCause, IsWeekText}
+use Rattle.planner_cli.specs.Tasks.{Task, climbs}
+use Rattle.planner_cli.specs.Tasks.{Day, Make, MakeRun, Plan, Trips, Week}
 use Rattle.planner_cli.specs.declared.words.Request.{Request}
 
--- the text that a command writes of the tables, for a day
+-- the text that a command writes of the tables, for a day; a day that is made is its own tables
 abbrev pub IsText : Task → List Table → ℕ → List ℕ → Type 0
 IsText Trips tables day bytes = IsTripsText tables day bytes
 IsText Day tables day bytes = IsDayText tables day bytes
 IsText (Plan numbers) tables day bytes = IsPlanText numbers tables day bytes
+IsText (Make seed trips) tables day bytes = IsMadeText seed trips bytes
+IsText Week tables day bytes = IsWeekText tables bytes
+IsText (MakeRun seed trips numbers) tables day bytes = IsShortText numbers (made_tables seed trips) day bytes
 
 -- why a command refuses the tables, for a day
 abbrev pub IsCause : Task → List Table → ℕ → Status → Type 0
 IsCause Trips tables day status = IsDayCause tables day status
 IsCause Day tables day status = IsModelCause tables day status
 IsCause (Plan numbers) tables day status = IsPlanCause numbers tables day status
+IsCause (Make seed trips) tables day status = ⊥
+IsCause Week tables day status = IsWeekCause tables status
+IsCause (MakeRun seed trips numbers) tables day status = IsPlanCause numbers (made_tables seed trips) day status
 
 -- memory ran out, or the command refuses the tables for the day
 abbrev pub IsRefused : Task → List Table → ℕ → Status → Type 0
@@ -49,6 +58,7 @@ IsRefusal task contents day (statuses.Input (inputs.Text file fault)) = HasTextF
 IsRefusal task contents day (statuses.Input (inputs.Table fault)) = IsTablesRefusal task contents day (statuses.Input (inputs.Table fault))
 IsRefusal task contents day (statuses.Input (inputs.Trips count)) = IsTablesRefusal task contents day (statuses.Input (inputs.Trips count))
 IsRefusal task contents day (statuses.Input (inputs.Params fault)) = IsTablesRefusal task contents day (statuses.Input (inputs.Params fault))
+IsRefusal task contents day (statuses.Input (inputs.Days first last)) = IsTablesRefusal task contents day (statuses.Input (inputs.Days first last))
 IsRefusal task contents day (statuses.Input (inputs.Trip fid fault)) = IsTablesRefusal task contents day (statuses.Input (inputs.Trip fid fault))
 IsRefusal task contents day (statuses.Day fault) = IsTablesRefusal task contents day (statuses.Day fault)
 IsRefusal task contents day (statuses.NoPlan side bound places) = IsTablesRefusal task contents day (statuses.NoPlan side bound places)
@@ -105,6 +115,7 @@ names_for names (statuses.Input (inputs.Text file fault)) = take file names
 names_for names (statuses.Input (inputs.Table fault)) = names
 names_for names (statuses.Input (inputs.Trips count)) = names
 names_for names (statuses.Input (inputs.Params fault)) = names
+names_for names (statuses.Input (inputs.Days first last)) = names
 names_for names (statuses.Input (inputs.Trip fid fault)) = names
 names_for names (statuses.Day fault) = names
 names_for names (statuses.NoPlan side bound places) = names
@@ -118,3 +129,19 @@ names_for names statuses.WriteFault = names
 -- what these files hold, where all of them tell it
 abbrev pub told_for : (List ℕ → Option (List ℕ)) → List (List ℕ) → Status → Option (List (List ℕ))
 told_for held names status = held_under held (names_for names status)
+
+-- whether a refusal is one of planning itself, and not of what the files hold
+abbrev pub is_of_planning : Status → Bool
+is_of_planning (statuses.NoPlan side bound places) = true
+is_of_planning (statuses.NotPlaced side item name partial) = true
+is_of_planning (statuses.Input fault) = false
+is_of_planning (statuses.Day fault) = false
+is_of_planning (statuses.ReadFault file) = false
+is_of_planning statuses.Memory = false
+is_of_planning statuses.Ok = false
+is_of_planning statuses.Usage = false
+is_of_planning statuses.WriteFault = false
+
+-- Whether the definitions leave open if it is this refusal that comes. What climbing promises may be met by several plans and bounds.
+abbrev pub is_open : Task → Status → Bool
+is_open task status = is_of_planning status && climbs task

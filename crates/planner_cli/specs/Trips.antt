@@ -68,6 +68,7 @@ IsDayCause tables day (statuses.Input (inputs.Trips count)) = HasTooMany tables 
 IsDayCause tables day (statuses.Day fault) = (first_fault (schemas_of needs.Calendar) tables ≡ None) × IsDayFault (net_of needs.Calendar tables) day fault
 IsDayCause tables day (statuses.Input (inputs.Text file fault)) = ⊥
 IsDayCause tables day (statuses.Input (inputs.Params fault)) = ⊥
+IsDayCause tables day (statuses.Input (inputs.Days first last)) = ⊥
 IsDayCause tables day (statuses.Input (inputs.Trip fid fault)) = ⊥
 IsDayCause tables day (statuses.NoPlan side bound places) = ⊥
 IsDayCause tables day (statuses.NotPlaced side item name partial) = ⊥

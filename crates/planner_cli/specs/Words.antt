@@ -1,14 +1,19 @@
 -- The words of the command line.
-use Rattle.std.specs.Prelude.{ℕ, Bool, true, false, ◌==◌, ◌&&◌, List, [], ◌∷◌, ◌++◌, drop, length, codes, nat_le, Option, Some, None, if◌then◌else◌}
+use Rattle.std.specs.Prelude.{ℕ, ◌≤◌, Bool, true, false, ◌==◌, ◌&&◌, List, [], ◌∷◌, ◌++◌, drop, length, codes, nat_le, Option, Some, None, if◌then◌else◌}
 use Rattle.std.specs.Char.{is_ascii_digit}
 use Rattle.std.specs.List.{list_all}
-use Rattle.std.specs.Option.{option_and_then}
+use Rattle.std.specs.Option.{option_and_then, option_map}
 use Rattle.std.specs.Str.{bytes_eq}
 use Rattle.std.specs.Str.Parse.{digits_value}
 use Rattle.price_rounds.specs.declared.effort.Effort.{Effort}
-use Rattle.planner_cli.specs.Options.{effort_said, plain_of, said}
+use Rattle.planner_cli.specs.Options.{plain_of, said, settings_said}
+use Rattle.planner_cli.specs.declared.options.Allowed.{Allowed}
+use Rattle.planner_cli.specs.declared.options.Allowed.TheVariants.{Nothing, Planning, Everything}
+use Rattle.planner_cli.specs.declared.options.Settings.{Settings}
 use Rattle.planner_cli.specs.declared.words.Command.{Command}
-use Rattle.planner_cli.specs.declared.words.Command.TheVariants.{Day, Plan, Trips}
+use Rattle.planner_cli.specs.declared.words.Command.TheVariants as commands
+use Rattle.planner_cli.specs.declared.words.CommandName.{CommandName}
+use Rattle.planner_cli.specs.declared.words.CommandName.TheVariants.{Trips, Day, Plan, Make, Week}
 use Rattle.planner_cli.specs.declared.words.Request.{Request}
 
 -- the word that ends the options
@@ -43,18 +48,36 @@ abbrev pub are_day_and_files : List (List ℕ) → Bool
 are_day_and_files [] = false
 are_day_and_files (day ∷ files) = day_word day && (list_all file_word files && (nat_le 1 (length files) && nat_le (length files) 64))
 
--- the command that a word names
-abbrev pub command_of : List ℕ → Option Command
-command_of word =
+-- one to nine ASCII digits
+abbrev pub seed_word : List ℕ → Bool
+seed_word word = list_all is_ascii_digit word && (nat_le 1 (length word) && nat_le (length word) 9)
+
+-- there are no words
+abbrev pub no_words : List (List ℕ) → Bool
+no_words [] = true
+no_words (word ∷ words) = false
+
+-- the number that one word alone gives as a seed
+abbrev pub seed_said : List (List ℕ) → Option ℕ
+seed_said [] = None
+seed_said (seed ∷ others) = if seed_word seed && no_words others then Some (digits_value 10 seed) else None
+
+-- the name of a command that a word is
+abbrev pub name_of : List ℕ → Option CommandName
+name_of word =
     if bytes_eq word (codes "trips") then Some Trips else
     (if bytes_eq word (codes "day") then Some Day else
-    (if bytes_eq word (codes "plan") then Some Plan else None))
+    (if bytes_eq word (codes "plan") then Some Plan else
+    (if bytes_eq word (codes "make") then Some Make else
+    (if bytes_eq word (codes "week") then Some Week else None))))
 
--- planning takes options
-abbrev pub takes_options : Command → Bool
-takes_options Trips = false
-takes_options Day = false
-takes_options Plan = true
+-- planning takes options, and making a day takes them and more
+abbrev pub allowed_of : CommandName → Allowed
+allowed_of Trips = Nothing
+allowed_of Day = Nothing
+allowed_of Plan = Planning
+allowed_of Make = Everything
+allowed_of Week = Nothing
 
 -- the first of the words
 abbrev pub first_word : List (List ℕ) → List ℕ
@@ -66,17 +89,55 @@ abbrev pub day_said : List (List ℕ) → List ℕ
 day_said words = first_word (plain_words (drop 1 words))
 
 -- a request for a day and files
-abbrev pub request_for : Command → Effort → List (List ℕ) → Option Request
-request_for command effort words =
+abbrev pub day_request : Command → Effort → List (List ℕ) → Option Request
+day_request command effort words =
     if are_day_and_files words
     then Some (record { command = command; effort = effort; day = digits_value 10 (first_word words); names = drop 1 words })
     else None
 
--- what the words behind a command ask for
-abbrev pub asked_of : Command → List (List ℕ) → Option Request
-asked_of command words = option_and_then (λ effort. request_for command effort (plain_words words)) (effort_said (takes_options command) (before_end words))
+-- the day of a calendar that is made
+abbrev pub made_day : ℕ
+made_day = 20260302
 
--- What words ask for: a command by the very first of them, then its options in any place, a day and files.
+-- a request for a day that is made from a seed: no file is read
+abbrev pub make_request : Settings → ℕ → Request
+make_request settings seed = record {
+  command = commands.Make (record { seed = seed; trips = settings.trips; run = settings.run });
+  effort = settings.effort;
+  day = made_day;
+  names = [];
+}
+
+-- one word alone, which is the name of a file
+abbrev pub is_roster : List (List ℕ) → Bool
+is_roster [] = false
+is_roster (file ∷ others) = file_word file && no_words others
+
+-- a request for a roster, which has days of its own
+abbrev pub week_request : Effort → List (List ℕ) → Option Request
+week_request effort words = if is_roster words then Some (record { command = commands.Week; effort = effort; day = 0; names = words }) else None
+
+-- a request by the name of its command, what its options set, and its plain words
+abbrev pub request_for : CommandName → Settings → List (List ℕ) → Option Request
+request_for Trips settings words = day_request commands.Trips settings.effort words
+request_for Day settings words = day_request commands.Day settings.effort words
+request_for Plan settings words = day_request commands.Plan settings.effort words
+request_for Make settings words = option_map (make_request settings) (seed_said words)
+request_for Week settings words = week_request settings.effort words
+
+-- what the words behind the name of a command ask for
+abbrev pub asked_of : CommandName → List (List ℕ) → Option Request
+asked_of name words = option_and_then (λ settings. request_for name settings (plain_words words)) (settings_said (allowed_of name) (before_end words))
+
+-- What words ask for: a command by the very first of them, then its options in any place, and a day and files, a seed, or a roster.
 abbrev pub asked : List (List ℕ) → Option Request
 asked [] = None
-asked (word ∷ words) = option_and_then (λ command. asked_of command words) (command_of word)
+asked (word ∷ words) = option_and_then (λ name. asked_of name words) (name_of word)
+
+-- a day that is made has at most 3,000 trips
+abbrev pub HasFewTrips : Command → Type 0
+HasFewTrips (commands.Make making) = making.trips ≤ 3000
+HasFewTrips commands.Trips = Unit {0}
+HasFewTrips commands.Day = Unit {0}
+HasFewTrips commands.Plan = Unit {0}
+HasFewTrips commands.Week = Unit {0}

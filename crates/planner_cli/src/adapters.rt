@@ -54,7 +54,7 @@ fn read_front<F: Read + Seek>(
 }
 
 /// Copies so many bytes into the front of a buffer.
-fn copy_front(piece: &[u8], count: usize, buf: &mut [u8])
+pub(crate) fn copy_front(piece: &[u8], count: usize, buf: &mut [u8])
     requires read { count ≤ length piece.now }
     requires room { count ≤ length buf.old }
     ensures len { length buf.new ≡ length buf.old }

@@ -1,6 +1,6 @@
 //! What a request is answered: the text of its command, from the files that it names.
 
-ghost use Rattle.std.specs.Prelude.{◌≡◌, ◌≢◌, ◌≤◌, ◌<◌, ◌^◌, ◌⊎◌, ◌++◌, ℕ, List, Some, All, IsTrue, IfOk, IfErr, IfSome, IsSomeAnd, IsErrOf, MatchResult, length};
+ghost use Rattle.std.specs.Prelude.{◌≡◌, ◌≢◌, ◌≤◌, ◌<◌, ◌^◌, ◌⊎◌, ◌++◌, ℕ, List, Some, All, IsTrue, IfOk, IfErr, IfSome, IsSomeAnd, IsErrOf, MatchResult, length, false};
 ghost use Rattle.plan_core.specs.Outside.{Rose};
 ghost use Rattle.vdv451_text.specs.Plain.{are_plain};
 ghost use Rattle.cover_core.specs.declared.Plan.{Plan as RunPlan};
@@ -11,15 +11,18 @@ ghost use Rattle.plan_command.specs.declared.fault.ItemName.{ItemName as RunName
 ghost use Rattle.planner_cli.specs.declared.status.Status.{Status as RunStatus};
 ghost use Rattle.price_rounds.specs.Efforts.{IsEffort};
 ghost use Rattle.planner_cli.specs.Inputs.{IsReadFault, IsUnread, NoneRose, held_under};
-ghost use Rattle.planner_cli.specs.Run.{IsAnswer, IsAnswerCause, IsRefusal, IsRefused, IsText, IsWritten, TakesAnswer, TakesFrontOfAnswer, names_for, told, told_for};
-ghost use Rattle.planner_cli.specs.Tasks.{task_of};
+ghost use Rattle.planner_cli.specs.Run.{IsAnswer, IsAnswerCause, IsRefusal, IsRefused, IsText, IsWritten, TakesAnswer, TakesFrontOfAnswer, is_open, names_for, told, told_for};
+ghost use Rattle.planner_cli.specs.Tasks.{climbs, task_of};
+ghost use Rattle.planner_cli.specs.Words.{HasFewTrips};
 
 use crate::day::day_text;
 use crate::inputs::read_inputs;
+use crate::made::made_text;
 use crate::plan::plan_text;
 use crate::status::Status;
 use crate::transfer::write_whole;
 use crate::trips::trips_text;
+use crate::week::week_text;
 use crate::words::{Command, Request};
 use plan_core::{Bytes, Files, Gate, Sink};
 use std::alloc::Global;
@@ -37,6 +40,7 @@ fn text_of<R: Threads + Sync, G: Gate + Sync>(
     requires plain { IsTrue (are_plain tables.now) }
     requires sized { All (λ table. length table.rows < 2 ^ 32) tables.now }
     requires effort { IsEffort request.now.effort }
+    requires trips { HasFewTrips request.now.command }
     ensures written { IfOk result (IsText (task_of request.now) tables.now request.now.day) }
     ensures cause { IfErr result (IsRefused (task_of request.now) tables.now request.now.day) }
 {
@@ -44,6 +48,10 @@ fn text_of<R: Threads + Sync, G: Gate + Sync>(
         Command::Trips => trips_text(alloc, tables, request.day),
         Command::Day => day_text(alloc, tables, request.day),
         Command::Plan => plan_text(rt, alloc, tables, request.day, &request.effort, gate),
+        Command::Week => week_text(alloc, tables),
+        Command::Make(making) => {
+            made_text(rt, alloc, making, request.day, &request.effort, gate)
+        }
     }
 }
 
@@ -58,10 +66,11 @@ fn answer_of<R: Threads + Sync, F: Files, G: Gate + Sync>(
 ) -> Result<Bytes, Status>
     requires few { length names.now ≤ 64 }
     requires effort { IsEffort request.now.effort }
+    requires trips { HasFewTrips request.now.command }
     ensures written { IfOk result (λ bytes. IfSome (held_under (F.held files.old) names.now) (λ contents. IsAnswer (task_of request.now) contents request.now.day bytes)) }
     ensures cause { IfErr result (IsAnswerCause (λ status. IfSome (told_for (F.held files.old) names.now status) (λ contents. IsRefusal (task_of request.now) contents request.now.day status)) (IsReadFault (F.held files.old) names.now (F.faults files.old) (F.faults files.new))) }
-    ensures refused { (status : RunStatus) → IfSome (told_for (F.held files.old) names.now status) (λ contents. IsRefusal (task_of request.now) contents request.now.day status → MatchResult result (λ _. ⊥) (λ answer. IsUnread answer ⊎ (answer ≡ status))) }
-    ensures complete { (bytes : List ℕ) → IfSome (held_under (F.held files.old) names.now) (λ contents. IsAnswer (task_of request.now) contents request.now.day bytes → MatchResult result (λ _. Unit {0}) IsUnread) }
+    ensures refused { (status : RunStatus) → is_open (task_of request.now) status ≡ false → IfSome (told_for (F.held files.old) names.now status) (λ contents. IsRefusal (task_of request.now) contents request.now.day status → MatchResult result (λ _. ⊥) (λ answer. IsUnread answer ⊎ (answer ≡ status))) }
+    ensures complete { (bytes : List ℕ) → climbs (task_of request.now) ≡ false → IfSome (held_under (F.held files.old) names.now) (λ contents. IsAnswer (task_of request.now) contents request.now.day bytes → MatchResult result (λ _. Unit {0}) IsUnread) }
     ensures still { ((file : ℕ) → ¬ IsErrOf result (Status.ReadFault file)) → (other : List ℕ) → F.faults files.new other ≡ F.faults files.old other }
     ensures same { (other : List ℕ) → F.held files.new other ≡ F.held files.old other }
 {
@@ -81,12 +90,14 @@ fn answer<R: Threads + Sync, F: Files, G: Gate + Sync>(
 ) -> Result<Bytes, Status>
     requires few { length request.now.names ≤ 64 }
     requires effort { IsEffort request.now.effort }
+    requires trips { HasFewTrips request.now.command }
     ensures written { IfOk result (λ bytes. IfSome (told (F.held files.old) request.now) (λ contents. IsAnswer (task_of request.now) contents request.now.day bytes)) }
     ensures cause { IfErr result (IsAnswerCause (λ status. IfSome (told_for (F.held files.old) request.now.names status) (λ contents. IsRefusal (task_of request.now) contents request.now.day status)) (IsReadFault (F.held files.old) request.now.names (F.faults files.old) (F.faults files.new))) }
 
-    // What the files call for is answered, unless memory runs out or a read fails.
-    ensures refused { (status : RunStatus) → IfSome (told_for (F.held files.old) request.now.names status) (λ contents. IsRefusal (task_of request.now) contents request.now.day status → MatchResult result (λ _. ⊥) (λ answer. IsUnread answer ⊎ (answer ≡ status))) }
-    ensures complete { (bytes : List ℕ) → IfSome (told (F.held files.old) request.now) (λ contents. IsAnswer (task_of request.now) contents request.now.day bytes → MatchResult result (λ _. Unit {0}) IsUnread) }
+    // What the files call for is answered, unless memory runs out or a read fails; but for which plan or refusal of planning climbing ends
+    // with.
+    ensures refused { (status : RunStatus) → is_open (task_of request.now) status ≡ false → IfSome (told_for (F.held files.old) request.now.names status) (λ contents. IsRefusal (task_of request.now) contents request.now.day status → MatchResult result (λ _. ⊥) (λ answer. IsUnread answer ⊎ (answer ≡ status))) }
+    ensures complete { (bytes : List ℕ) → climbs (task_of request.now) ≡ false → IfSome (told (F.held files.old) request.now) (λ contents. IsAnswer (task_of request.now) contents request.now.day bytes → MatchResult result (λ _. Unit {0}) IsUnread) }
     ensures still { ((file : ℕ) → ¬ IsErrOf result (Status.ReadFault file)) → (other : List ℕ) → F.faults files.new other ≡ F.faults files.old other }
     ensures same { (other : List ℕ) → F.held files.new other ≡ F.held files.old other }
 {
@@ -115,6 +126,7 @@ pub fn carry_out<R: Threads + Sync, F: Files, O: Sink, G: Gate + Sync>(
 ) -> Status
     requires few { length request.now.names ≤ 64 }
     requires effort { IsEffort request.now.effort }
+    requires trips { HasFewTrips request.now.command }
     ensures right { result ≢ Status.Usage }
 
     // A refusal has its cause in what the files hold, and a fault of the outside in a count that rose.
@@ -128,7 +140,7 @@ pub fn carry_out<R: Threads + Sync, F: Files, O: Sink, G: Gate + Sync>(
     // What the sink took: the whole text, a front of it, or nothing.
     ensures ok { result ≡ Status.Ok → IfSome (told (F.held files.old) request.now) (λ contents. IfSome (O.taken out.old) (TakesAnswer (task_of request.now) contents request.now.day (O.taken out.new))) }
     ensures front { result ≡ Status.WriteFault → IfSome (told (F.held files.old) request.now) (λ contents. IfSome (O.taken out.old) (TakesFrontOfAnswer (task_of request.now) contents request.now.day (O.taken out.new))) }
-    ensures only { (bytes : List ℕ) → result ≡ Status.Ok
+    ensures only { (bytes : List ℕ) → result ≡ Status.Ok → climbs (task_of request.now) ≡ false
         → IfSome (told (F.held files.old) request.now) (λ contents. IsAnswer (task_of request.now) contents request.now.day bytes → IfSome (O.taken out.old) (λ old. O.taken out.new ≡ Some (old ++ bytes))) }
     ensures nothing { result ≢ Status.Ok → result ≢ Status.WriteFault → out.new ≡ out.old }
 
@@ -137,10 +149,11 @@ pub fn carry_out<R: Threads + Sync, F: Files, O: Sink, G: Gate + Sync>(
     ensures same { (other : List ℕ) → F.held files.new other ≡ F.held files.old other }
     ensures unmoved { result ≢ Status.WriteFault → O.faults out.new ≡ O.faults out.old }
 
-    // Where no count rises, what the files call for is answered, or want of memory.
-    ensures refused { (status : RunStatus) → IsSomeAnd (told_for (F.held files.old) request.now.names status) (λ contents. IsRefusal (task_of request.now) contents request.now.day status)
+    // Where no count rises, what the files call for is answered, or want of memory; but for which plan or refusal of planning climbing
+    // ends with.
+    ensures refused { (status : RunStatus) → is_open (task_of request.now) status ≡ false → IsSomeAnd (told_for (F.held files.old) request.now.names status) (λ contents. IsRefusal (task_of request.now) contents request.now.day status)
         → NoneRose (names_for request.now.names status) (F.faults files.old) (F.faults files.new) → (result ≡ status) ⊎ (result ≡ Status.Memory) }
-    ensures complete { IsSomeAnd (told (F.held files.old) request.now) (λ contents. (bytes : List ℕ) × IsAnswer (task_of request.now) contents request.now.day bytes)
+    ensures complete { climbs (task_of request.now) ≡ false → IsSomeAnd (told (F.held files.old) request.now) (λ contents. (bytes : List ℕ) × IsAnswer (task_of request.now) contents request.now.day bytes)
         → NoneRose request.now.names (F.faults files.old) (F.faults files.new) → ¬ Rose (O.faults out.old) (O.faults out.new)
         → (result ≡ Status.Ok) ⊎ (result ≡ Status.Memory) }
 {

@@ -252,6 +252,17 @@ fn tell_line<E: Sink>(err: &mut E, line: &[u8])
     let _ = write_whole(err, line);
 }
 
+/// Writes the first and the last day of a roster.
+fn tell_days<E: Sink>(err: &mut E, first: u32, last: u32)
+    ensures { (day : List ℕ) → spec.IsTold (E.taken err.old) (E.taken err.new) (E.faults err.old) (E.faults err.new) (spec.line_of day (Status.Input (InputFault.Days first last))) }
+{
+    let is_whole = write_part(err, true, b"days: ");
+    let is_whole = write_number(err, is_whole, first as u64);
+    let is_whole = write_part(err, is_whole, b" to ");
+    let is_whole = write_number(err, is_whole, last as u64);
+    let _ = write_part(err, is_whole, b"\n");
+}
+
 fn tell_input<E: Sink>(err: &mut E, fault: &InputFault)
     ensures { (day : List ℕ) → spec.IsTold (E.taken err.old) (E.taken err.new) (E.faults err.old) (E.faults err.new) (spec.line_of day (Status.Input fault.now)) }
 {
@@ -260,6 +271,7 @@ fn tell_input<E: Sink>(err: &mut E, fault: &InputFault)
         InputFault::Table(fault) => tell_table(err, fault),
         InputFault::Params(fault) => tell_params(err, fault),
         InputFault::Trip { fid, fault } => tell_trip(err, *fid, *fault),
+        InputFault::Days { first, last } => tell_days(err, *first, *last),
         InputFault::Trips { count } => tell_number(err, b"trips: ", *count as u64),
     }
 }
@@ -272,7 +284,10 @@ pub fn tell<E: Sink>(err: &mut E, day: &[u8], status: &Status)
     match status {
         Status::Ok => unreachable!(),
         Status::Usage => {
-            tell_line(err, b"usage: planner trips|day|plan|certify|check|make\n");
+            tell_line(
+                err,
+                b"usage: planner trips|day|plan|certify|check|make|replan|week\n",
+            );
         }
         Status::Input(fault) => tell_input(err, fault),
         Status::Day(fault) => tell_day(err, day, *fault),

@@ -1,6 +1,6 @@
-//! The options of planning among the words behind a command.
+//! The options among the words behind a command.
 
-ghost use Rattle.std.specs.Prelude.{◌≡◌, ◌<◌, ◌||◌, ◌&&◌, ◌∷◌, not, [], IfSome, IfNone, List, ℕ, Some, None, length, true, false};
+ghost use Rattle.std.specs.Prelude.{◌≡◌, ◌<◌, ◌≤◌, ◌&&◌, ◌∷◌, not, [], IfSome, IfNone, List, ℕ, Some, None, length, true, false};
 ghost use Rattle.std.specs.Option.{option_and_then, option_map};
 ghost use Rattle.planner_cli.specs.Options.{given_with};
 ghost use Rattle.std.specs.Char.{is_ascii_digit};
@@ -12,13 +12,38 @@ ghost use Rattle.planner_cli.specs.Options as spec;
 use plan_core::Bytes;
 use price_rounds::Effort;
 
-/// The numbers of the options that are given.
+/// Which options a command takes.
+#[derive(Clone, Copy, Debug, PartialEq, Eq)]
+pub enum Allowed {
+    /// None.
+    Nothing,
+    /// Those of planning: `--workers`, `--rounds`, `--lower`, `--exchange` and `--climb`.
+    Planning,
+    /// Those of planning, and those of making a day: `--trips` and `--run`.
+    Everything,
+}
+
+/// What options set.
+#[derive(Clone, Copy)]
+pub struct Settings {
+    /// How much work a plan is given.
+    pub effort: Effort,
+    /// How many trips a made day has, from 1 to 3,000.
+    pub trips: u32,
+    /// Whether a made day is planned.
+    pub run: bool,
+}
+
+/// The options that are given, and their numbers.
 #[derive(Clone, Copy)]
 struct Given {
     workers: Option<u32>,
     rounds: Option<u32>,
     lower: Option<u32>,
     exchange: Option<u32>,
+    climb: bool,
+    trips: Option<u32>,
+    run: bool,
 }
 
 /// An option and its value in one word.
@@ -35,6 +60,15 @@ fn is_option(word: &[u8]) -> bool
         [first, _, ..] => *first == b'-',
         _ => false,
     }
+}
+
+/// Whether a word is one of the flags `--run` and `--climb`, which have no value.
+fn is_flag(word: &[u8]) -> bool
+    ensures { result ≡ spec.is_flag word.now }
+{
+    let run: &[u8] = b"--run";
+    let climb: &[u8] = b"--climb";
+    word == run || word == climb
 }
 
 /// Cuts a word at its first `=`.
@@ -66,10 +100,10 @@ fn is_number(word: &[u8]) -> bool
     are_digits(word) && (1 <= word.len() && word.len() <= 4)
 }
 
-/// The number that at most eight digits spell.
+/// The number that at most nine digits spell.
 pub(crate) fn digits_number(word: &[u8]) -> u32
     requires digits { list_all is_ascii_digit word.now ≡ true }
-    requires few { length word.now < 9 }
+    requires few { length word.now < 10 }
     ensures { result ≡ digits_value 10 word.now }
 {
     let mut number = 0u32;
@@ -89,7 +123,7 @@ fn once(old: Option<u32>, value: &[u8]) -> Option<u32>
     }
 }
 
-/// One more option, where it is one and was not given before.
+/// One more option with a value, where it is one and was not given before.
 fn with_setting(given: Given, name: &[u8], value: &[u8]) -> Option<Given>
     ensures { result ≡ spec.with_setting given name.now value.now }
 {
@@ -97,6 +131,7 @@ fn with_setting(given: Given, name: &[u8], value: &[u8]) -> Option<Given>
     let rounds: &[u8] = b"--rounds";
     let lower: &[u8] = b"--lower";
     let exchange: &[u8] = b"--exchange";
+    let trips: &[u8] = b"--trips";
     let mut given = given;
     if name == workers {
         given.workers = Some(once(given.workers, value)?);
@@ -106,10 +141,51 @@ fn with_setting(given: Given, name: &[u8], value: &[u8]) -> Option<Given>
         given.lower = Some(once(given.lower, value)?);
     } else if name == exchange {
         given.exchange = Some(once(given.exchange, value)?);
+    } else if name == trips {
+        given.trips = Some(once(given.trips, value)?);
     } else {
         return None;
     }
     Some(given)
+}
+
+/// That a made day is planned, where it was not said before.
+fn with_run(given: Given) -> Option<Given>
+    ensures { result ≡ spec.with_run given }
+{
+    if given.run {
+        return None;
+    }
+    let mut given = given;
+    given.run = true;
+    Some(given)
+}
+
+/// That plans are found by climbing, where it was not said before.
+fn with_climb(given: Given) -> Option<Given>
+    ensures { result ≡ spec.with_climb given }
+{
+    if given.climb {
+        return None;
+    }
+    let mut given = given;
+    given.climb = true;
+    Some(given)
+}
+
+/// One more flag, where it is one and was not given before.
+fn with_flag(given: Given, word: &[u8]) -> Option<Given>
+    ensures { result ≡ spec.with_flag given word.now }
+{
+    let run: &[u8] = b"--run";
+    let climb: &[u8] = b"--climb";
+    if word == run {
+        with_run(given)
+    } else if word == climb {
+        with_climb(given)
+    } else {
+        None
+    }
 }
 
 /// Reading of words: the options so far, and one that waits for its value.
@@ -130,6 +206,10 @@ fn with_word<'w>(reading: Reading<'w>, word: &'w [u8]) -> Option<Reading<'w>>
             waiting: None,
         }),
         None if !is_option(word) => Some(reading),
+        None if is_flag(word) => Some(Reading {
+            given: with_flag(given, word)?,
+            waiting: None,
+        }),
         None => match cut(word) {
             Some(cut) => Some(Reading {
                 given: with_setting(given, cut.name, cut.value)?,
@@ -153,6 +233,9 @@ fn given_in(words: &[Bytes]) -> Option<Given>
             rounds: None,
             lower: None,
             exchange: None,
+            climb: false,
+            trips: None,
+            run: false,
         },
         waiting: None,
     };
@@ -168,11 +251,29 @@ fn given_in(words: &[Bytes]) -> Option<Given>
     }
 }
 
-fn is_nothing(given: Given) -> bool
-    ensures { result ≡ spec.is_nothing given }
+fn plans_nothing(given: Given) -> bool
+    ensures { result ≡ spec.plans_nothing given }
 {
     given.workers.is_none()
-        && (given.rounds.is_none() && (given.lower.is_none() && given.exchange.is_none()))
+        && (given.rounds.is_none()
+            && (given.lower.is_none() && (given.exchange.is_none() && !given.climb)))
+}
+
+fn makes_nothing(given: Given) -> bool
+    ensures { result ≡ spec.makes_nothing given }
+{
+    given.trips.is_none() && !given.run
+}
+
+/// Whether a command that takes these options takes those that are given.
+fn is_allowed(allowed: Allowed, given: Given) -> bool
+    ensures { result ≡ spec.is_allowed allowed given }
+{
+    match allowed {
+        Allowed::Nothing => plans_nothing(given) && makes_nothing(given),
+        Allowed::Planning => makes_nothing(given),
+        Allowed::Everything => true,
+    }
 }
 
 fn effort_of(given: Given) -> Effort
@@ -183,6 +284,7 @@ fn effort_of(given: Given) -> Effort
         rounds: given.rounds.unwrap_or(40),
         lower: given.lower.unwrap_or(20),
         exchange: given.exchange.unwrap_or(20),
+        climb: given.climb,
     }
 }
 
@@ -194,15 +296,33 @@ fn is_in_range(effort: Effort) -> bool
             && ((1 <= effort.lower && effort.lower <= 50) && effort.exchange <= 1_000))
 }
 
-/// The effort that words before `--` ask for, of a command that takes options or takes none.
-pub fn effort_said(takes_options: bool, words: &[Bytes]) -> Option<Effort>
-    ensures said { result ≡ spec.effort_said takes_options words.now }
-    ensures effort { IfSome result IsEffort }
+/// What options set, where 240 trips are made unless said.
+fn settings_of(given: Given) -> Settings
+    ensures { result ≡ spec.settings_of given }
+{
+    Settings {
+        effort: effort_of(given),
+        trips: given.trips.unwrap_or(240),
+        run: given.run,
+    }
+}
+
+fn are_in_range(settings: Settings) -> bool
+    ensures { result ≡ spec.are_in_range settings }
+{
+    is_in_range(settings.effort) && (1 <= settings.trips && settings.trips <= 3_000)
+}
+
+/// What words before `--` set, of a command that takes these options.
+pub fn settings_said(allowed: Allowed, words: &[Bytes]) -> Option<Settings>
+    ensures said { result ≡ spec.settings_said allowed words.now }
+    ensures effort { IfSome result (λ settings. IsEffort settings.effort) }
+    ensures trips { IfSome result (λ settings. settings.trips ≤ 3000) }
 {
     let given = given_in(words)?;
-    let effort = effort_of(given);
-    if (takes_options || is_nothing(given)) && is_in_range(effort) {
-        Some(effort)
+    let settings = settings_of(given);
+    if is_allowed(allowed, given) && are_in_range(settings) {
+        Some(settings)
     } else {
         None
     }
@@ -230,9 +350,9 @@ fn is_plain(is_value: bool, word: &[u8]) -> bool
 
 /// Whether a word that is not plain is an option that takes the next word as its value.
 fn takes_next(is_value: bool, word: &[u8]) -> bool
-    ensures { result ≡ (not is_value && not (spec.has_mark word.now)) }
+    ensures { result ≡ (not is_value && spec.takes_next word.now) }
 {
-    !is_value && !has_mark(word)
+    !is_value && (!is_flag(word) && !has_mark(word))
 }
 
 /// The first word before `--` that is neither an option nor its value.

@@ -1,20 +1,24 @@
 //! The command `plan`: the vehicle blocks and driver duties of a day, and bounds on their numbers and costs.
 
-ghost use Rattle.std.specs.Prelude.{◌≡◌, ◌<◌, ◌^◌, None, All, IsTrue, IfOk, IfErr, length};
+ghost use Rattle.std.specs.Prelude.{◌≡◌, ◌<◌, ◌^◌, None, Some, All, IsTrue, IfOk, IfErr, length};
 ghost use Rattle.vdv451_text.specs.Plain.{are_plain, is_plain_table};
 ghost use Rattle.vdv452_tables.specs.declared.reading.Needs.TheVariants as needs;
 ghost use Rattle.vdv452_tables.specs.Calendar.{net_of, schemas_of};
-ghost use Rattle.vdv452_tables.specs.Rows.{first_fault};
+ghost use Rattle.vdv452_tables.specs.Rows.{first_fault, table_of};
+ghost use Rattle.vdv452_tables.specs.Schema.{trips as trips_schema};
 ghost use Rattle.cover_plan.specs.Endings.{numbers_of};
 ghost use Rattle.price_rounds.specs.Efforts.{IsEffort};
 ghost use Rattle.plan_command.specs.PlanText.{HasTripRows, IsPlanTextOver};
+ghost use Rattle.plan_command.specs.ShortText.{IsShortTextOver};
+ghost use Rattle.planner_cli.specs.MadeText.{IsShortText};
+ghost use Rattle.planner_cli.specs.Model.{IsModelOf, IsModelRefused};
 ghost use Rattle.planner_cli.specs.PlanText.{IsPlanRefused, IsPlanStatus, IsPlanText, plan_status_of};
 
 use crate::model::{model_of, network};
 use crate::status::Status;
 use crate::trips::trips_place;
 use day_model::Day;
-use plan_command::{PlanFault, plan_text as plan_day_text};
+use plan_command::{PlanFault, plan_text as plan_day_text, short_text as short_day_text};
 use plan_core::{Bytes, Gate};
 use price_rounds::Effort;
 use std::alloc::Global;
@@ -72,22 +76,49 @@ fn text_over<R: Threads + Sync, G: Gate + Sync>(
     }
 }
 
-/// The text of the plan of a day in a network, from the tables that it was read from.
-fn text_in<R: Threads + Sync, G: Gate + Sync>(
+/// The short text of the plan of a day, from the table that its trips were read from.
+fn short_over<R: Threads + Sync, G: Gate + Sync>(
     rt: &R,
     alloc: Global,
-    tables: &[Table],
-    net: &Network,
-    day: u32,
+    model: &Day,
+    rec_frt: &Table,
     effort: &Effort,
     gate: &G,
 ) -> Result<Bytes, Status>
+    requires plain { IsTrue (is_plain_table rec_frt.now) }
+    requires trips { HasTripRows model.now rec_frt.now }
+    requires effort { IsEffort effort.now }
+    ensures written { IfOk result (IsShortTextOver model.now (numbers_of effort.now)) }
+    ensures cause { IfErr result (IsPlanStatus model.now (numbers_of effort.now)) }
+{
+    match short_day_text(rt, alloc, model, rec_frt, effort, gate) {
+        Ok(bytes) => Ok(bytes),
+        Err(fault) => Err(plan_status(fault)),
+    }
+}
+
+/// A day, and the table that its trips were read from.
+#[derive(Drop)]
+struct Ready<'t> {
+    model: Day,
+    rec_frt: &'t Table,
+}
+
+/// The day in a network, with the table of its trips.
+fn ready_in<'t>(
+    alloc: Global,
+    tables: &'t [Table],
+    net: &Network,
+    day: u32,
+) -> Result<Ready<'t>, Status>
     requires plain { IsTrue (are_plain tables.now) }
     requires faultless { first_fault (schemas_of needs.All) tables.now ≡ None }
     requires net { net.now ≡ net_of needs.All tables.now }
-    requires effort { IsEffort effort.now }
-    ensures written { IfOk result (IsPlanText (numbers_of effort.now) tables.now day) }
-    ensures cause { IfErr result (IsPlanRefused (numbers_of effort.now) tables.now day) }
+    ensures model { IfOk result (λ ready. IsModelOf tables.now day ready.model) }
+    ensures found { IfOk result (λ ready. table_of trips_schema tables.now ≡ Some ready.rec_frt.now) }
+    ensures plain { IfOk result (λ ready. IsTrue (is_plain_table ready.rec_frt.now)) }
+    ensures rows { IfOk result (λ ready. HasTripRows ready.model ready.rec_frt.now) }
+    ensures cause { IfErr result (IsModelRefused tables.now day) }
 {
     let model = match model_of(alloc, net, day) {
         Ok(model) => model,
@@ -95,8 +126,26 @@ fn text_in<R: Threads + Sync, G: Gate + Sync>(
     };
     // No number of a trip is above 10^18: the network says so.
     let _ = net.trip_rows();
-    let rec_frt = &tables[trips_place(tables)];
-    text_over(rt, alloc, &model, rec_frt, effort, gate)
+    Ok(Ready {
+        model,
+        rec_frt: &tables[trips_place(tables)],
+    })
+}
+
+/// The day that the tables of all files tell, with the table of its trips.
+fn ready_day<'t>(alloc: Global, tables: &'t [Table], day: u32) -> Result<Ready<'t>, Status>
+    requires plain { IsTrue (are_plain tables.now) }
+    requires sized { All (λ table. length table.rows < 2 ^ 32) tables.now }
+    ensures model { IfOk result (λ ready. IsModelOf tables.now day ready.model) }
+    ensures found { IfOk result (λ ready. table_of trips_schema tables.now ≡ Some ready.rec_frt.now) }
+    ensures plain { IfOk result (λ ready. IsTrue (is_plain_table ready.rec_frt.now)) }
+    ensures rows { IfOk result (λ ready. HasTripRows ready.model ready.rec_frt.now) }
+    ensures cause { IfErr result (IsModelRefused tables.now day) }
+{
+    match network(alloc, tables, Needs::All) {
+        Ok(net) => ready_in(alloc, tables, &net, day),
+        Err(status) => Err(status),
+    }
 }
 
 /// The text of the plan of the day that the tables of all files tell: REC_UMLAUF, REC_FRT, X_UMLAUF, X_UMLAUF_TEIL, X_DIENST,
@@ -122,8 +171,33 @@ pub fn plan_text<R: Threads + Sync, G: Gate + Sync>(
     ensures written { IfOk result (IsPlanText (numbers_of effort.now) tables.now day) }
     ensures cause { IfErr result (IsPlanRefused (numbers_of effort.now) tables.now day) }
 {
-    match network(alloc, tables, Needs::All) {
-        Ok(net) => text_in(rt, alloc, tables, &net, day, effort, gate),
+    match ready_day(alloc, tables, day) {
+        Ok(ready) => text_over(rt, alloc, &ready.model, ready.rec_frt, effort, gate),
+        Err(status) => Err(status),
+    }
+}
+
+/// The short text of the plan of the day that tables tell: X_KURZ and X_SCHRANKE.
+///
+/// # Errors
+///
+/// Those of [`plan_text`].
+pub fn short_text<R: Threads + Sync, G: Gate + Sync>(
+    rt: &R,
+    alloc: Global,
+    tables: &[Table],
+    day: u32,
+    effort: &Effort,
+    gate: &G,
+) -> Result<Bytes, Status>
+    requires plain { IsTrue (are_plain tables.now) }
+    requires sized { All (λ table. length table.rows < 2 ^ 32) tables.now }
+    requires effort { IsEffort effort.now }
+    ensures written { IfOk result (IsShortText (numbers_of effort.now) tables.now day) }
+    ensures cause { IfErr result (IsPlanRefused (numbers_of effort.now) tables.now day) }
+{
+    match ready_day(alloc, tables, day) {
+        Ok(ready) => short_over(rt, alloc, &ready.model, ready.rec_frt, effort, gate),
         Err(status) => Err(status),
     }
 }

@@ -169,6 +169,27 @@ const MANY_POOLS: &[Change] = &[(
     "rec; 1; 2; 9; 1; 2; 1000; 1; 0\nrec; 2; 2; 9; 1; 2; 1000; 1; 0\nrec; 3; 2; 9; 1; 2; 1000; 1; 0\nrec; 4; 2; 9; 1; 2; 1000; 1; 0\nrec; 5; 2; 9; 1; 2; 1000; 1; 0\nrec; 6; 2; 9; 1; 2; 1000; 1; 0\nrec; 7; 2; 9; 1; 2; 1000; 1; 0\nrec; 8; 2; 9; 1; 2; 1000; 1; 0\nrec; 9; 2; 9; 1; 2; 1000; 1; 0\nrec; 10; 2; 9; 1; 2; 1000; 1; 0\nrec; 11; 2; 9; 1; 2; 1000; 1; 0\nrec; 12; 2; 9; 1; 2; 1000; 1; 0\nrec; 13; 2; 9; 1; 2; 1000; 1; 0\nrec; 14; 2; 9; 1; 2; 1000; 1; 0\nrec; 15; 2; 9; 1; 2; 1000; 1; 0\nrec; 16; 2; 9; 1; 2; 1000; 1; 0\nrec; 17; 2; 9; 1; 2; 1000; 1; 0\nrec; 18; 2; 9; 1; 2; 1000; 1; 0\nrec; 19; 2; 9; 1; 2; 1000; 1; 0\nrec; 20; 2; 9; 1; 2; 1000; 1; 0\nrec; 21; 2; 9; 1; 2; 1000; 1; 0\nrec; 22; 2; 9; 1; 2; 1000; 1; 0\nrec; 23; 2; 9; 1; 2; 1000; 1; 0\nrec; 24; 2; 9; 1; 2; 1000; 1; 0\nrec; 25; 2; 9; 1; 2; 1000; 1; 0\nrec; 26; 2; 9; 1; 2; 1000; 1; 0\nrec; 27; 2; 9; 1; 2; 1000; 1; 0\nrec; 28; 2; 9; 1; 2; 1000; 1; 0\nrec; 29; 2; 9; 1; 2; 1000; 1; 0\nrec; 30; 2; 9; 1; 2; 1000; 1; 0\nrec; 31; 2; 9; 1; 2; 1000; 1; 0\nrec; 32; 2; 9; 1; 2; 1000; 1; 0\nrec; 33; 2; 9; 1; 2; 1000; 1; 0\nend; 33\n",
 )];
 
+/// The first row of the text.
+const VERSION: &str = "rec; 20260101; 1\n";
+
+/// The text lacks its last line.
+const UNENDED: &[Change] = &[("eof; 15\n", "")];
+
+/// The last line counts one table less.
+const FEWER_TABLES: &[Change] = &[("eof; 15\n", "eof; 14\n")];
+
+/// The first table has no name.
+const UNNAMED: &[Change] = &[("tbl; BASIS_VER_GUELTIGKEIT\n", "")];
+
+/// A row has one field less.
+const SHORT_ROW: &[Change] = &[(VERSION, "rec; 20260101\n")];
+
+/// A quotation mark is not closed.
+const OPEN_QUOTE: &[Change] = &[(VERSION, "rec; 20260101; \"1\n")];
+
+/// A version is no number.
+const NO_NUMBER: &[Change] = &[(VERSION, "rec; 20260101; 1x\n")];
+
 const DAY_WRITTEN: &str =
     "tbl; X_TAG\natr; BETRIEBSTAG; WOCHENTAG; BASIS_VERSION; TAGESART_NR; FAHRTEN\nfrm; num[19.0]; num[19.0]; num[19.0]; num[19.0]; num[19.0]\nrec; 20260302; 1; 1; 1; 2\nend; 1\ntbl; X_FAHRT\natr; FRT_FID; LI_NR; VON_TYP; VON_NR; BEGINN; NACH_TYP; NACH_NR; ENDE; LAENGE\nfrm; num[19.0]; num[19.0]; num[19.0]; num[19.0]; num[19.0]; num[19.0]; num[19.0]; num[19.0]; num[19.0]\nrec; 1; 1; 1; 1; 28800; 1; 2; 32400; 60000\nrec; 2; 1; 1; 2; 33000; 1; 1; 36600; 60000\nend; 2\neof; 2\n";
 
@@ -287,6 +308,35 @@ fn any_number_of_workers_writes_one_text(rt: HostRuntime) -> Result<(), Fail> {
     Ok(())
 }
 
+/// The text that the words write, and nothing on standard error.
+fn written<R: Threads + Sync>(rt: &R, alloc: Global, words: &[&str]) -> Result<Bytes, Fail> {
+    let mut out = sink(alloc, 10_000, &[])?;
+    let mut err = sink(alloc, 10_000, &[])?;
+    let status = answer(rt, alloc, words, NO_CHANGE, &mut out, &mut err)?;
+    if status.code() != 0 || !err.taken().is_empty() {
+        return Err("refused".into());
+    }
+    Ok(Bytes::from_vec(out.taken().to_vec(alloc)?))
+}
+
+#[test]
+fn climbing_writes_one_text_by_any_number_of_workers(rt: HostRuntime) -> Result<(), Fail> {
+    let alloc = rt.alloc();
+    let first = written(&rt, alloc, &["plan", "20260302", "f", "--climb"])?;
+    let head = joined(alloc, &[WRITTEN_HEAD, "tbl; REC_UMLAUF\n"], b"\r\n")?;
+    assert!(rt; first.as_slice().starts_with(head.as_slice()));
+    assert!(rt; first.as_slice().ends_with(b"end; 4\r\neof; 7\r\n"));
+    for number in ["1", "3", "64"] {
+        let words = ["plan", "--climb", "--workers", number, "20260302", "f"];
+        let other = written(&rt, alloc, &words)?;
+        assert!(rt; other == first, "{number}");
+    }
+    let line = "trip 2: NoRunTime 1/2 to 1/1\n";
+    let words = ["plan", "--climb", "20260302", "f"];
+    assert!(rt; is_refused(&rt, alloc, &words, NO_RUN_TIME, 3, line)?);
+    Ok(())
+}
+
 /// The last rows of a plan's text have the number of blocks, their cost, the number of duties and theirs, each with its bound.
 #[test]
 fn plans_have_their_costs_and_bounds(rt: HostRuntime) -> Result<(), Fail> {
@@ -327,7 +377,18 @@ fn plans_have_their_costs_and_bounds(rt: HostRuntime) -> Result<(), Fail> {
 #[test]
 fn refusals_have_their_lines(rt: HostRuntime) -> Result<(), Fail> {
     let alloc = rt.alloc();
-    let rows: [(&[&str], &[Change], u8, &str); 18] = [
+    let rows: [(&[&str], &[Change], u8, &str); 24] = [
+        (PLAN, UNENDED, 3, "file 1 line 96: Unended\n"),
+        (PLAN, FEWER_TABLES, 3, "file 1 line 96: EofCount\n"),
+        (PLAN, UNNAMED, 3, "file 1 line 8: Order\n"),
+        (PLAN, SHORT_ROW, 3, "file 1 line 11: Count\n"),
+        (PLAN, OPEN_QUOTE, 3, "file 1 line 11: Field\n"),
+        (
+            PLAN,
+            NO_NUMBER,
+            3,
+            "table BASIS_VER_GUELTIGKEIT column BASIS_VERSION row 1: Range\n",
+        ),
         (DAY, NO_RUN_TIME, 3, "trip 2: NoRunTime 1/2 to 1/1\n"),
         (PLAN, NO_RUN_TIME, 3, "trip 2: NoRunTime 1/2 to 1/1\n"),
         (DAY, PAST_END, 3, "trip 1: PastEnd\n"),
@@ -369,7 +430,7 @@ fn refusals_have_their_lines(rt: HostRuntime) -> Result<(), Fail> {
             &["plan", "20260302", "--workers", "0", "f"],
             NO_CHANGE,
             2,
-            "usage: planner trips|day|plan|certify|check|make\n",
+            "usage: planner trips|day|plan|certify|check|make|replan|week\n",
         ),
     ];
     for (words, changes, code, line) in rows {

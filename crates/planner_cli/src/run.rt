@@ -1,6 +1,6 @@
 //! The top call.
 
-ghost use Rattle.std.specs.Prelude.{◌≡◌, ◌≢◌, ◌↔◌, ◌⊎◌, ◌++◌, ℕ, List, Some, None, IfSome, IsSomeAnd};
+ghost use Rattle.std.specs.Prelude.{◌≡◌, ◌≢◌, ◌↔◌, ◌⊎◌, ◌++◌, ℕ, List, Some, None, IfSome, IsSomeAnd, false};
 ghost use Rattle.plan_core.specs.Outside.{Rose};
 ghost use Rattle.day_method.specs.declared.side.Side.{Side as RunSide};
 ghost use Rattle.plan_command.specs.declared.fault.ItemName.{ItemName as RunName};
@@ -11,8 +11,8 @@ ghost use Rattle.cover_core.specs.declared.Plan.{Plan as RunPlan};
 ghost use Rattle.day_calendar.specs.declared.day.DayFault.{DayFault as FaultOfDay};
 ghost use Rattle.planner_cli.specs.Inputs.{IsReadFault, NoneRose};
 ghost use Rattle.planner_cli.specs.Lines.{IsTold, line_of};
-ghost use Rattle.planner_cli.specs.Run.{IsAnswer, IsRefusal, TakesAnswer, TakesFrontOfAnswer, names_for, told, told_for};
-ghost use Rattle.planner_cli.specs.Tasks.{task_of};
+ghost use Rattle.planner_cli.specs.Run.{IsAnswer, IsRefusal, TakesAnswer, TakesFrontOfAnswer, is_open, names_for, told, told_for};
+ghost use Rattle.planner_cli.specs.Tasks.{climbs, task_of};
 ghost use Rattle.planner_cli.specs.Words.{asked, day_said};
 
 use crate::answer::carry_out;
@@ -41,15 +41,15 @@ fn answered<R: Threads + Sync, F: Files, O: Sink, G: Gate + Sync>(
     ensures write_fault { result ≡ Status.WriteFault → Rose (O.faults out.old) (O.faults out.new) }
     ensures ok { result ≡ Status.Ok → IfSome (asked words.now) (λ request. IfSome (told (F.held files.old) request) (λ contents. IfSome (O.taken out.old) (TakesAnswer (task_of request) contents request.day (O.taken out.new)))) }
     ensures front { result ≡ Status.WriteFault → IfSome (asked words.now) (λ request. IfSome (told (F.held files.old) request) (λ contents. IfSome (O.taken out.old) (TakesFrontOfAnswer (task_of request) contents request.day (O.taken out.new)))) }
-    ensures only { (request : RunRequest) (bytes : List ℕ) → result ≡ Status.Ok → asked words.now ≡ Some request
+    ensures only { (request : RunRequest) (bytes : List ℕ) → result ≡ Status.Ok → asked words.now ≡ Some request → climbs (task_of request) ≡ false
         → IfSome (told (F.held files.old) request) (λ contents. IsAnswer (task_of request) contents request.day bytes → IfSome (O.taken out.old) (λ old. O.taken out.new ≡ Some (old ++ bytes))) }
     ensures nothing { result ≢ Status.Ok → result ≢ Status.WriteFault → out.new ≡ out.old }
     ensures still { ((file : ℕ) → result ≢ Status.ReadFault file) → (other : List ℕ) → F.faults files.new other ≡ F.faults files.old other }
     ensures same { (other : List ℕ) → F.held files.new other ≡ F.held files.old other }
     ensures unmoved { result ≢ Status.WriteFault → O.faults out.new ≡ O.faults out.old }
-    ensures refused { (status : RunStatus) (request : RunRequest) → asked words.now ≡ Some request → IsSomeAnd (told_for (F.held files.old) request.names status) (λ contents. IsRefusal (task_of request) contents request.day status)
+    ensures refused { (status : RunStatus) (request : RunRequest) → asked words.now ≡ Some request → is_open (task_of request) status ≡ false → IsSomeAnd (told_for (F.held files.old) request.names status) (λ contents. IsRefusal (task_of request) contents request.day status)
         → NoneRose (names_for request.names status) (F.faults files.old) (F.faults files.new) → (result ≡ status) ⊎ (result ≡ Status.Memory) }
-    ensures complete { (request : RunRequest) → asked words.now ≡ Some request → IsSomeAnd (told (F.held files.old) request) (λ contents. (bytes : List ℕ) × IsAnswer (task_of request) contents request.day bytes)
+    ensures complete { (request : RunRequest) → asked words.now ≡ Some request → climbs (task_of request) ≡ false → IsSomeAnd (told (F.held files.old) request) (λ contents. (bytes : List ℕ) × IsAnswer (task_of request) contents request.day bytes)
         → NoneRose request.names (F.faults files.old) (F.faults files.new) → ¬ Rose (O.faults out.old) (O.faults out.new)
         → (result ≡ Status.Ok) ⊎ (result ≡ Status.Memory) }
 {
@@ -77,8 +77,10 @@ fn tell_refusal<E: Sink>(err: &mut E, words: &[Bytes], status: &Status)
 /// `plan DAY FILE..` plans the day: vehicle blocks of its trips, each trip in exactly one block of one pool within its vehicles; driver
 /// duties over the pieces that the blocks are cut into, each piece in exactly one duty that keeps articles 6 to 8 of Regulation (EC)
 /// 561/2006; their costs; and bounds that no lawful plan lies below. It writes REC_UMLAUF, REC_FRT, X_UMLAUF, X_UMLAUF_TEIL, X_DIENST,
-/// X_DIENST_STUECK and X_SCHRANKE. Its text is the same for any number of workers, any `rt` and any `gate`. Nothing is written before
-/// the whole text is computed. A refusal writes one line to `err`; a write that fails there changes no status.
+/// X_DIENST_STUECK and X_SCHRANKE. `make SEED` makes a day from a number and writes its tables, or with `--run` plans it and writes X_KURZ
+/// and X_SCHRANKE; it reads no file. Each text is the same for any number of workers, any `rt` and any `gate`; with `--climb`, which finds
+/// plan and bounds by the other method, all is promised but that. Nothing is written before the whole text is computed. A refusal writes
+/// one line to `err`; a write that fails there changes no status.
 pub fn run<R: Threads + Sync, F: Files, O: Sink, E: Sink, G: Gate + Sync>(
     rt: &R,
     alloc: Global,
@@ -100,10 +102,10 @@ pub fn run<R: Threads + Sync, F: Files, O: Sink, E: Sink, G: Gate + Sync>(
     ensures read_fault { (file : ℕ) → result ≡ Status.ReadFault file → IfSome (asked words.now) (λ request. IsReadFault (F.held files.old) request.names (F.faults files.old) (F.faults files.new) file) }
     ensures write_fault { result ≡ Status.WriteFault → Rose (O.faults out.old) (O.faults out.new) }
 
-    // What the sink took: the whole text and no other, a front of it, or nothing.
+    // What the sink took: the whole text, and no other unless a plan is found by climbing; a front of it; or nothing.
     ensures ok { result ≡ Status.Ok → IfSome (asked words.now) (λ request. IfSome (told (F.held files.old) request) (λ contents. IfSome (O.taken out.old) (TakesAnswer (task_of request) contents request.day (O.taken out.new)))) }
     ensures front { result ≡ Status.WriteFault → IfSome (asked words.now) (λ request. IfSome (told (F.held files.old) request) (λ contents. IfSome (O.taken out.old) (TakesFrontOfAnswer (task_of request) contents request.day (O.taken out.new)))) }
-    ensures only { (request : RunRequest) (bytes : List ℕ) → result ≡ Status.Ok → asked words.now ≡ Some request
+    ensures only { (request : RunRequest) (bytes : List ℕ) → result ≡ Status.Ok → asked words.now ≡ Some request → climbs (task_of request) ≡ false
         → IfSome (told (F.held files.old) request) (λ contents. IsAnswer (task_of request) contents request.day bytes → IfSome (O.taken out.old) (λ old. O.taken out.new ≡ Some (old ++ bytes))) }
     ensures nothing { result ≢ Status.Ok → result ≢ Status.WriteFault → out.new ≡ out.old }
 
@@ -116,10 +118,11 @@ pub fn run<R: Threads + Sync, F: Files, O: Sink, E: Sink, G: Gate + Sync>(
     ensures quiet { result ≡ Status.Ok → err.new ≡ err.old }
     ensures line { result ≢ Status.Ok → IsTold (E.taken err.old) (E.taken err.new) (E.faults err.old) (E.faults err.new) (line_of (day_said words.now) result) }
 
-    // Where no count rises, what the files call for is answered, or want of memory.
-    ensures refused { (status : RunStatus) (request : RunRequest) → asked words.now ≡ Some request → IsSomeAnd (told_for (F.held files.old) request.names status) (λ contents. IsRefusal (task_of request) contents request.day status)
+    // Where no count rises, what the files call for is answered, or want of memory; but for which plan or refusal of planning climbing
+    // ends with.
+    ensures refused { (status : RunStatus) (request : RunRequest) → asked words.now ≡ Some request → is_open (task_of request) status ≡ false → IsSomeAnd (told_for (F.held files.old) request.names status) (λ contents. IsRefusal (task_of request) contents request.day status)
         → NoneRose (names_for request.names status) (F.faults files.old) (F.faults files.new) → (result ≡ status) ⊎ (result ≡ Status.Memory) }
-    ensures complete { (request : RunRequest) → asked words.now ≡ Some request → IsSomeAnd (told (F.held files.old) request) (λ contents. (bytes : List ℕ) × IsAnswer (task_of request) contents request.day bytes)
+    ensures complete { (request : RunRequest) → asked words.now ≡ Some request → climbs (task_of request) ≡ false → IsSomeAnd (told (F.held files.old) request) (λ contents. (bytes : List ℕ) × IsAnswer (task_of request) contents request.day bytes)
         → NoneRose request.names (F.faults files.old) (F.faults files.new) → ¬ Rose (O.faults out.old) (O.faults out.new)
         → (result ≡ Status.Ok) ⊎ (result ≡ Status.Memory) }
 {

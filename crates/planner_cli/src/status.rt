@@ -16,15 +16,30 @@ use vdv452_tables::TableFault;
 #[derive(Debug, Drop)]
 pub enum InputFault {
     /// The first fault of the text of a file. Files are numbered from 1 in the order of their words.
-    Text { file: u32, fault: TextFault },
+    Text {
+        file: u32,
+        fault: TextFault,
+    },
     /// The first fault of the tables.
     Table(TableFault),
+    /// The last day of a roster is 14 or more days after its first one. Days are YYYYMMDD.
+    Days {
+        /// The first day.
+        first: u32,
+        /// The last day.
+        last: u32,
+    },
     /// The day has more than 3,000 trips.
-    Trips { count: u32 },
+    Trips {
+        count: u32,
+    },
     /// The first fault of the settings.
     Params(ParamFault),
     /// The first trip of the day, by departure and number, that has no times, by FRT_FID, and why.
-    Trip { fid: u64, fault: TripFault },
+    Trip {
+        fid: u64,
+        fault: TripFault,
+    },
 }
 
 /// How a command ends, with the cause where it refused.

@@ -10,17 +10,17 @@ use std::test::Fail;
 use std::thread::Threads;
 use vdv451_text::TextKind;
 
-const CALENDAR: &str =
+pub(crate) const CALENDAR: &str =
     "mod; DD.MM.YYYY; HH:MM:SS; free\nsrc; \"demo\"; \"01.01.2000\"; \"00:00:00\"\nchs; \"ISO8859-1\"\nver; \"1.4\"\nifv; \"1.4\"\ndve; \"1.4\"\nfft; \"\"\ntbl; BASIS_VER_GUELTIGKEIT\natr; VER_GUELTIGKEIT; BASIS_VERSION\nfrm; num[10.0]; num[10.0]\nrec; 20260101; 1\nend; 1\ntbl; FIRMENKALENDER\natr; BASIS_VERSION; BETRIEBSTAG; TAGESART_NR\nfrm; num[10.0]; num[10.0]; num[10.0]\nrec; 1; 20260302; 1\nend; 1\n";
 
-const TRIPS_HEAD: &str =
+pub(crate) const TRIPS_HEAD: &str =
     "tbl; REC_FRT\natr; BASIS_VERSION; FRT_FID; FRT_START; LI_NR; TAGESART_NR; FAHRTART_NR; FGR_NR; STR_LI_VAR; UM_UID\nfrm; num[10.0]; num[10.0]; num[10.0]; num[10.0]; num[10.0]; num[10.0]; num[10.0]; char[6]; num[10.0]\n";
 
-const FIRST: &str = "rec; 1; 1; 28800; 1; 1; 1; 1; \"H\"; NULL\n";
+pub(crate) const FIRST: &str = "rec; 1; 1; 28800; 1; 1; 1; 1; \"H\"; NULL\n";
 
 const FIRST_EMPTY: &str = "rec; 1; 1; 28800; 1; 1; 2; 1; \"H\"; NULL\n";
 
-const SECOND: &str = "rec; 1; 2; 33000; 1; 1; 1; 1; \"R\"; NULL\n";
+pub(crate) const SECOND: &str = "rec; 1; 2; 33000; 1; 1; 1; 1; \"R\"; NULL\n";
 
 const SECOND_LATE: &str = "rec; 1; 2; 172801; 1; 1; 1; 1; \"R\"; NULL\n";
 
@@ -101,11 +101,17 @@ pub(crate) fn run_on<R: Threads + Sync>(
     Ok(run(rt, alloc, list.as_slice(), &mut files, out, err, &NoGate))
 }
 
-const DAY: [&str; 3] = ["trips", "20260302", "f"];
+pub(crate) const DAY: [&str; 3] = ["trips", "20260302", "f"];
 
-const BOTH: [&str; 5] = [CALENDAR, TRIPS_HEAD, FIRST, SECOND, "end; 2\neof; 3\n"];
+pub(crate) const BOTH: [&str; 5] = [CALENDAR, TRIPS_HEAD, FIRST, SECOND, "end; 2\neof; 3\n"];
 
-const BOTH_WRITTEN: [&str; 5] = [WRITTEN_HEAD, TRIPS_HEAD, FIRST, SECOND, "end; 2\neof; 1\n"];
+pub(crate) const BOTH_WRITTEN: [&str; 5] = [
+    WRITTEN_HEAD,
+    TRIPS_HEAD,
+    FIRST,
+    SECOND,
+    "end; 2\neof; 1\n",
+];
 
 /// Whether a file of these texts is answered by these ones, written with CR LF, and nothing is said on standard error.
 fn is_listed<R: Threads + Sync>(
@@ -205,12 +211,12 @@ fn tables_may_lie_in_several_files(rt: HostRuntime) -> Result<(), Fail> {
     Ok(())
 }
 
-const USAGE: &str = "usage: planner trips|day|plan|certify|check|make\n";
+const USAGE: &str = "usage: planner trips|day|plan|certify|check|make|replan|week\n";
 
 #[test]
 fn the_words_have_a_grammar(rt: HostRuntime) -> Result<(), Fail> {
     let alloc = rt.alloc();
-    let rows: [(&[&str], u8, &str); 20] = [
+    let rows: [(&[&str], u8, &str); 25] = [
         (&["trips", "20260302"], 2, USAGE),
         (&["trips", "2026030a", "f"], 2, USAGE),
         (&["trips", "20260302", "-f"], 2, USAGE),
@@ -225,6 +231,19 @@ fn the_words_have_a_grammar(rt: HostRuntime) -> Result<(), Fail> {
         (&["plan", "20260302", "f", "--rounds", "--"], 2, USAGE),
         (&["plan", "20260302", "f", "--workers="], 2, USAGE),
         (&["plan", "20260302", "f", "--flow=1"], 2, USAGE),
+        (&["trips", "20260302", "--climb", "f"], 2, USAGE),
+        (&["plan", "--climb=1", "20260302", "f"], 2, USAGE),
+        (&["plan", "--climb", "20260302", "f", "--climb"], 2, USAGE),
+        (
+            &["plan", "--climb", "20260302", "--rounds", "5", "g"],
+            7,
+            "read fault: file 1\n",
+        ),
+        (
+            &["plan", "--lower", "5", "20260302", "g", "--climb"],
+            7,
+            "read fault: file 1\n",
+        ),
         (
             &["plan", "--workers", "064", "20260302", "--exchange=0", "g"],
             7,

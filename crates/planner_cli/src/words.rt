@@ -1,15 +1,13 @@
 //! The words of the command line.
 
-ghost use Rattle.std.specs.Prelude.{◌≡◌, ◌≤◌, ◌<◌, ◌↔◌, ◌⊎◌, ◌++◌, ◌∷◌, [], IfOk, IfErr, IfSome, IfNone, OnOk, IsErrOf, Some, None, length, drop, true, false};
+ghost use Rattle.std.specs.Prelude.{◌≡◌, ◌≤◌, ◌<◌, ◌↔◌, ◌⊎◌, ◌++◌, ◌∷◌, [], IfOk, IfErr, IfSome, IfNone, OnOk, IsErrOf, Some, None, length, true, false};
 ghost use Rattle.std.specs.List.{list_all};
-ghost use Rattle.std.specs.Option.{option_and_then};
 ghost use Rattle.std.specs.Str.Parse.{digits_value};
 ghost use Rattle.price_rounds.specs.Efforts.{IsEffort};
-ghost use Rattle.planner_cli.specs.Options.{effort_said as effort_that, plain_of, said as said_by};
+ghost use Rattle.planner_cli.specs.Options.{plain_of, said as said_by, settings_said as settings_that};
 ghost use Rattle.planner_cli.specs.Words as spec;
-ghost use Rattle.planner_cli.specs.declared.words.Command.{Command as AnyCommand};
 
-use crate::options::{are_digits, digits_number, effort_said, first_plain};
+use crate::options::{Allowed, Settings, are_digits, digits_number, first_plain, settings_said};
 use crate::status::Status;
 use plan_core::{Bytes, Memory, Seq};
 use price_rounds::Effort;
@@ -17,6 +15,30 @@ use std::alloc::Global;
 
 /// A command reads at most so many files.
 const MOST_FILES: usize = 64;
+
+/// The one day of a calendar that is made.
+const MADE_DAY: u32 = 20_260_302;
+
+/// The name of a command.
+#[derive(Clone, Copy, Debug, PartialEq, Eq)]
+enum CommandName {
+    Trips,
+    Day,
+    Plan,
+    Make,
+    Week,
+}
+
+/// A day that is to be made from a seed.
+#[derive(Clone, Copy, Debug, PartialEq, Eq)]
+pub struct Making {
+    /// The number that all draws are made from.
+    pub seed: u32,
+    /// How many trips it has, from 1 to 3,000.
+    pub trips: u32,
+    /// Whether it is planned. Else its tables are written.
+    pub run: bool,
+}
 
 /// What the planner is to do.
 #[derive(Clone, Copy, Debug, PartialEq, Eq)]
@@ -27,6 +49,10 @@ pub enum Command {
     Day,
     /// `plan`: cover the trips of a day by vehicle blocks.
     Plan,
+    /// `make`: make a day, and plan it where that is said.
+    Make(Making),
+    /// `week`: check the duties of drivers over up to two weeks.
+    Week,
 }
 
 /// What the words ask for.
@@ -35,9 +61,9 @@ pub struct Request {
     pub command: Command,
     /// How much work a plan is given.
     pub effort: Effort,
-    /// The day as the number YYYYMMDD.
+    /// The day as the number YYYYMMDD. A made day is 2026-03-02; a roster has days of its own, and then this is 0.
     pub day: u32,
-    /// The names of the files, in their order.
+    /// The names of the files, in their order. A day is made without files.
     pub names: Seq<Bytes>,
 }
 
@@ -59,6 +85,12 @@ fn is_day(word: &[u8]) -> bool
     ensures { result ≡ spec.day_word word.now }
 {
     word.len() == 8 && are_digits(word)
+}
+
+fn is_seed(word: &[u8]) -> bool
+    ensures { result ≡ spec.seed_word word.now }
+{
+    are_digits(word) && (1 <= word.len() && word.len() <= 9)
 }
 
 fn is_file(word: &[u8]) -> bool
@@ -90,26 +122,26 @@ fn part(words: &[Bytes]) -> Parted<'_>
 
 /// The first plain word, and the others, parted as they were.
 #[derive(Clone, Copy)]
-struct DayAndFiles<'w> {
-    day: &'w [u8],
-    files: Parted<'w>,
+struct PlainWords<'w> {
+    first: &'w [u8],
+    others: Parted<'w>,
 }
 
-fn day_and_files(words: Parted<'_>) -> Option<DayAndFiles<'_>>
-    ensures some { IfSome result (λ said. plain_of (said_by words.entry.before.now) ++ words.entry.behind.now ≡ said.day.now ∷ (plain_of (said_by said.files.before.now) ++ said.files.behind.now)) }
+fn plain_words(words: Parted<'_>) -> Option<PlainWords<'_>>
+    ensures some { IfSome result (λ said. plain_of (said_by words.entry.before.now) ++ words.entry.behind.now ≡ said.first.now ∷ (plain_of (said_by said.others.before.now) ++ said.others.behind.now)) }
     ensures none { IfNone result (plain_of (said_by words.entry.before.now) ++ words.entry.behind.now ≡ []) }
 {
     match (first_plain(words.before), words.behind) {
-        (Some(first), behind) => Some(DayAndFiles {
-            day: first.word,
-            files: Parted {
+        (Some(first), behind) => Some(PlainWords {
+            first: first.word,
+            others: Parted {
                 before: first.rest,
                 behind,
             },
         }),
-        (None, [day, behind @ ..]) => Some(DayAndFiles {
-            day: day.as_slice(),
-            files: Parted {
+        (None, [first, behind @ ..]) => Some(PlainWords {
+            first: first.as_slice(),
+            others: Parted {
                 before: &[],
                 behind,
             },
@@ -142,66 +174,85 @@ fn plain_files(words: &[Bytes]) -> Option<usize>
 }
 
 /// Whether this is a day with 1 to 64 files.
-fn is_right(said: DayAndFiles<'_>) -> bool
-    ensures { result ≡ spec.are_day_and_files (said.entry.day.now ∷ (plain_of (said_by said.entry.files.before.now) ++ said.entry.files.behind.now)) }
+fn is_day_and_files(said: PlainWords<'_>) -> bool
+    ensures { result ≡ spec.are_day_and_files (said.entry.first.now ∷ (plain_of (said_by said.entry.others.before.now) ++ said.entry.others.behind.now)) }
 {
-    match plain_files(said.files.before) {
+    match plain_files(said.others.before) {
         Some(before) => {
-            let count = before + said.files.behind.len();
-            is_day(said.day)
-                && (are_files(said.files.behind) && (1 <= count && count <= MOST_FILES))
+            let count = before + said.others.behind.len();
+            is_day(said.first)
+                && (are_files(said.others.behind) && (1 <= count && count <= MOST_FILES))
         }
         None => false,
     }
 }
 
-/// What right words behind a command say.
-#[derive(Clone, Copy)]
-struct Right<'w> {
-    effort: Effort,
-    said: DayAndFiles<'w>,
-}
-
-/// What the words behind a command say, where they are right.
-fn right_words(takes_options: bool, words: &[Bytes]) -> Option<Right<'_>>
-    ensures effort { IfSome result (λ right. (effort_that takes_options (spec.before_end words.now) ≡ Some right.effort) × IsEffort right.effort) }
-    ensures some { IfSome result (λ right. (spec.are_day_and_files (spec.plain_words words.now) ≡ true) × (spec.plain_words words.now ≡ right.said.day.now ∷ (plain_of (said_by right.said.files.before.now) ++ right.said.files.behind.now))) }
-    ensures none { IfNone result ((effort_that takes_options (spec.before_end words.now) ≡ None) ⊎ (spec.are_day_and_files (spec.plain_words words.now) ≡ false)) }
+/// The day and the files that plain words say, where they are right.
+fn day_and_files(words: Parted<'_>) -> Option<PlainWords<'_>>
+    ensures some { IfSome result (λ said. (spec.are_day_and_files (plain_of (said_by words.entry.before.now) ++ words.entry.behind.now) ≡ true) × (plain_of (said_by words.entry.before.now) ++ words.entry.behind.now ≡ said.first.now ∷ (plain_of (said_by said.others.before.now) ++ said.others.behind.now))) }
+    ensures day { IfSome result (λ said. spec.day_word said.first.now ≡ true) }
+    ensures none { IfNone result (spec.are_day_and_files (plain_of (said_by words.entry.before.now) ++ words.entry.behind.now) ≡ false) }
 {
-    let parts = part(words);
-    match (
-        effort_said(takes_options, parts.before),
-        day_and_files(parts),
-    ) {
-        (Some(effort), Some(said)) if is_right(said) => Some(Right { effort, said }),
+    match plain_words(words) {
+        Some(said) if is_day_and_files(said) => Some(said),
         _ => None,
     }
 }
 
-fn command_of(word: &[u8]) -> Option<Command>
-    ensures { result ≡ spec.command_of word.now }
+/// Whether there are no plain words.
+fn has_none(words: Parted<'_>) -> bool
+    ensures { result ≡ spec.no_words (plain_of (said_by words.entry.before.now) ++ words.entry.behind.now) }
+{
+    match plain_words(words) {
+        Some(_) => false,
+        None => true,
+    }
+}
+
+/// The number that one plain word alone gives as a seed.
+fn seed_said(words: Parted<'_>) -> Option<u32>
+    ensures { result ≡ spec.seed_said (plain_of (said_by words.entry.before.now) ++ words.entry.behind.now) }
+{
+    match plain_words(words) {
+        Some(said) if is_seed(said.first) && has_none(said.others) => {
+            Some(digits_number(said.first))
+        }
+        _ => None,
+    }
+}
+
+fn name_of(word: &[u8]) -> Option<CommandName>
+    ensures { result ≡ spec.name_of word.now }
 {
     let trips: &[u8] = b"trips";
     let day: &[u8] = b"day";
     let plan: &[u8] = b"plan";
+    let make: &[u8] = b"make";
+    let week: &[u8] = b"week";
     if word == trips {
-        Some(Command::Trips)
+        Some(CommandName::Trips)
     } else if word == day {
-        Some(Command::Day)
+        Some(CommandName::Day)
     } else if word == plan {
-        Some(Command::Plan)
+        Some(CommandName::Plan)
+    } else if word == make {
+        Some(CommandName::Make)
+    } else if word == week {
+        Some(CommandName::Week)
     } else {
         None
     }
 }
 
-fn takes_options(command: Command) -> bool
-    ensures { result ≡ spec.takes_options command }
+fn allowed_of(name: CommandName) -> Allowed
+    ensures { result ≡ spec.allowed_of name }
 {
-    match command {
-        Command::Trips => false,
-        Command::Day => false,
-        Command::Plan => true,
+    match name {
+        CommandName::Trips => Allowed::Nothing,
+        CommandName::Day => Allowed::Nothing,
+        CommandName::Plan => Allowed::Planning,
+        CommandName::Make => Allowed::Everything,
+        CommandName::Week => Allowed::Nothing,
     }
 }
 
@@ -236,23 +287,138 @@ fn names_of(alloc: Global, files: Parted<'_>) -> Result<Seq<Bytes>, Memory>
     Ok(names)
 }
 
-/// The request of a command with the words behind it.
-fn make_request(alloc: Global, command: Command, right: Right<'_>) -> Result<Request, Memory>
-    requires { spec.day_word right.said.day.now ≡ true }
-    ensures { IfOk result (λ request. request ≡ record { command = command; effort = right.entry.effort; day = digits_value 10 right.entry.said.day.now; names = plain_of (said_by right.entry.said.files.before.now) ++ right.entry.said.files.behind.now }) }
+/// The request of a command for a day and files.
+fn day_request(
+    alloc: Global,
+    command: Command,
+    effort: Effort,
+    words: Parted<'_>,
+) -> Result<Request, Status>
+    requires effort { IsEffort effort }
+    requires trips { spec.HasFewTrips command }
+    ensures request { IfOk result (λ request. spec.day_request command effort (plain_of (said_by words.entry.before.now) ++ words.entry.behind.now) ≡ Some request) }
+    ensures few { IfOk result (λ request. length request.names ≤ 64) }
+    ensures effort { IfOk result (λ request. IsEffort request.effort) }
+    ensures trips { IfOk result (λ request. spec.HasFewTrips request.command) }
+    ensures cause { IfErr result (λ status. (status ≡ Status.Memory) ⊎ (status ≡ Status.Usage)) }
+    ensures usage { IsErrOf result Status.Usage ↔ (spec.day_request command effort (plain_of (said_by words.entry.before.now) ++ words.entry.behind.now) ≡ None) }
 {
+    let Some(said) = day_and_files(words) else {
+        return Err(Status::Usage);
+    };
     Ok(Request {
         command,
-        effort: right.effort,
-        day: digits_number(right.said.day),
-        names: names_of(alloc, right.said.files)?,
+        effort,
+        day: digits_number(said.first),
+        names: names_of(alloc, said.others)?,
     })
 }
 
-/// Reads the words: `COMMAND DAY FILE..`, with 1 to 64 files. Options of planning stand anywhere behind the command `plan`, each at
-/// most once: `--workers N` (1 to 64; 1 unless said), `--rounds N` (1 to 200; 40), `--lower N` (1 to 50; 20) and `--exchange N` (0 to
-/// 1,000; 20), where N is one to four digits, in a word of its own or behind a `=`. The first `--` ends the options and is passed over.
-/// Before it a word that begins with `-` and is longer than one byte is one of the options.
+/// The request for a day that is made.
+fn make_request(alloc: Global, settings: Settings, words: Parted<'_>) -> Result<Request, Status>
+    requires effort { IsEffort settings.effort }
+    requires trips { settings.trips ≤ 3000 }
+    ensures request { IfOk result (λ request. spec.request_for CommandName.Make settings (plain_of (said_by words.entry.before.now) ++ words.entry.behind.now) ≡ Some request) }
+    ensures few { IfOk result (λ request. length request.names ≤ 64) }
+    ensures effort { IfOk result (λ request. IsEffort request.effort) }
+    ensures trips { IfOk result (λ request. spec.HasFewTrips request.command) }
+    ensures cause { IfErr result (λ status. (status ≡ Status.Memory) ⊎ (status ≡ Status.Usage)) }
+    ensures usage { IsErrOf result Status.Usage ↔ (spec.request_for CommandName.Make settings (plain_of (said_by words.entry.before.now) ++ words.entry.behind.now) ≡ None) }
+{
+    let Some(seed) = seed_said(words) else {
+        return Err(Status::Usage);
+    };
+    Ok(Request {
+        command: Command::Make(Making {
+            seed,
+            trips: settings.trips,
+            run: settings.run,
+        }),
+        effort: settings.effort,
+        day: MADE_DAY,
+        names: Seq::new(alloc),
+    })
+}
+
+/// Whether one plain word stands alone and is the name of a file.
+fn is_roster(words: Parted<'_>) -> bool
+    ensures { result ≡ spec.is_roster (plain_of (said_by words.entry.before.now) ++ words.entry.behind.now) }
+{
+    match plain_words(words) {
+        Some(said) => is_file(said.first) && has_none(said.others),
+        None => false,
+    }
+}
+
+/// The request for a roster.
+fn week_request(alloc: Global, effort: Effort, words: Parted<'_>) -> Result<Request, Status>
+    requires { IsEffort effort }
+    ensures request { IfOk result (λ request. spec.week_request effort (plain_of (said_by words.entry.before.now) ++ words.entry.behind.now) ≡ Some request) }
+    ensures few { IfOk result (λ request. length request.names ≤ 64) }
+    ensures effort { IfOk result (λ request. IsEffort request.effort) }
+    ensures trips { IfOk result (λ request. spec.HasFewTrips request.command) }
+    ensures cause { IfErr result (λ status. (status ≡ Status.Memory) ⊎ (status ≡ Status.Usage)) }
+    ensures usage { IsErrOf result Status.Usage ↔ (spec.week_request effort (plain_of (said_by words.entry.before.now) ++ words.entry.behind.now) ≡ None) }
+{
+    if !is_roster(words) {
+        return Err(Status::Usage);
+    }
+    Ok(Request {
+        command: Command::Week,
+        effort,
+        day: 0,
+        names: names_of(alloc, words)?,
+    })
+}
+
+/// The request of a command by its name, what its options set, and its plain words.
+fn request_for(
+    alloc: Global,
+    name: CommandName,
+    settings: Settings,
+    words: Parted<'_>,
+) -> Result<Request, Status>
+    requires effort { IsEffort settings.effort }
+    requires trips { settings.trips ≤ 3000 }
+    ensures request { IfOk result (λ request. spec.request_for name settings (plain_of (said_by words.entry.before.now) ++ words.entry.behind.now) ≡ Some request) }
+    ensures few { IfOk result (λ request. length request.names ≤ 64) }
+    ensures effort { IfOk result (λ request. IsEffort request.effort) }
+    ensures trips { IfOk result (λ request. spec.HasFewTrips request.command) }
+    ensures cause { IfErr result (λ status. (status ≡ Status.Memory) ⊎ (status ≡ Status.Usage)) }
+    ensures usage { IsErrOf result Status.Usage ↔ (spec.request_for name settings (plain_of (said_by words.entry.before.now) ++ words.entry.behind.now) ≡ None) }
+{
+    let effort = settings.effort;
+    match name {
+        CommandName::Trips => day_request(alloc, Command::Trips, effort, words),
+        CommandName::Day => day_request(alloc, Command::Day, effort, words),
+        CommandName::Plan => day_request(alloc, Command::Plan, effort, words),
+        CommandName::Make => make_request(alloc, settings, words),
+        CommandName::Week => week_request(alloc, effort, words),
+    }
+}
+
+/// The request of a command by its name and the words behind it.
+fn request_of(alloc: Global, name: CommandName, words: &[Bytes]) -> Result<Request, Status>
+    ensures request { IfOk result (λ request. spec.asked_of name words.now ≡ Some request) }
+    ensures few { IfOk result (λ request. length request.names ≤ 64) }
+    ensures effort { IfOk result (λ request. IsEffort request.effort) }
+    ensures trips { IfOk result (λ request. spec.HasFewTrips request.command) }
+    ensures cause { IfErr result (λ status. (status ≡ Status.Memory) ⊎ (status ≡ Status.Usage)) }
+    ensures usage { IsErrOf result Status.Usage ↔ (spec.asked_of name words.now ≡ None) }
+{
+    let parts = part(words);
+    let Some(settings) = settings_said(allowed_of(name), parts.before) else {
+        return Err(Status::Usage);
+    };
+    request_for(alloc, name, settings, parts)
+}
+
+/// Reads the words: `COMMAND DAY FILE..` with 1 to 64 files, `make SEED` with one to nine digits, or `week ROSTER` with one file. Options
+/// of planning stand anywhere behind the commands `plan` and `make`, each at most once: `--workers N` (1 to 64; 1 unless said),
+/// `--rounds N` (1 to 200; 40), `--lower N` (1 to 50; 20) and `--exchange N` (0 to 1,000; 20), where N is one to four digits, in a word of
+/// its own or behind a `=`; and the flag `--climb`, which has no value, for the other method. Only `make` takes `--trips N` (1 to 3,000;
+/// 240) and the flag `--run`, which has no value; without that flag its options of planning change nothing. The first `--` ends the options
+/// and is passed over. Before it a word that begins with `-` and is longer than one byte is one of the options.
 ///
 /// # Errors
 ///
@@ -261,19 +427,17 @@ pub fn read_words(alloc: Global, words: &[Bytes]) -> Result<Request, Status>
     ensures request { IfOk result (λ request. spec.asked words.now ≡ Some request) }
     ensures few { IfOk result (λ request. length request.names ≤ 64) }
     ensures effort { IfOk result (λ request. IsEffort request.effort) }
+    ensures trips { IfOk result (λ request. spec.HasFewTrips request.command) }
     ensures cause { IfErr result (λ status. (status ≡ Status.Memory) ⊎ (status ≡ Status.Usage)) }
     ensures usage { IsErrOf result Status.Usage ↔ (spec.asked words.now ≡ None) }
 {
     let [command, rest @ ..] = words else {
         return Err(Status::Usage);
     };
-    let Some(command) = command_of(command.as_slice()) else {
+    let Some(name) = name_of(command.as_slice()) else {
         return Err(Status::Usage);
     };
-    match right_words(takes_options(command), rest) {
-        Some(right) => Ok(make_request(alloc, command, right)?),
-        None => Err(Status::Usage),
-    }
+    request_of(alloc, name, rest)
 }
 
 /// The word that stands for the day, or no bytes where there is none.
@@ -282,8 +446,8 @@ pub fn day_word(words: &[Bytes]) -> &[u8]
 {
     match words {
         [] => &[],
-        [_, rest @ ..] => match day_and_files(part(rest)) {
-            Some(said) => said.day,
+        [_, rest @ ..] => match plain_words(part(rest)) {
+            Some(said) => said.first,
             None => &[],
         },
     }

@@ -9,22 +9,22 @@ use Rattle.planner_cli.proofs.RunLemmas.{called_for, complete_run, refused_run}
 use Rattle.planner_cli.proofs.answer.carry_out.Goals as goal
 
 pub returns-in-Ok-clause-refused : goal.returns-in-Ok-clause-refused
-returns-in-Ok-clause-refused g c = λ status some none.
-    absurd (called_for (told_for (g.F.Files.held c.args.files.now) c.args.request.now.names status) (λ contents. IsRefusal (task_of c.args.request.now) contents c.args.request.now.day status) ⊥ some (c.in-Ok.ensures.refused status))
+returns-in-Ok-clause-refused g c = λ status settled some none.
+    absurd (called_for (told_for (g.F.Files.held c.args.files.now) c.args.request.now.names status) (λ contents. IsRefusal (task_of c.args.request.now) contents c.args.request.now.day status) ⊥ some (c.in-Ok.ensures.refused status settled))
 
 pub returns-in-Err-clause-refused : goal.returns-in-Err-clause-refused
-returns-in-Err-clause-refused g c = λ status some none.
-    refused_run (task_of c.args.request.now) (g.F.Files.held c.args.files.now) c.args.request.now.names c.args.request.now.day _ _ c.in-Err.status status (c.in-Err.ensures.refused status) c.in-Err.ensures.cause some none
+returns-in-Err-clause-refused g c = λ status settled some none.
+    refused_run (task_of c.args.request.now) (g.F.Files.held c.args.files.now) c.args.request.now.names c.args.request.now.day _ _ c.in-Err.status status (c.in-Err.ensures.refused status settled) c.in-Err.ensures.cause some none
 
 pub returns-in-Err-clause-complete : goal.returns-in-Err-clause-complete
-returns-in-Err-clause-complete g c = λ some none quiet.
-    inr (complete_run (task_of c.args.request.now) (g.F.Files.held c.args.files.now) c.args.request.now.names c.args.request.now.day _ _ c.in-Err.status c.in-Err.ensures.complete c.in-Err.ensures.cause some none)
+returns-in-Err-clause-complete g c = λ fixed some none quiet.
+    inr (complete_run (task_of c.args.request.now) (g.F.Files.held c.args.files.now) c.args.request.now.names c.args.request.now.day _ _ c.in-Err.status (λ bytes. c.in-Err.ensures.complete bytes fixed) c.in-Err.ensures.cause some none)
 
 pub returns-in-Ok-clause-only : goal.returns-in-Ok-clause-only
-returns-in-Ok-clause-only g c = λ bytes ok.
+returns-in-Ok-clause-only g c = λ bytes ok fixed.
     if_told (held_under (g.F.Files.held c.args.files.now) c.args.request.now.names) _ (λ contents told answer.
     let first = of_told (held_under (g.F.Files.held c.args.files.now) c.args.request.now.names) (λ contents. IsAnswer (task_of c.args.request.now) contents c.args.request.now.day c.in-Ok.text) contents told c.in-Ok.ensures.written in
-    let same : c.as_slice.result.now ≡ bytes = c.as_slice.ensures ∙ one_answer (task_of c.args.request.now) contents c.args.request.now.day c.in-Ok.text bytes first answer in
+    let same : c.as_slice.result.now ≡ bytes = c.as_slice.ensures ∙ one_answer (task_of c.args.request.now) fixed contents c.args.request.now.day c.in-Ok.text bytes first answer in
     same_taken _ _ _ _ c.as_slice.result.now bytes c.written.result same c.written.ensures.written ok)
 
 pub returns-in-Ok-clause-still : goal.returns-in-Ok-clause-still

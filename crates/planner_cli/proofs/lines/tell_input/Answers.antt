@@ -11,3 +11,6 @@ returns-in-Params g c = λ day. rw c.in-Params.is (c.tell_params.ensures day)
 
 pub returns-in-Trip : goal.returns-in-Trip
 returns-in-Trip g c = λ day. rw c.in-Trip.is (c.tell_trip.ensures day)
+
+pub returns-in-Days : goal.returns-in-Days
+returns-in-Days g c = λ day. rw c.in-Days.is (c.tell_days.ensures day)

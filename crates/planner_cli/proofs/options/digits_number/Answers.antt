@@ -2,9 +2,9 @@ use Rattle.std.proofs.Common.{ℕ, ◌<◌, ◌≤◌, ◌^◌, arith, lit<}
 use Rattle.std.proofs.Math.Nat.{pow-le-pow_right}
 use Rattle.planner_cli.proofs.options.digits_number.Goals as goal
 
--- seven digits and fewer
-few : (digits value : ℕ) → digits < 8 → value < 10 ^ digits → value < 10000000
-few digits value h below = let seven : digits ≤ 7 = omega (arith, h) in let most : 10 ^ digits ≤ 10 ^ 7 = pow-le-pow_right (lit< tt) seven in omega (arith, most, below)
+-- eight digits and fewer
+few : (digits value : ℕ) → digits < 9 → value < 10 ^ digits → value < 100000000
+few digits value h below = let eight : digits ≤ 8 = omega (arith, h) in let most : 10 ^ digits ≤ 10 ^ 8 = pow-le-pow_right (lit< tt) eight in omega (arith, most, below)
 
 pub overflow_mul-number : goal.overflow_mul-number
 overflow_mul-number c =
