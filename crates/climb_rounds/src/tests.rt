@@ -4,10 +4,13 @@ ghost use Rattle.std.specs.Prelude.{◌<◌, ◌≤◌};
 ghost use Rattle.price_rounds.specs.Efforts.{IsEffort};
 
 use crate::test_pricer::Pair;
-use crate::{ClimbFault, Climbed, climb_count, climb_plan};
-use plan_core::{NoGate, Price};
+use crate::{ClimbFault, climb_count, climb_plan};
+use cover_core::Column;
+use plan_core::{Memory, NoGate};
 use price_rounds::Effort;
+use std::alloc::Global;
 use std::test::Fail;
+use std::thread::Threads;
 
 /// So many workers.
 fn effort(workers: u32) -> Effort
@@ -23,6 +26,47 @@ fn effort(workers: u32) -> Effort
     }
 }
 
+/// Columns as numbers: of each one its worth, its items and 99.
+fn spell(out: &mut Vec<u64>, columns: &[Column]) -> Result<(), Memory> {
+    for column in columns {
+        out.push(column.worth)?;
+        for item in column.items.as_slice() {
+            out.push(*item as u64)?;
+        }
+        out.push(99)?;
+    }
+    Ok(())
+}
+
+/// What climbing finds, as numbers: the columns of the plan, the kept prices and the bound; or 200, the item that is left, and the columns
+/// beside which it is.
+fn told<R: Threads + Sync>(
+    rt: &R,
+    alloc: Global,
+    given: &Pair,
+    workers: u32,
+) -> Result<Vec<u64>, Memory>
+    requires { (0 < workers) × (workers ≤ 64) }
+{
+    let mut out = Vec::new(alloc);
+    match climb_plan(rt, alloc, given, &effort(workers), &NoGate) {
+        Ok(climbed) => {
+            spell(&mut out, climbed.plan.columns.as_slice())?;
+            for price in climbed.kept.prices.items.as_slice() {
+                out.push(price.0.unsigned_abs())?;
+            }
+            out.push(climbed.kept.bound)?;
+        }
+        Err(ClimbFault::NotPlaced { item, partial }) => {
+            out.push(200)?;
+            out.push(item as u64)?;
+            spell(&mut out, partial.columns.as_slice())?;
+        }
+        Err(ClimbFault::Memory) => return Err(Memory),
+    }
+    Ok(out)
+}
+
 /// Two items that cost 2,500 each alone and 2,200 together: rounding puts them into one column, its worth is shared between them, and the
 /// prices of 1,100,000 each are paid, so the first bound proves the plan. With each worth 1 the prices are 500 and the bound is 1.
 #[test]
@@ -33,20 +77,11 @@ fn bounds_prove_plans(rt: HostRuntime) -> Result<(), Fail> {
             both: Some(2200),
             places: 2,
         };
-        match climb_plan(&rt, rt.alloc(), &costed, &effort(workers), &NoGate) {
-            Err(_) => assert_eq!(rt; workers, 0),
-            Ok(Climbed { plan, kept }) => {
-                let columns = plan.columns.as_slice();
-                assert_eq!(rt; columns.len(), 1);
-                assert_eq!(rt; columns[0].items.as_slice(), [0, 1].as_slice());
-                assert_eq!(rt; columns[0].worth, 2200);
-                assert_eq!(rt;
-                    kept.prices.items.as_slice(),
-                    [Price(1100000), Price(1100000)].as_slice()
-                );
-                assert_eq!(rt; kept.bound, 2200);
-            }
-        }
+        let found = told(&rt, rt.alloc(), &costed, workers)?;
+        assert_eq!(rt;
+            found.as_slice(),
+            [2200, 0, 1, 99, 1100000, 1100000, 2200].as_slice()
+        );
         let counted = Pair {
             alone: 1,
             both: Some(1),
@@ -67,13 +102,8 @@ fn items_are_left(rt: HostRuntime) -> Result<(), Fail> {
         both: None,
         places: 1,
     };
-    match climb_plan(&rt, rt.alloc(), &narrow, &effort(1), &NoGate) {
-        Err(ClimbFault::NotPlaced { item, partial }) => {
-            assert_eq!(rt; item, 1);
-            assert_eq!(rt; partial.columns.len(), 1);
-        }
-        _ => assert_eq!(rt; narrow.places, 0),
-    }
+    let found = told(&rt, rt.alloc(), &narrow, 1)?;
+    assert_eq!(rt; found.as_slice(), [200, 1, 1, 0, 99].as_slice());
     let kept = climb_count(&rt, rt.alloc(), &narrow, &effort(1), &NoGate)?;
     assert_eq!(rt; kept.bound, 3);
     Ok(())
