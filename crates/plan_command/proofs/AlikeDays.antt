@@ -91,7 +91,7 @@ module _ (one other : DayFacts) (alike : AreAlike one other) where
       ap (λ pieces. pieces ++ pieces_by_block one (number + 1) blocks) (block_pieces_alike number block)
       ∙ ap (λ rest. block_pieces other number block ++ rest) (by_block_alike (number + 1) blocks)
 
-  same_pieces : pieces_of_plan one ≡ pieces_of_plan other
+  pub same_pieces : pieces_of_plan one ≡ pieces_of_plan other
   same_pieces = fun_ext (λ blocks. ap (in_order moment) (by_block_alike 1 blocks))
 
   same_duties : duties_over one ≡ duties_over other
@@ -147,7 +147,7 @@ module _ (one other : DayFacts) (alike : AreAlike one other) where
       let P : (List Column → Bool → Problem) → Type 0 = λ problem. IsPlannedSide (problem blocks true) (problem blocks false) numbers duties in
       subst P same_duties h
 
-  plans_alike : (numbers : Numbers) (blocks duties : SidePlan) → IsDayPlan one numbers blocks duties → IsDayPlan other numbers blocks duties
+  pub plans_alike : (numbers : Numbers) (blocks duties : SidePlan) → IsDayPlan one numbers blocks duties → IsDayPlan other numbers blocks duties
   plans_alike numbers blocks duties h = record {
     ends = ends_alike numbers (answered blocks duties) h.ends;
     blocks_are = planned_blocks_alike numbers blocks h.blocks_are;
