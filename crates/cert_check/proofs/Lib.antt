@@ -1,0 +1,13 @@
+pub mod Accepted
+pub mod Again
+pub mod Asked
+pub mod Charges
+pub mod Exact
+pub mod FewRows
+pub mod FourBounds
+pub mod Highs
+pub mod LawfulLists
+pub mod Made
+pub mod PartGaps
+pub mod Placed
+pub mod SameWorths

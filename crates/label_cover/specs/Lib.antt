@@ -1,0 +1,4 @@
+pub mod Marked
+pub mod Opened
+pub mod Ranges
+pub mod Laws

@@ -1,0 +1,16 @@
+pub mod Lists
+pub mod Kept
+pub mod MarkLists
+pub mod TableRows
+pub mod Says
+pub mod FieldsBack
+pub mod PricesBack
+pub mod MarksBack
+pub mod TablesBack
+pub mod ReadBack
+pub mod GivesPrices
+pub mod Found
+pub mod FoundMarks
+pub mod ReadParts
+pub mod HasClasses
+pub mod MarkCounts

@@ -1,0 +1,13 @@
+pub mod Names
+pub mod Shapes
+pub mod Numbers
+pub mod Columns
+pub mod Places
+pub mod Slots
+pub mod Prices
+pub mod PriceTables
+pub mod Entries
+pub mod Marks
+pub mod Certificates
+pub mod Writing
+pub mod Laws

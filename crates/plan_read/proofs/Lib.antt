@@ -1,0 +1,13 @@
+pub mod Finds
+pub mod Halved
+pub mod Numbered
+pub mod Gathered
+pub mod Printing
+pub mod Saying
+pub mod SameRows
+pub mod Same
+pub mod Outcomes
+pub mod WrittenNumbers
+pub mod WrittenLists
+pub mod WrittenRows
+pub mod Written

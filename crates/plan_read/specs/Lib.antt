@@ -1,0 +1,9 @@
+pub mod Places
+pub mod Told
+pub mod Numbers
+pub mod Entries
+pub mod Located
+pub mod Gathering
+pub mod Reading
+pub mod Laws
+pub mod ReadsBack
