@@ -1,12 +1,14 @@
 #!/usr/bin/env python3
-"""Runs the planner on broken files: byte and line changes of an example day, through every command.
+"""Runs the planner on broken files: byte and line changes of an example day, and of a plan and a certificate, through every command.
 
     bench/mutate.py [--seed N] [--cases N] [--jobs N] [FILE ..]
 
-Each case changes one of the files (else the example day) by one to four draws of a generator that the seed starts, and runs `trips`, `day` and
-`plan` over it in turn. A case is right where the run ends by itself with a status of the table in docs/RULES.md that the command can have;
-where standard error holds one line of that status's shape, and nothing with status 0; and where standard output is empty but with 0. The
-first wrong cases are kept beside the script's answer. It is no test of the gate: it takes minutes, and what it finds is mended by a contract.
+Each case changes one of the files (else the example day) by one to four draws of a generator that the seed starts. Of every three cases one runs
+`trips`, `day`, `plan` and `certify` over the changed planning file, one `check` with the plan or the certificate changed as a liar might, and one
+`check` with the planning file changed. A case is right where the run ends by itself with a status of the table in docs/RULES.md that the command
+can have; where standard error holds one line of that status's shape, and nothing with 0 and 10; and where standard output is empty but with
+0 and 10, when `check` writes its line. The first wrong cases are kept beside the script's answer. It is no test of the gate: it takes minutes,
+and what it finds is mended by a contract.
 """
 
 import argparse
@@ -23,7 +25,9 @@ import time
 TOP = os.path.dirname(os.path.dirname(os.path.abspath(__file__)))
 PROGRAM = os.path.join(TOP, "crates", "planner_cli", "out", "planner_cli")
 DAY = "20260302"
-COMMANDS = {"trips": {0, 3, 4, 9}, "day": {0, 3, 4, 9}, "plan": {0, 3, 4, 5, 6, 9}}
+COMMANDS = {"trips": {0, 3, 4, 9}, "day": {0, 3, 4, 9}, "plan": {0, 3, 4, 5, 6, 9}, "certify": {0, 3, 4, 5, 6, 9}}
+CHECKS = {0: rb"yes\n", 10: rb"no (1 PlanForm|2 TripTimes|3 BlockUnlawful|4 PoolOver|5 PieceTimes|6 DutyUnlawful|7 GroupOver|8 PlanDiffers|9 CertForm"
+          rb"|10 NegativeClassPrice|12 Uncovered|13 BoundTooHigh)\n"}
 LINES = {
     3: rb"(file \d+ line \d+: \w+|table [^\n]* row \d+: \w+|trips: \d+|trip \d+: (NoRoute|ShortRoute|PastEnd|NoRunTime \d+/\d+ to \d+/\d+))\n",
     4: rb"day \d{8}: \w+\n",
@@ -102,32 +106,62 @@ def changed(text, draw):
     return b"\n".join(lines)
 
 
-def case(work):
-    """The statuses of one case, and what is wrong with it."""
-    number, seed, texts = work
-    draw = random.Random(seed * 1_000_003 + number)
-    text = draw.choice(texts)
-    for _ in range(draw.randrange(1, 5)):
-        text = changed(text, draw)
-    statuses, wrong = [], []
+def made(text, command):
+    """What a command writes of a planning file, or None where it refuses it."""
     with tempfile.NamedTemporaryFile(suffix=".x10") as file:
         file.write(text)
         file.flush()
-        for command, allowed in COMMANDS.items():
-            try:
-                run = subprocess.run([PROGRAM, command, DAY, file.name], capture_output=True, timeout=60)
-            except subprocess.TimeoutExpired:
-                wrong.append((command, "no end within 60 s"))
-                continue
-            status = run.returncode
-            statuses.append((command, status))
-            if status not in allowed:
-                wrong.append((command, f"status {status}"))
-            elif status == 0 and (run.stderr or not run.stdout):
-                wrong.append((command, "a line on standard error with status 0, or no text"))
-            elif status != 0 and (run.stdout or not re.fullmatch(LINES[status], run.stderr)):
-                wrong.append((command, f"status {status} with {run.stderr[:80]!r} and {len(run.stdout)} bytes of text"))
-    return number, statuses, wrong, text if wrong else b""
+        run = subprocess.run([PROGRAM, command, DAY, file.name], capture_output=True, timeout=600)
+    return run.stdout if run.returncode == 0 else None
+
+
+def ended(words):
+    """How a run ended, or None where it did not within a minute."""
+    try:
+        return subprocess.run([PROGRAM, *words], capture_output=True, timeout=60)
+    except subprocess.TimeoutExpired:
+        return None
+
+
+def fault_of(run, command, allowed):
+    """What is wrong with the end of a run, if anything."""
+    if run is None:
+        return "no end within 60 s"
+    status = run.returncode
+    if status not in allowed:
+        return f"status {status}"
+    if command == "check" and status in CHECKS:
+        return None if not run.stderr and re.fullmatch(CHECKS[status], run.stdout) else f"status {status} with {run.stdout[:80]!r}"
+    if status == 0:
+        return "a line on standard error with status 0, or no text" if run.stderr or not run.stdout else None
+    if run.stdout or not re.fullmatch(LINES[status], run.stderr):
+        return f"status {status} with {run.stderr[:80]!r} and {len(run.stdout)} bytes of text"
+    return None
+
+
+def case(work):
+    """The statuses of one case, and what is wrong with it."""
+    number, seed, sets = work
+    draw = random.Random(seed * 1_000_003 + number)
+    texts = list(draw.choice(sets))
+    place = (0, draw.choice([1, 2]), 0)[number % 3]
+    for _ in range(draw.randrange(1, 5)):
+        texts[place] = changed(texts[place], draw)
+    statuses, wrong = [], []
+    with tempfile.TemporaryDirectory(prefix="mutate-") as room:
+        paths = [os.path.join(room, name) for name in ("day.x10", "plan.x10", "cert.x10")]
+        for path, text in zip(paths, texts):
+            with open(path, "wb") as file:
+                file.write(text)
+        runs = [(command, [command, DAY, paths[0]], allowed) for command, allowed in COMMANDS.items()]
+        for command, words, allowed in runs if number % 3 == 0 else [("check", ["check", DAY, paths[1], paths[2], paths[0]], {0, 3, 4, 9, 10})]:
+            run = ended(words)
+            if run is not None:
+                statuses.append((command, run.returncode))
+            fault = fault_of(run, command, allowed)
+            if fault:
+                wrong.append((command, fault))
+    return number, statuses, wrong, texts[place] if wrong else b""
 
 
 def main():
@@ -140,9 +174,12 @@ def main():
     if not os.path.exists(PROGRAM):
         sys.exit("mutate: the program is not built: call ./planner once")
     texts = [open(path, "rb").read() for path in given.files]
+    sets = [(text, made(text, "plan"), made(text, "certify")) for text in texts]
+    if any(None in one for one in sets):
+        sys.exit("mutate: a file has no plan")
     counts, wrongs, start = collections.Counter(), [], time.monotonic()
     with concurrent.futures.ThreadPoolExecutor(given.jobs) as pool:
-        for number, statuses, wrong, text in pool.map(case, ((number, given.seed, texts) for number in range(given.cases)), chunksize=1):
+        for number, statuses, wrong, text in pool.map(case, ((number, given.seed, sets) for number in range(given.cases)), chunksize=1):
             counts.update(statuses)
             for what in wrong:
                 wrongs.append((number, what))

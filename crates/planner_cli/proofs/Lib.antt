@@ -1,14 +1,9 @@
 pub mod AnswerLemmas
-pub mod FileLemmas
-pub mod InputLemmas
 pub mod LineLemmas
 pub mod MadeLemmas
 pub mod Outcomes
-pub mod PieceLemmas
-pub mod RequestLemmas
 pub mod RunLemmas
 pub mod TripLemmas
-pub mod OptionLemmas
 pub mod ModelOutcomes
 pub mod ModelLemmas
 pub mod PlanLemmas
@@ -17,3 +12,5 @@ pub mod RowReads
 pub mod TripRows
 pub mod OneText
 pub mod WeekOutcomes
+pub mod CertOutcomes
+pub mod CheckLemmas

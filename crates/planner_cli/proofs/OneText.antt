@@ -1,5 +1,5 @@
 -- The text of a task is one, unless it climbs: files that are told, words and a day determine it.
-use Rattle.std.proofs.Common.{◌≡◌, ℕ, ◌+◌, ◌-◌, ℤ, pos, false, List, [], ◌∷◌, ◌++◌, length, Option, Some, Result, Ok, IfSome, sym, ◌∙◌, ap, subst}
+use Rattle.std.proofs.Common.{◌≡◌, ℕ, ◌+◌, ◌-◌, ℤ, pos, false, true, inl, inr, List, [], ◌∷◌, ◌++◌, length, Option, Some, Result, Ok, IfSome, sym, ◌∙◌, ap, subst}
 use Rattle.jiff_core.specs.Calendar.{days_from_civil, weekday_number}
 use Rattle.vdv451_text.specs.declared.table.Table.{Table}
 use Rattle.vdv451_text.specs.Plain.{text}
@@ -17,17 +17,22 @@ use Rattle.cover_plan.specs.Endings.{Numbers}
 use Rattle.plan_command.specs.PlanText.{IsPlanTextOver}
 use Rattle.plan_command.proofs.AlikeDays.{same_short_texts, same_texts}
 use Rattle.trip_times.specs.declared.trip.Trip.{Trip}
-use Rattle.planner_cli.specs.Tasks.{Task, climbs}
-use Rattle.planner_cli.specs.Tasks.{Day, Make, MakeRun, Plan, Trips, Week}
+use Rattle.planner_cli.specs.Tasks.{Task, checks, climbs}
+use Rattle.planner_cli.specs.Tasks.{Certify, Check, Day, Make, MakeRun, Plan, Trips, Week}
 use Rattle.planner_cli.specs.declared.status.Status.{Status}
 use Rattle.planner_cli.specs.declared.status.Status.TheVariants as statuses
 use Rattle.planner_cli.specs.DayText.{IsDayText}
-use Rattle.planner_cli.specs.Inputs.{SpellTables, most_bytes}
-use Rattle.planner_cli.specs.Run.{IsAnswer, IsText, IsWritten}
+use Rattle.input_files.specs.declared.stage.Stage.{Stage}
+use Rattle.input_files.specs.Inputs.{SpellTables}
+use Rattle.input_files.specs.Parts.{joined}
+use Rattle.input_files.specs.Stages.{next_stage, room}
+use Rattle.planner_cli.specs.Endings.{is_done}
+use Rattle.planner_cli.specs.Run.{IsAnswer, IsWhole, IsWritten, stage_of}
 use Rattle.planner_cli.specs.MadeText.{IsShortText}
 use Rattle.planner_cli.specs.PlanText.{IsPlanText}
 use Rattle.planner_cli.specs.Trips.{IsTripsText, picked_table}
 use Rattle.planner_cli.proofs.ModelOutcomes.{days_alike, rows_same}
+use Rattle.planner_cli.proofs.CertOutcomes.{one_certificate}
 use Rattle.planner_cli.proofs.PlanOutcomes.{days_short, days_text}
 use Rattle.planner_cli.proofs.Outcomes.{kinds_same, some_same}
 use Rattle.planner_cli.proofs.WeekOutcomes.{one_week_text}
@@ -36,12 +41,12 @@ use Rattle.planner_cli.proofs.WeekOutcomes.{one_week_text}
 ok_same : {E : Type 0} (xs ys : List Table) (r : Result (List Table) E) → r ≡ Ok xs → r ≡ Ok ys → xs ≡ ys
 ok_same xs ys r p q = let both : Ok xs ≡ Ok ys = sym p ∙ q in cc
 
-one_spelling : (most : ℕ) (contents : List (List ℕ)) (xs ys : List Table) → SpellTables most contents xs → SpellTables most contents ys → xs ≡ ys
-one_spelling most [] xs ys p q = p ∙ sym q
-one_spelling most (bytes ∷ files) xs ys p q =
-    let first : p.0 ≡ q.0 = ok_same p.0 q.0 _ (reads_given most bytes p.0 p.2) (reads_given most bytes q.0 q.2) in
-    let others : p.1 ≡ q.1 = one_spelling (most - length bytes) files p.1 q.1 p.3 q.3 in
-    p.4 ∙ ap (λ (t : List Table). t ++ p.1) first ∙ ap (λ (t : List Table). q.0 ++ t) others ∙ sym q.4
+one_spelling : (stage : Stage) (contents : List (List ℕ)) (xs ys : List (List Table)) → SpellTables stage contents xs → SpellTables stage contents ys → xs ≡ ys
+one_spelling stage [] xs ys p q = p ∙ sym q
+one_spelling stage (bytes ∷ files) xs ys p q =
+    let first : p.0 ≡ q.0 = ok_same p.0 q.0 _ (reads_given (room stage) bytes p.0 p.2) (reads_given (room stage) bytes q.0 q.2) in
+    let others : p.1 ≡ q.1 = one_spelling (next_stage stage (length bytes)) files p.1 q.1 p.3 q.3 in
+    p.4 ∙ ap (λ (t : List Table). t ∷ p.1) first ∙ ap (λ (t : List (List Table)). q.0 ∷ t) others ∙ sym q.4
 
 -- one text of trips
 one_trips_text : (tables : List Table) (day : ℕ) (xs ys : List ℕ) → IsTripsText tables day xs → IsTripsText tables day ys → xs ≡ ys
@@ -99,24 +104,25 @@ one_short_text : (numbers : Numbers) → numbers.climb ≡ false → (tables : L
 one_short_text numbers fixed tables day xs ys p q =
     days_short q.facts numbers fixed xs ys (same_short_texts p.facts q.facts (days_alike tables day p.facts q.facts p.model q.model) numbers xs p.plan) q.plan
 
-one_text : (task : Task) → climbs task ≡ false → (tables : List Table) (day : ℕ) (xs ys : List ℕ) → IsText task tables day xs → IsText task tables day ys → xs ≡ ys
-one_text Trips fixed tables day xs ys p q = one_trips_text tables day xs ys p q
-one_text Day fixed tables day xs ys p q = one_day_text tables day xs ys p q
-one_text (Plan numbers) fixed tables day xs ys p q = one_plan_text numbers fixed tables day xs ys p q
-one_text (Make seed trips) fixed tables day xs ys p q = p ∙ sym q
-one_text Week fixed tables day xs ys p q = one_week_text tables xs ys p q
-one_text (MakeRun seed trips numbers) fixed tables day xs ys p q = one_short_text numbers fixed (made_tables seed trips) day xs ys p q
+one_text : (task : Task) → climbs task ≡ false → checks task ≡ false → (parts : List (List Table)) (day : ℕ) (s t : Status) (xs ys : List ℕ) → IsWhole task parts day s xs → IsWhole task parts day t ys → xs ≡ ys
+one_text Trips fixed text parts day s t xs ys p q = one_trips_text (joined parts) day xs ys p.0 q.0
+one_text Day fixed text parts day s t xs ys p q = one_day_text (joined parts) day xs ys p.0 q.0
+one_text (Plan numbers) fixed text parts day s t xs ys p q = one_plan_text numbers fixed (joined parts) day xs ys p.0 q.0
+one_text (Certify numbers) fixed text parts day s t xs ys p q = one_certificate numbers fixed (joined parts) day xs ys p.0 q.0
+one_text (Check count) fixed text parts day s t xs ys p q = absurd cc
+one_text (Make seed trips) fixed text parts day s t xs ys p q = p.0 ∙ sym q.0
+one_text Week fixed text parts day s t xs ys p q = one_week_text (joined parts) xs ys p.0 q.0
+one_text (MakeRun seed trips numbers) fixed text parts day s t xs ys p q = one_short_text numbers fixed (made_tables seed trips) day xs ys p.0 q.0
 
-pub one_answer : (task : Task) → climbs task ≡ false → (contents : List (List ℕ)) (day : ℕ) (xs ys : List ℕ) → IsAnswer task contents day xs → IsAnswer task contents day ys → xs ≡ ys
-one_answer task fixed contents day xs ys p q =
-    let same : p.tables ≡ q.tables = one_spelling most_bytes contents p.tables q.tables p.spelled q.spelled in
-    let P : List Table → Type 0 = λ ts. IsText task ts day xs in
-    one_text task fixed q.tables day xs ys (subst P same p.written) q.written
+pub one_answer : (task : Task) → climbs task ≡ false → checks task ≡ false → (contents : List (List ℕ)) (day : ℕ) (s t : Status) (xs ys : List ℕ) → IsAnswer task contents day s xs → IsAnswer task contents day t ys → xs ≡ ys
+one_answer task fixed text contents day s t xs ys p q =
+    let same : p.parts ≡ q.parts = one_spelling (stage_of task) contents p.parts q.parts p.spelled q.spelled in
+    let P : List (List Table) → Type 0 = λ ps. IsWhole task ps day s xs in
+    one_text task fixed text q.parts day s t xs ys (subst P same p.written) q.written
 
 -- what was taken is any text that is the one written
-pub same_taken : (old new : Option (List ℕ)) (before now : ℕ) (text bytes : List ℕ) (status : Status) → text ≡ bytes → IsWritten old new before now text status → status ≡ statuses.Ok → IfSome old (λ bytes_before. new ≡ Some (bytes_before ++ bytes))
-same_taken old new before now text bytes status same written ok =
-    let P : Status → Type 0 = λ s. IsWritten old new before now text s in
-    let whole : IfSome old (λ bytes_before. new ≡ Some (bytes_before ++ text)) = subst P ok written in
+pub same_taken : (old new : Option (List ℕ)) (before now : ℕ) (text bytes : List ℕ) (ending status : Status) → text ≡ bytes → IsWritten old new before now text ending status → is_done status ≡ true → IfSome old (λ bytes_before. new ≡ Some (bytes_before ++ bytes))
+same_taken old new before now text bytes ending status same (inl (is, whole)) done =
     let Q : List ℕ → Type 0 = λ t. IfSome old (λ bytes_before. new ≡ Some (bytes_before ++ t)) in
     subst Q same whole
+same_taken old new before now text bytes ending status same (inr (is, front, rose)) done = let P : Status → Type 0 = λ s. is_done s ≡ true in absurd (let bad = subst P is done in cc)

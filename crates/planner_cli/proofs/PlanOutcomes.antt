@@ -43,7 +43,7 @@ same_fault one other p q (inr (inl memory)) = absurd (p memory)
 same_fault one other p q (inr (inr memory)) = absurd (q memory)
 
 -- a refusal of planning that is not left open is one of fixed rounds
-in_rounds : (numbers : Numbers) (fault : PlanFault) (s : Status) → (fault ≡ faults.Memory → ⊥) → s ≡ plan_status_of fault → (is_of_planning s && numbers.climb) ≡ false → numbers.climb ≡ false
+pub in_rounds : (numbers : Numbers) (fault : PlanFault) (s : Status) → (fault ≡ faults.Memory → ⊥) → s ≡ plan_status_of fault → (is_of_planning s && numbers.climb) ≡ false → numbers.climb ≡ false
 in_rounds numbers (faults.NoPlan side bound places) s told is settled = let P : Status → Type 0 = λ s. (is_of_planning s && numbers.climb) ≡ false in subst P is settled
 in_rounds numbers (faults.NotPlaced side item name partial) s told is settled = let P : Status → Type 0 = λ s. (is_of_planning s && numbers.climb) ≡ false in subst P is settled
 in_rounds numbers faults.Memory s told is settled = absurd (told refl)

@@ -13,7 +13,6 @@ use Rattle.week_check.specs.Verdict.{verdict_table}
 use Rattle.week_check.proofs.OneAnswer.{one_answer}
 use Rattle.week_check.proofs.OneList.{one_list}
 use Rattle.planner_cli.specs.declared.status.Status.{Status}
-use Rattle.planner_cli.specs.Words.{is_roster}
 use Rattle.planner_cli.specs.WeekText.{IsVerdictText, IsWeekCause, IsWeekRefused, IsWeekText, roster_status}
 
 abbrev fault_or : Result (List Turn) RosterFault → RosterFault → RosterFault
@@ -67,10 +66,3 @@ pub verdict_of : {E : Type 0} (turns : List Turn) (denials : List Denial) (table
     IfOk r (λ bytes. bytes ≡ text (table ∷ [])) → IfOk r (IsVerdictText turns)
 verdict_of turns denials table (Ok bytes) are same written = record { denials = denials; are = are; written = written ∙ ap (λ t. text (t ∷ [])) same }
 verdict_of turns denials table (Err e) are same written = tt
-
--- a roster is one word
-pub one_roster : (words : List (List ℕ)) → is_roster words ≡ true → length words ≤ 64
-one_roster [] e = absurd (cc)
-one_roster (file ∷ []) e = omega arith
-one_roster ([] ∷ other ∷ words) e = absurd (cc)
-one_roster ((b ∷ file) ∷ other ∷ words) e = absurd (cc)

@@ -1,14 +1,13 @@
+pub mod CertText
+pub mod CheckText
 pub mod Codes
 pub mod DayText
-pub mod Inputs
 pub mod MadeText
+pub mod Endings
 pub mod Model
-pub mod Options
 pub mod PlanText
 pub mod Run
-pub mod Taken
 pub mod Tasks
 pub mod Trips
 pub mod WeekText
-pub mod Words
 pub mod Lines

@@ -18,7 +18,7 @@ use Rattle.plan_command.specs.declared.fault.ItemName.TheVariants as items
 use Rattle.planner_cli.specs.declared.status.Status.{Status}
 use Rattle.planner_cli.specs.declared.status.Status.TheVariants as statuses
 use Rattle.planner_cli.specs.declared.status.InputFault.TheVariants as inputs
-use Rattle.planner_cli.specs.Taken.{TakesFront}
+use Rattle.input_files.specs.Taken.{TakesFront}
 
 abbrev pub text_kind : TextKind → List ℕ
 text_kind texts.Keyword = codes "Keyword"
@@ -77,6 +77,7 @@ joined (part ∷ parts) = part ++ joined parts
 -- The line of a refusal, for a day as its word has it.
 abbrev pub line_of : List ℕ → Status → List ℕ
 line_of day statuses.Ok = []
+line_of day (statuses.CheckNo reason) = []
 line_of day statuses.Usage = codes "usage: planner trips|day|plan|certify|check|make|replan|week\n"
 line_of day (statuses.Input (inputs.Text file fault)) =
     joined (codes "file " ∷ decimal file ∷ codes " line " ∷ decimal fault.line ∷ codes ": " ∷ text_kind fault.kind ∷ codes "\n" ∷ [])

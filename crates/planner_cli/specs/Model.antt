@@ -55,6 +55,7 @@ IsModelCause tables day statuses.Ok = ⊥
 IsModelCause tables day statuses.Usage = ⊥
 IsModelCause tables day (statuses.ReadFault file) = ⊥
 IsModelCause tables day statuses.WriteFault = ⊥
+IsModelCause tables day (statuses.CheckNo reason) = ⊥
 
 -- memory ran out, or the tables tell no day
 abbrev pub IsModelRefused : List Table → ℕ → Status → Type 0

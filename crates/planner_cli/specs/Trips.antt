@@ -77,6 +77,7 @@ IsDayCause tables day statuses.Ok = ⊥
 IsDayCause tables day statuses.Usage = ⊥
 IsDayCause tables day (statuses.ReadFault file) = ⊥
 IsDayCause tables day statuses.WriteFault = ⊥
+IsDayCause tables day (statuses.CheckNo reason) = ⊥
 
 -- memory ran out, or the tables are refused for the day
 abbrev pub IsRefused : List Table → ℕ → Status → Type 0

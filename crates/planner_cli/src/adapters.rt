@@ -3,7 +3,7 @@
 ghost use Rattle.std.specs.Prelude.{◌≡◌, ◌≤◌, None, IfOk, length, drop};
 ghost use Rattle.std.specs.Io.{ReadsAtMost};
 
-use crate::transfer::{PIECE, zeros};
+use input_files::{PIECE, zeros};
 use plan_core::{Bytes, Failed, Memory, Sink};
 use std::alloc::Global;
 use std::env::{Env, FillError};

@@ -1,12 +1,13 @@
 //! The lines on standard error.
 
-ghost use Rattle.std.specs.Prelude.{◌≡◌, ◌≢◌, ◌++◌, ◌∷◌, [], ℕ, List, Option, codes, decimal};
+ghost use Rattle.std.specs.Prelude.{◌≡◌, false, ◌++◌, ◌∷◌, [], ℕ, List, Option, codes, decimal};
+ghost use Rattle.planner_cli.specs.Endings.{is_done};
 ghost use Rattle.planner_cli.specs.Lines as spec;
 
 use crate::status::{InputFault, Status};
-use crate::transfer::write_whole;
 use day_calendar::DayFault;
 use day_method::Side;
+use input_files::write_whole;
 use itoa::Buffer;
 use plan_command::ItemName;
 use plan_core::{Point, Sink};
@@ -278,11 +279,12 @@ fn tell_input<E: Sink>(err: &mut E, fault: &InputFault)
 
 /// Writes the line of a refusal, for a day as its word has it. It takes no memory. Where a write fails, the rest of the line is left out.
 pub fn tell<E: Sink>(err: &mut E, day: &[u8], status: &Status)
-    requires { status.now ≢ Status.Ok }
+    requires { is_done status.now ≡ false }
     ensures { spec.IsTold (E.taken err.old) (E.taken err.new) (E.faults err.old) (E.faults err.new) (spec.line_of day.now status.now) }
 {
     match status {
         Status::Ok => unreachable!(),
+        Status::CheckNo(_) => unreachable!(),
         Status::Usage => {
             tell_line(
                 err,

@@ -12,7 +12,7 @@ ghost use Rattle.planner_cli.specs.Tasks.{make_task};
 
 use crate::plan::short_text;
 use crate::status::Status;
-use crate::words::Making;
+use command_words::Making;
 use day_maker::make_tables;
 use plan_core::{Bytes, Gate, Memory};
 use price_rounds::Effort;

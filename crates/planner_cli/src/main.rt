@@ -3,30 +3,32 @@
 
 mod adapters;
 mod answer;
+#[cfg(test)]
+mod cert_tests;
+mod certify;
+mod check;
 mod day;
-mod inputs;
 mod lines;
 mod made;
 #[cfg(test)]
 mod made_tests;
 mod model;
-mod options;
+mod outcome;
 #[cfg(test)]
 mod outside_tests;
 mod plan;
 #[cfg(test)]
 mod plan_tests;
 mod program;
+mod ready;
 mod run;
 mod status;
 #[cfg(test)]
 mod tests;
-mod transfer;
 mod trips;
 mod week;
 #[cfg(test)]
 mod week_tests;
-mod words;
 
 use adapters::Stream;
 use program::run_program;

@@ -1,22 +1,16 @@
 //! The command `plan`: the vehicle blocks and driver duties of a day, and bounds on their numbers and costs.
 
-ghost use Rattle.std.specs.Prelude.{◌≡◌, ◌<◌, ◌^◌, None, Some, All, IsTrue, IfOk, IfErr, length};
+ghost use Rattle.std.specs.Prelude.{◌≡◌, ◌<◌, ◌^◌, All, IsTrue, IfOk, IfErr, length};
 ghost use Rattle.vdv451_text.specs.Plain.{are_plain, is_plain_table};
-ghost use Rattle.vdv452_tables.specs.declared.reading.Needs.TheVariants as needs;
-ghost use Rattle.vdv452_tables.specs.Calendar.{net_of, schemas_of};
-ghost use Rattle.vdv452_tables.specs.Rows.{first_fault, table_of};
-ghost use Rattle.vdv452_tables.specs.Schema.{trips as trips_schema};
 ghost use Rattle.cover_plan.specs.Endings.{numbers_of};
 ghost use Rattle.price_rounds.specs.Efforts.{IsEffort};
 ghost use Rattle.plan_command.specs.PlanText.{HasTripRows, IsPlanTextOver};
 ghost use Rattle.plan_command.specs.ShortText.{IsShortTextOver};
 ghost use Rattle.planner_cli.specs.MadeText.{IsShortText};
-ghost use Rattle.planner_cli.specs.Model.{IsModelOf, IsModelRefused};
 ghost use Rattle.planner_cli.specs.PlanText.{IsPlanRefused, IsPlanStatus, IsPlanText, plan_status_of};
 
-use crate::model::{model_of, network};
+use crate::ready::ready_day;
 use crate::status::Status;
-use crate::trips::trips_place;
 use day_model::Day;
 use plan_command::{PlanFault, plan_text as plan_day_text, short_text as short_day_text};
 use plan_core::{Bytes, Gate};
@@ -24,10 +18,9 @@ use price_rounds::Effort;
 use std::alloc::Global;
 use std::thread::Threads;
 use vdv451_text::Table;
-use vdv452_tables::{Needs, Network};
 
 /// The status for a day without a plan.
-fn plan_status(fault: PlanFault) -> Status
+pub(crate) fn plan_status(fault: PlanFault) -> Status
     ensures { result ≡ plan_status_of fault }
 {
     match fault {
@@ -94,57 +87,6 @@ fn short_over<R: Threads + Sync, G: Gate + Sync>(
     match short_day_text(rt, alloc, model, rec_frt, effort, gate) {
         Ok(bytes) => Ok(bytes),
         Err(fault) => Err(plan_status(fault)),
-    }
-}
-
-/// A day, and the table that its trips were read from.
-#[derive(Drop)]
-struct Ready<'t> {
-    model: Day,
-    rec_frt: &'t Table,
-}
-
-/// The day in a network, with the table of its trips.
-fn ready_in<'t>(
-    alloc: Global,
-    tables: &'t [Table],
-    net: &Network,
-    day: u32,
-) -> Result<Ready<'t>, Status>
-    requires plain { IsTrue (are_plain tables.now) }
-    requires faultless { first_fault (schemas_of needs.All) tables.now ≡ None }
-    requires net { net.now ≡ net_of needs.All tables.now }
-    ensures model { IfOk result (λ ready. IsModelOf tables.now day ready.model) }
-    ensures found { IfOk result (λ ready. table_of trips_schema tables.now ≡ Some ready.rec_frt.now) }
-    ensures plain { IfOk result (λ ready. IsTrue (is_plain_table ready.rec_frt.now)) }
-    ensures rows { IfOk result (λ ready. HasTripRows ready.model ready.rec_frt.now) }
-    ensures cause { IfErr result (IsModelRefused tables.now day) }
-{
-    let model = match model_of(alloc, net, day) {
-        Ok(model) => model,
-        Err(status) => return Err(status),
-    };
-    // No number of a trip is above 10^18: the network says so.
-    let _ = net.trip_rows();
-    Ok(Ready {
-        model,
-        rec_frt: &tables[trips_place(tables)],
-    })
-}
-
-/// The day that the tables of all files tell, with the table of its trips.
-fn ready_day<'t>(alloc: Global, tables: &'t [Table], day: u32) -> Result<Ready<'t>, Status>
-    requires plain { IsTrue (are_plain tables.now) }
-    requires sized { All (λ table. length table.rows < 2 ^ 32) tables.now }
-    ensures model { IfOk result (λ ready. IsModelOf tables.now day ready.model) }
-    ensures found { IfOk result (λ ready. table_of trips_schema tables.now ≡ Some ready.rec_frt.now) }
-    ensures plain { IfOk result (λ ready. IsTrue (is_plain_table ready.rec_frt.now)) }
-    ensures rows { IfOk result (λ ready. HasTripRows ready.model ready.rec_frt.now) }
-    ensures cause { IfErr result (IsModelRefused tables.now day) }
-{
-    match network(alloc, tables, Needs::All) {
-        Ok(net) => ready_in(alloc, tables, &net, day),
-        Err(status) => Err(status),
     }
 }
 

@@ -10,15 +10,15 @@ use std::thread::Threads;
 use trip_times::TripFault;
 
 /// Two trips of one line, from A to B and back, a depot D with two vehicles, and a group of two drivers.
-const DEMO: &str =
+pub(crate) const DEMO: &str =
     "mod; DD.MM.YYYY; HH:MM:SS; free\nsrc; \"demo\"; \"01.01.2000\"; \"00:00:00\"\nchs; \"ISO8859-1\"\nver; \"1.4\"\nifv; \"1.4\"\ndve; \"1.4\"\nfft; \"\"\ntbl; BASIS_VER_GUELTIGKEIT\natr; VER_GUELTIGKEIT; BASIS_VERSION\nfrm; num[10.0]; num[10.0]\nrec; 20260101; 1\nend; 1\ntbl; FIRMENKALENDER\natr; BASIS_VERSION; BETRIEBSTAG; TAGESART_NR\nfrm; num[10.0]; num[10.0]; num[10.0]\nrec; 1; 20260302; 1\nend; 1\ntbl; REC_ORT\natr; BASIS_VERSION; ONR_TYP_NR; ORT_NR\nfrm; num[10.0]; num[10.0]; num[10.0]\nrec; 1; 1; 1\nrec; 1; 1; 2\nrec; 1; 2; 9\nend; 3\ntbl; REC_SEL\natr; BASIS_VERSION; BEREICH_NR; ONR_TYP_NR; ORT_NR; SEL_ZIEL; SEL_ZIEL_TYP; SEL_LAENGE\nfrm; num[10.0]; num[10.0]; num[10.0]; num[10.0]; num[10.0]; num[10.0]; num[10.0]\nrec; 1; 1; 1; 1; 2; 1; 60000\nrec; 1; 1; 1; 2; 1; 1; 60000\nend; 2\ntbl; SEL_FZT_FELD\natr; BASIS_VERSION; BEREICH_NR; FGR_NR; ONR_TYP_NR; ORT_NR; SEL_ZIEL; SEL_ZIEL_TYP; SEL_FZT\nfrm; num[10.0]; num[10.0]; num[10.0]; num[10.0]; num[10.0]; num[10.0]; num[10.0]; num[10.0]\nrec; 1; 1; 1; 1; 1; 2; 1; 3600\nrec; 1; 1; 1; 1; 2; 1; 1; 3600\nend; 2\ntbl; REC_LID\natr; BASIS_VERSION; LI_NR; STR_LI_VAR; BEREICH_NR\nfrm; num[10.0]; num[10.0]; char[6]; num[10.0]\nrec; 1; 1; \"H\"; 1\nrec; 1; 1; \"R\"; 1\nend; 2\ntbl; LID_VERLAUF\natr; BASIS_VERSION; LI_LFD_NR; LI_NR; STR_LI_VAR; ONR_TYP_NR; ORT_NR\nfrm; num[10.0]; num[10.0]; num[10.0]; char[6]; num[10.0]; num[10.0]\nrec; 1; 1; 1; \"H\"; 1; 1\nrec; 1; 2; 1; \"H\"; 1; 2\nrec; 1; 1; 1; \"R\"; 1; 2\nrec; 1; 2; 1; \"R\"; 1; 1\nend; 4\ntbl; REC_FRT\natr; BASIS_VERSION; FRT_FID; FRT_START; LI_NR; TAGESART_NR; FAHRTART_NR; FGR_NR; STR_LI_VAR; UM_UID\nfrm; num[10.0]; num[10.0]; num[10.0]; num[10.0]; num[10.0]; num[10.0]; num[10.0]; char[6]; num[10.0]\nrec; 1; 1; 28800; 1; 1; 1; 1; \"H\"; NULL\nrec; 1; 2; 33000; 1; 1; 1; 1; \"R\"; NULL\nend; 2\ntbl; UEB_FZT\natr; BASIS_VERSION; BEREICH_NR; FGR_NR; ONR_TYP_NR; ORT_NR; UEB_ZIEL_TYP; UEB_ZIEL; UEB_FAHRZEIT\nfrm; num[10.0]; num[10.0]; num[10.0]; num[10.0]; num[10.0]; num[10.0]; num[10.0]; num[10.0]\nrec; 1; 1; 1; 2; 9; 1; 1; 600\nrec; 1; 1; 1; 1; 1; 2; 9; 600\nrec; 1; 1; 1; 2; 9; 1; 2; 900\nrec; 1; 1; 1; 1; 2; 2; 9; 900\nend; 4\ntbl; MENGE_FZG_TYP\natr; BASIS_VERSION; FZG_TYP_NR\nfrm; num[10.0]; num[10.0]\nrec; 1; 1\nend; 1\ntbl; X_PLAN\natr; UEB_BEREICH_NR; UEB_FGR_NR; WENDE_SEK; MAX_WARTE_SEK; UEBERGABE_SEK\nfrm; num[10.0]; num[10.0]; num[10.0]; num[10.0]; num[10.0]\nrec; 1; 1; 300; 7200; 300\nend; 1\ntbl; X_HOF\natr; HOF_NR; ONR_TYP_NR; ORT_NR; FZG_TYP_NR; ANZAHL; FIX_KOSTEN; LEER_SATZ; STAND_SATZ\nfrm; num[10.0]; num[10.0]; num[10.0]; num[10.0]; num[10.0]; num[10.0]; num[10.0]; num[10.0]\nrec; 1; 2; 9; 1; 2; 1000; 1; 0\nend; 1\ntbl; X_ABLOESE\natr; ONR_TYP_NR; ORT_NR\nfrm; num[10.0]; num[10.0]\nrec; 1; 2\nend; 1\ntbl; X_WEG\natr; ONR_TYP_NR; ORT_NR; ZIEL_TYP; ZIEL_NR; WEG_SEK\nfrm; num[10.0]; num[10.0]; num[10.0]; num[10.0]; num[10.0]\nrec; 1; 2; 2; 9; 1200\nrec; 2; 9; 1; 2; 1200\nend; 2\ntbl; X_FAHRER\natr; GRUPPE_NR; ONR_TYP_NR; ORT_NR; ANZAHL; FIX_KOSTEN; SATZ; ANMELDE_SEK; ABMELDE_SEK\nfrm; num[10.0]; num[10.0]; num[10.0]; num[10.0]; num[10.0]; num[10.0]; num[10.0]; num[10.0]\nrec; 1; 2; 9; 2; 500; 1; 600; 300\nend; 1\neof; 15\n";
 
 /// A part of the text, and what stands in its place.
-type Change = (&'static str, &'static str);
+pub(crate) type Change = (&'static str, &'static str);
 
-const NO_CHANGE: &[Change] = &[];
+pub(crate) const NO_CHANGE: &[Change] = &[];
 
-const SECOND: &str = "rec; 1; 2; 33000; 1; 1; 1; 1; \"R\"; NULL";
+pub(crate) const SECOND: &str = "rec; 1; 2; 33000; 1; 1; 1; 1; \"R\"; NULL";
 
 const ONE_VEHICLE: Change = (
     "rec; 1; 2; 9; 1; 2; 1000; 1; 0",
@@ -26,7 +26,7 @@ const ONE_VEHICLE: Change = (
 );
 
 /// The turn is one second short, and the way by the depot too long.
-const TOO_SOON: &[Change] = &[(SECOND, "rec; 1; 2; 32699; 1; 1; 1; 1; \"R\"; NULL")];
+pub(crate) const TOO_SOON: &[Change] = &[(SECOND, "rec; 1; 2; 32699; 1; 1; 1; 1; \"R\"; NULL")];
 
 /// The stand is longer than the greatest wait.
 const LATE: &[Change] = &[(SECOND, "rec; 1; 2; 40000; 1; 1; 1; 1; \"R\"; NULL")];
@@ -35,15 +35,15 @@ const LATE: &[Change] = &[(SECOND, "rec; 1; 2; 40000; 1; 1; 1; 1; \"R\"; NULL")]
 const IN_TIME: &[Change] = &[(SECOND, "rec; 1; 2; 32700; 1; 1; 1; 1; \"R\"; NULL")];
 
 /// Both trips run from A to B at one time.
-const TOGETHER: &[Change] = &[(SECOND, "rec; 1; 2; 28800; 1; 1; 1; 1; \"H\"; NULL")];
+pub(crate) const TOGETHER: &[Change] = &[(SECOND, "rec; 1; 2; 28800; 1; 1; 1; 1; \"H\"; NULL")];
 
 /// Both trips run from A to B at one time, and there is one vehicle.
-const ONE_FOR_BOTH: &[Change] = &[
+pub(crate) const ONE_FOR_BOTH: &[Change] = &[
     (SECOND, "rec; 1; 2; 28800; 1; 1; 1; 1; \"H\"; NULL"),
     ONE_VEHICLE,
 ];
 
-const GROUP: &str = "rec; 1; 2; 9; 2; 500; 1; 600; 300";
+pub(crate) const GROUP: &str = "rec; 1; 2; 9; 2; 500; 1; 600; 300";
 
 /// There are no drivers.
 const NO_DRIVERS: &[Change] = &[(GROUP, "rec; 1; 2; 9; 0; 500; 1; 600; 300")];
@@ -193,11 +193,11 @@ const NO_NUMBER: &[Change] = &[(VERSION, "rec; 20260101; 1x\n")];
 const DAY_WRITTEN: &str =
     "tbl; X_TAG\natr; BETRIEBSTAG; WOCHENTAG; BASIS_VERSION; TAGESART_NR; FAHRTEN\nfrm; num[19.0]; num[19.0]; num[19.0]; num[19.0]; num[19.0]\nrec; 20260302; 1; 1; 1; 2\nend; 1\ntbl; X_FAHRT\natr; FRT_FID; LI_NR; VON_TYP; VON_NR; BEGINN; NACH_TYP; NACH_NR; ENDE; LAENGE\nfrm; num[19.0]; num[19.0]; num[19.0]; num[19.0]; num[19.0]; num[19.0]; num[19.0]; num[19.0]; num[19.0]\nrec; 1; 1; 1; 1; 28800; 1; 2; 32400; 60000\nrec; 2; 1; 1; 2; 33000; 1; 1; 36600; 60000\nend; 2\neof; 2\n";
 
-const PLAN_WRITTEN: &str =
+pub(crate) const PLAN_WRITTEN: &str =
     "tbl; REC_UMLAUF\natr; BASIS_VERSION; TAGESART_NR; UM_UID; ANF_ORT; ANF_ONR_TYP; END_ORT; END_ONR_TYP; FZG_TYP_NR\nfrm; num[19.0]; num[19.0]; num[19.0]; num[19.0]; num[19.0]; num[19.0]; num[19.0]; num[19.0]\nrec; 1; 1; 1; 9; 2; 9; 2; 1\nend; 1\ntbl; REC_FRT\natr; BASIS_VERSION; FRT_FID; FRT_START; LI_NR; TAGESART_NR; FAHRTART_NR; FGR_NR; STR_LI_VAR; UM_UID\nfrm; num[10.0]; num[10.0]; num[10.0]; num[10.0]; num[10.0]; num[10.0]; num[10.0]; char[6]; num[10.0]\nrec; 1; 1; 28800; 1; 1; 1; 1; \"H\"; 1\nrec; 1; 2; 33000; 1; 1; 1; 1; \"R\"; 1\nend; 2\ntbl; X_UMLAUF\natr; UM_UID; HOF_NR; KOSTEN\nfrm; num[19.0]; num[19.0]; num[19.0]\nrec; 1; 1; 2200\nend; 1\ntbl; X_UMLAUF_TEIL\natr; UM_UID; TEIL_NR; ART; FRT_FID; VON_TYP; VON_NR; BEGINN; NACH_TYP; NACH_NR; ENDE\nfrm; num[19.0]; num[19.0]; num[19.0]; num[19.0]; num[19.0]; num[19.0]; num[19.0]; num[19.0]; num[19.0]; num[19.0]\nrec; 1; 1; 1; NULL; 2; 9; 28200; 1; 1; 28800\nrec; 1; 2; 2; 1; 1; 1; 28800; 1; 2; 32400\nrec; 1; 3; 4; NULL; 1; 2; 32400; 1; 2; 33000\nrec; 1; 4; 2; 2; 1; 2; 33000; 1; 1; 36600\nrec; 1; 5; 5; NULL; 1; 1; 36600; 2; 9; 37200\nend; 5\ntbl; X_DIENST\natr; DIENST_NR; GRUPPE_NR; BEGINN; ENDE; LENKZEIT; KOSTEN\nfrm; num[19.0]; num[19.0]; num[19.0]; num[19.0]; num[19.0]; num[19.0]\nrec; 1; 1; 27600; 37500; 8400; 10400\nend; 1\ntbl; X_DIENST_STUECK\natr; DIENST_NR; LFD_NR; UM_UID; STUECK_NR; VON_TYP; VON_NR; BEGINN; NACH_TYP; NACH_NR; ENDE; LENKZEIT\nfrm; num[19.0]; num[19.0]; num[19.0]; num[19.0]; num[19.0]; num[19.0]; num[19.0]; num[19.0]; num[19.0]; num[19.0]; num[19.0]\nrec; 1; 1; 1; 1; 2; 9; 28200; 1; 2; 32400; 4200\nrec; 1; 2; 1; 2; 1; 2; 33000; 2; 9; 37200; 4200\nend; 2\ntbl; X_SCHRANKE\natr; ART; WERT; SCHRANKE\nfrm; num[19.0]; num[19.0]; num[19.0]\nrec; 1; 1; 1\nrec; 2; 2200; 2200\nrec; 3; 1; 1\nrec; 4; 10400; 10400\nend; 4\neof; 7\n";
 
 /// The text with the first place of a part changed.
-fn changed(alloc: Global, text: Bytes, change: Change) -> Result<Bytes, Fail> {
+pub(crate) fn changed(alloc: Global, text: Bytes, change: Change) -> Result<Bytes, Fail> {
     let (old, new) = change;
     let bytes = text.as_slice();
     let Some(place) = bytes
@@ -213,7 +213,7 @@ fn changed(alloc: Global, text: Bytes, change: Change) -> Result<Bytes, Fail> {
     Ok(Bytes::from_vec(made))
 }
 
-fn demo(alloc: Global, changes: &[Change]) -> Result<Bytes, Fail> {
+pub(crate) fn demo(alloc: Global, changes: &[Change]) -> Result<Bytes, Fail> {
     let mut text = joined(alloc, &[DEMO], b"\n")?;
     for change in changes {
         text = changed(alloc, text, *change)?;
@@ -309,7 +309,11 @@ fn any_number_of_workers_writes_one_text(rt: HostRuntime) -> Result<(), Fail> {
 }
 
 /// The text that the words write, and nothing on standard error.
-fn written<R: Threads + Sync>(rt: &R, alloc: Global, words: &[&str]) -> Result<Bytes, Fail> {
+pub(crate) fn written<R: Threads + Sync>(
+    rt: &R,
+    alloc: Global,
+    words: &[&str],
+) -> Result<Bytes, Fail> {
     let mut out = sink(alloc, 10_000, &[])?;
     let mut err = sink(alloc, 10_000, &[])?;
     let status = answer(rt, alloc, words, NO_CHANGE, &mut out, &mut err)?;

@@ -2,6 +2,7 @@
 
 ghost use Rattle.std.specs.Prelude.{◌≡◌};
 
+use cert_check::Reason;
 use cover_core::Plan;
 use day_calendar::DayFault;
 use day_method::Side;
@@ -82,6 +83,8 @@ pub enum Status {
     WriteFault,
     /// Memory ran out.
     Memory,
+    /// A plan and its certificate were checked, and this is the first reason against them. The line that says so was written whole.
+    CheckNo(Reason),
 }
 
 impl From<Memory> for Status {
@@ -96,8 +99,17 @@ impl From<Memory> for Status {
 
 impl Status {
     ghost use Rattle.planner_cli.specs.Codes.{code_of};
+    ghost use Rattle.planner_cli.specs.Endings.{is_done as is_done_by};
 
-    /// The status number with which the program ends: 0 Ok, 2 Usage, 3 Input, 4 Day, 5 NoPlan, 6 NotPlaced, 7 ReadFault, 8 WriteFault, 9 Memory.
+    /// Whether the text of the command was written whole: it ends with Ok, or with a no of the checker.
+    pub fn is_done(&self) -> bool
+        ensures { result ≡ is_done_by self.now }
+    {
+        matches!(self, Status::Ok | Status::CheckNo(_))
+    }
+
+    /// The status number with which the program ends: 0 Ok, 2 Usage, 3 Input, 4 Day, 5 NoPlan, 6 NotPlaced, 7 ReadFault, 8 WriteFault, 9 Memory,
+    /// 10 CheckNo.
     pub fn code(&self) -> u8
         ensures { result ≡ code_of self.now }
     {
@@ -111,6 +123,7 @@ impl Status {
             Status::ReadFault { .. } => 7,
             Status::WriteFault => 8,
             Status::Memory => 9,
+            Status::CheckNo(_) => 10,
         }
     }
 }

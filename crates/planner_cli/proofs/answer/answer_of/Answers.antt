@@ -1,46 +1,62 @@
-use Rattle.std.proofs.Common.{◌≡◌, Err, MatchResult, ap, refl}
-use Rattle.planner_cli.proofs.FileLemmas.{err_same}
-use Rattle.planner_cli.specs.Inputs.{IsUnread, SpellTables, held_under, most_bytes}
-use Rattle.planner_cli.specs.Run.{IsAnswer}
+use Rattle.std.proofs.Common.{◌≡◌, Err, MatchResult, List, ap, refl, subst}
+use Rattle.vdv451_text.specs.declared.table.Table.{Table}
+use Rattle.input_files.specs.declared.stage.Stage.{Stage}
+use Rattle.input_files.specs.Inputs.{SpellTables, held_under}
+use Rattle.input_files.proofs.FileLemmas.{err_same}
+use Rattle.input_files.proofs.InputLemmas.{if_told, of_told}
+use Rattle.planner_cli.specs.Run.{IsAnswer, IsUnread, stage_of}
+use Rattle.input_files.specs.Inputs.{IsUnread as IsUnreadFile}
 use Rattle.planner_cli.specs.Tasks.{task_of}
-use Rattle.planner_cli.proofs.InputLemmas.{if_told, of_told}
-use Rattle.planner_cli.proofs.AnswerLemmas.{read_cause, read_complete, read_refused, read_written, unread_answer, unread_refused}
+use Rattle.planner_cli.proofs.AnswerLemmas.{read_cause, read_complete, read_refused, read_written, still_status, unread_answer, unread_refused, unread_status}
+use Rattle.planner_cli.proofs.CheckLemmas.{ends_well}
 use Rattle.planner_cli.proofs.answer.answer_of.Goals as goal
 
 pub returns-in-Ok-clause-written : goal.returns-in-Ok-clause-written
-returns-in-Ok-clause-written g c = read_written (task_of c.args.request.now) (g.F.Files.held c.args.files.now) c.args.names.now c.in-Ok.tables.items c.args.request.now.day c.text_of.result c.in-Ok.ensures.found (rw (← c.as_slice.ensures.value) c.text_of.ensures.written)
+returns-in-Ok-clause-written g c =
+    read_written (task_of c.args.request.now) (g.F.Files.held c.args.files.now) c.args.names.now c.in-Ok.parts c.args.request.now.day c.outcome_of.result
+    (rw c.requires.stage at c.in-Ok.ensures.found) c.outcome_of.ensures.written
+
+pub returns-in-Ok-clause-ending : goal.returns-in-Ok-clause-ending
+returns-in-Ok-clause-ending g c = ends_well (task_of c.args.request.now) c.in-Ok.parts c.args.request.now.day c.outcome_of.result c.outcome_of.ensures.written
 
 pub returns-in-Ok-clause-cause : goal.returns-in-Ok-clause-cause
-returns-in-Ok-clause-cause g c = read_cause (task_of c.args.request.now) (g.F.Files.held c.args.files.now) c.args.names.now c.in-Ok.tables.items c.args.request.now.day _ c.text_of.result c.in-Ok.ensures.found (rw (← c.as_slice.ensures.value) c.text_of.ensures.cause)
+returns-in-Ok-clause-cause g c =
+    read_cause (task_of c.args.request.now) (g.F.Files.held c.args.files.now) c.args.names.now c.in-Ok.parts c.args.request.now.day _ c.outcome_of.result
+    (rw c.requires.stage at c.in-Ok.ensures.found) c.outcome_of.ensures.cause
 
 pub returns-in-Ok-clause-refused : goal.returns-in-Ok-clause-refused
 returns-in-Ok-clause-refused g c = λ status settled.
-    read_refused (task_of c.args.request.now) (g.F.Files.held c.args.files.now) c.args.names.now c.in-Ok.tables.items c.args.request.now.day c.text_of.result status settled c.in-Ok.ensures.only c.in-Ok.ensures.exact
-    (rw (← c.as_slice.ensures.value) c.text_of.ensures.written) (rw (← c.as_slice.ensures.value) c.text_of.ensures.cause)
+    read_refused (task_of c.args.request.now) (g.F.Files.held c.args.files.now) c.args.names.now c.in-Ok.parts c.args.request.now.day c.outcome_of.result status settled
+    (rw c.requires.stage at c.in-Ok.ensures.only) (rw c.requires.stage at c.in-Ok.ensures.exact) c.outcome_of.ensures.written c.outcome_of.ensures.cause
 
 pub returns-in-Ok-clause-complete : goal.returns-in-Ok-clause-complete
-returns-in-Ok-clause-complete g c = λ bytes fixed.
+returns-in-Ok-clause-complete g c = λ end bytes fixed.
     let told = held_under (g.F.Files.held c.args.files.now) c.args.names.now in
-    if_told told (λ contents. IsAnswer (task_of c.args.request.now) contents c.args.request.now.day bytes → MatchResult c.text_of.result (λ x. Unit {0}) IsUnread) (λ contents e answer.
-    read_complete (task_of c.args.request.now) fixed contents c.in-Ok.tables.items c.args.request.now.day c.text_of.result bytes
-    (λ others. of_told told (λ contents. SpellTables most_bytes contents others → c.in-Ok.tables.items ≡ others) contents e (c.in-Ok.ensures.only others))
-    (rw (← c.as_slice.ensures.value) c.text_of.ensures.cause) answer)
+    let task = task_of c.args.request.now in
+    if_told told (λ contents. IsAnswer task contents c.args.request.now.day end bytes → MatchResult c.outcome_of.result (λ x. Unit {0}) IsUnread) (λ contents e answer.
+    read_complete task fixed contents c.in-Ok.parts c.args.request.now.day c.outcome_of.result end bytes
+    (λ others. of_told told (λ contents. SpellTables (stage_of task) contents others → c.in-Ok.parts ≡ others) contents e ((rw c.requires.stage at c.in-Ok.ensures.only) others))
+    c.outcome_of.ensures.cause answer)
 
 pub returns-in-Err-clause-cause : goal.returns-in-Err-clause-cause
-returns-in-Err-clause-cause g c = unread_answer (task_of c.args.request.now) (g.F.Files.held c.args.files.now) c.args.names.now c.args.request.now.day _ c.in-Err.status c.in-Err.ensures.cause
+returns-in-Err-clause-cause g c =
+    rw c.file_status.ensures (unread_answer (task_of c.args.request.now) (g.F.Files.held c.args.files.now) c.args.names.now c.args.request.now.day _ c.in-Err.fault (rw c.requires.stage at c.in-Err.ensures.cause))
 
 pub returns-in-Err-clause-refused : goal.returns-in-Err-clause-refused
 returns-in-Err-clause-refused g c = λ status settled.
-    unread_refused (task_of c.args.request.now) (g.F.Files.held c.args.files.now) c.args.names.now c.args.request.now.day c.in-Err.status status c.in-Err.ensures.only c.in-Err.ensures.exact
+    rw c.file_status.ensures (unread_refused (task_of c.args.request.now) (g.F.Files.held c.args.files.now) c.args.names.now c.args.request.now.day c.in-Err.fault status
+    (rw c.requires.stage at c.in-Err.ensures.only) (rw c.requires.stage at c.in-Err.ensures.exact))
 
 pub returns-in-Err-clause-complete : goal.returns-in-Err-clause-complete
-returns-in-Err-clause-complete g c = λ bytes fixed.
+returns-in-Err-clause-complete g c = λ end bytes fixed.
     let told = held_under (g.F.Files.held c.args.files.now) c.args.names.now in
-    if_told told (λ contents. IsAnswer (task_of c.args.request.now) contents c.args.request.now.day bytes → IsUnread c.in-Err.status) (λ contents e answer.
-    of_told told (λ contents. SpellTables most_bytes contents answer.tables → IsUnread c.in-Err.status) contents e (c.in-Err.ensures.only answer.tables) answer.spelled)
+    let task = task_of c.args.request.now in
+    if_told told (λ contents. IsAnswer task contents c.args.request.now.day end bytes → IsUnread c.file_status.result) (λ contents e answer.
+    rw c.file_status.ensures (unread_status c.in-Err.fault
+    (of_told told (λ contents. SpellTables (stage_of task) contents answer.parts → IsUnreadFile c.in-Err.fault) contents e ((rw c.requires.stage at c.in-Err.ensures.only) answer.parts) answer.spelled)))
 
 pub returns-in-Ok-clause-still : goal.returns-in-Ok-clause-still
 returns-in-Ok-clause-still g c = λ none other. c.in-Ok.ensures.still (λ file bad. cc) other
 
 pub returns-in-Err-clause-still : goal.returns-in-Err-clause-still
-returns-in-Err-clause-still g c = λ none other. c.in-Err.ensures.still (λ file bad. none file (ap (λ s. Err s) (err_same _ _ _ refl bad))) other
+returns-in-Err-clause-still g c = λ none other. c.in-Err.ensures.still (λ file bad. none file (ap (λ s. Err s) (still_status c.in-Err.fault file (err_same _ _ _ refl bad) c.file_status.result c.file_status.ensures))) other

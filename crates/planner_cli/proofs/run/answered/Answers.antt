@@ -1,5 +1,5 @@
 use Rattle.std.proofs.Common.{◌≡◌}
-use Rattle.planner_cli.proofs.RequestLemmas.{one_request}
+use Rattle.planner_cli.proofs.Outcomes.{some_same}
 use Rattle.planner_cli.proofs.run.answered.Goals as goal
 
 pub returns-in-Ok-clause-input : goal.returns-in-Ok-clause-input
@@ -16,15 +16,15 @@ returns-in-Ok-clause-left g c = λ side item name partial is. rw c.in-Ok.ensures
 
 pub returns-in-Ok-clause-refused : goal.returns-in-Ok-clause-refused
 returns-in-Ok-clause-refused g c = λ status request asks.
-    let same : c.in-Ok.request ≡ request = one_request c.in-Ok.request request c.in-Ok.ensures.request asks in
+    let same : c.in-Ok.request ≡ request = some_same _ c.in-Ok.request request c.in-Ok.ensures.request asks in
     rw (← same) (c.carry_out.ensures.refused status)
 
 pub returns-in-Ok-clause-complete : goal.returns-in-Ok-clause-complete
 returns-in-Ok-clause-complete g c = λ request asks.
-    let same : c.in-Ok.request ≡ request = one_request c.in-Ok.request request c.in-Ok.ensures.request asks in
+    let same : c.in-Ok.request ≡ request = some_same _ c.in-Ok.request request c.in-Ok.ensures.request asks in
     rw (← same) c.carry_out.ensures.complete
 
 pub returns-in-Ok-clause-only : goal.returns-in-Ok-clause-only
-returns-in-Ok-clause-only g c = λ request bytes ok asks.
-    let same : c.in-Ok.request ≡ request = one_request c.in-Ok.request request c.in-Ok.ensures.request asks in
-    rw (← same) (c.carry_out.ensures.only bytes ok)
+returns-in-Ok-clause-only g c = λ request end bytes ok asks.
+    let same : c.in-Ok.request ≡ request = some_same _ c.in-Ok.request request c.in-Ok.ensures.request asks in
+    rw (← same) (c.carry_out.ensures.only end bytes ok)

@@ -1,0 +1,445 @@
+//! Words, and what they ask for.
+
+use crate::{Command, Request, WordsFault, day_word, read_words};
+use plan_core::{Bytes, Seq};
+use price_rounds::Effort;
+use std::alloc::Global;
+use std::test::Fail;
+
+/// The bytes of a text, where a star stands for 300 zeros.
+fn spelled(alloc: Global, text: &str) -> Result<Vec<u8>, Fail> {
+    let mut bytes = Vec::new(alloc);
+    for byte in text.as_bytes() {
+        if *byte == b'*' {
+            bytes.extend_from_slice(&[b'0'; 300])?;
+        } else {
+            bytes.push(*byte)?;
+        }
+    }
+    Ok(bytes)
+}
+
+/// The words of a line, with a comma between each two of them.
+fn listed(alloc: Global, line: &str) -> Result<Vec<Bytes>, Fail> {
+    let mut words = Vec::new(alloc);
+    for word in line.split(',') {
+        words.push(Bytes::from_vec(spelled(alloc, word)?))?;
+    }
+    Ok(words)
+}
+
+fn add_number(text: &mut Vec<u8>, alloc: Global, mark: &str, number: u32) -> Result<(), Fail> {
+    text.extend_from_slice(mark.as_bytes())?;
+    text.extend_from_slice(number.to_string(alloc)?.as_bytes())?;
+    Ok(())
+}
+
+/// The command, and what is made.
+fn add_command(text: &mut Vec<u8>, alloc: Global, command: Command) -> Result<(), Fail> {
+    let name: &[u8] = match command {
+        Command::Trips => b"trips",
+        Command::Day => b"day",
+        Command::Plan => b"plan",
+        Command::Certify => b"certify",
+        Command::Check => b"check",
+        Command::Week => b"week",
+        Command::Make(_) => b"make",
+    };
+    text.extend_from_slice(name)?;
+    if let Command::Make(making) = command {
+        add_number(text, alloc, " ", making.seed)?;
+        add_number(text, alloc, " trips ", making.trips)?;
+        if making.run {
+            text.extend_from_slice(b" run")?;
+        }
+    }
+    Ok(())
+}
+
+/// The workers, and behind them the rounds, the lowering rounds and the exchange steps; and the flag.
+fn add_effort(text: &mut Vec<u8>, alloc: Global, effort: Effort) -> Result<(), Fail> {
+    add_number(text, alloc, " ", effort.workers)?;
+    add_number(text, alloc, "/", effort.rounds)?;
+    add_number(text, alloc, "/", effort.lower)?;
+    add_number(text, alloc, "/", effort.exchange)?;
+    if effort.climb {
+        text.extend_from_slice(b" climb")?;
+    }
+    Ok(())
+}
+
+fn add_names(text: &mut Vec<u8>, names: &Seq<Bytes>) -> Result<(), Fail> {
+    let mut mark: &[u8] = b": ";
+    for name in names.as_slice() {
+        text.extend_from_slice(mark)?;
+        text.extend_from_slice(name.as_slice())?;
+        mark = b",";
+    }
+    Ok(())
+}
+
+/// A request in one line: its command, its effort, its day and the names that it has.
+fn told(alloc: Global, request: &Request) -> Result<Vec<u8>, Fail> {
+    let mut text = Vec::new(alloc);
+    add_command(&mut text, alloc, request.command)?;
+    add_effort(&mut text, alloc, request.effort)?;
+    add_number(&mut text, alloc, " on ", request.day)?;
+    add_names(&mut text, &request.names)?;
+    Ok(text)
+}
+
+/// What words ask for, in one line.
+fn answer(alloc: Global, words: &[Bytes]) -> Result<Vec<u8>, Fail> {
+    match read_words(alloc, words) {
+        Ok(request) => told(alloc, &request),
+        Err(WordsFault::Usage) => Ok(USAGE.as_bytes().to_vec(alloc)?),
+        Err(WordsFault::Memory) => Err("memory".into()),
+    }
+}
+
+fn is_answered(alloc: Global, line: &str, want: &str) -> Result<bool, Fail> {
+    let words = listed(alloc, line)?;
+    let text = answer(alloc, words.as_slice())?;
+    Ok(text == spelled(alloc, want)?)
+}
+
+const USAGE: &str = "usage";
+
+#[test]
+fn a_command_has_its_plain_words(rt: HostRuntime) -> Result<(), Fail> {
+    let alloc = rt.alloc();
+    let rows: [(&str, &str); 38] = [
+        ("trips,20260302,f", "trips 1/40/20/20 on 20260302: f"),
+        ("trips,00000000,-", "trips 1/40/20/20 on 0: -"),
+        ("trips,20260302", USAGE),
+        ("trips", USAGE),
+        ("trips,2026030,f", USAGE),
+        ("trips,020260302,f", USAGE),
+        ("trips,2026030a,f", USAGE),
+        ("trips,f,20260302", USAGE),
+        ("trips,,f", USAGE),
+        ("trips,20260302,", USAGE),
+        ("trips,20260302,f,,g", USAGE),
+        ("trips,20260302,-f", USAGE),
+        ("day,20260302,f,g,f", "day 1/40/20/20 on 20260302: f,g,f"),
+        ("day,20260302", USAGE),
+        ("plan,20260302,g,f", "plan 1/40/20/20 on 20260302: g,f"),
+        ("plan,20260302,g,", USAGE),
+        (
+            "certify,20260302,g,f",
+            "certify 1/40/20/20 on 20260302: g,f",
+        ),
+        ("certify,20260302", USAGE),
+        ("certify,20260302,", USAGE),
+        ("make,7", "make 7 trips 240 1/40/20/20 on 20260302"),
+        ("make,000000007", "make 7 trips 240 1/40/20/20 on 20260302"),
+        (
+            "make,999999999",
+            "make 999999999 trips 240 1/40/20/20 on 20260302",
+        ),
+        ("make,0000000007", USAGE),
+        ("make", USAGE),
+        ("make,", USAGE),
+        ("make,+7", USAGE),
+        ("make,-7", USAGE),
+        ("make,7,8", USAGE),
+        ("make,7,--,8", USAGE),
+        ("week,r", "week 1/40/20/20 on 0: r"),
+        ("week", USAGE),
+        ("week,", USAGE),
+        ("week,r,r", USAGE),
+        ("", USAGE),
+        ("Plan,20260302,f", USAGE),
+        ("plans,20260302,f", USAGE),
+        ("--,plan,20260302,f", USAGE),
+        ("--help", USAGE),
+    ];
+    for (line, want) in rows {
+        assert!(rt; is_answered(alloc, line, want)?, "{line}");
+    }
+    assert!(rt; answer(alloc, &[])?.as_slice() == USAGE.as_bytes());
+    Ok(())
+}
+
+#[test]
+fn a_check_has_a_plan_and_a_certificate(rt: HostRuntime) -> Result<(), Fail> {
+    let alloc = rt.alloc();
+    let rows: [(&str, &str); 21] = [
+        (
+            "check,20260302,p,c,f",
+            "check 1/40/20/20 on 20260302: f,p,c",
+        ),
+        (
+            "check,20260302,p,c,g,f,g",
+            "check 1/40/20/20 on 20260302: g,f,g,p,c",
+        ),
+        (
+            "check,20260302,p,p,p",
+            "check 1/40/20/20 on 20260302: p,p,p",
+        ),
+        ("check,20260302,p,c", USAGE),
+        ("check,20260302,p", USAGE),
+        ("check,20260302", USAGE),
+        ("check", USAGE),
+        ("check,2026030,p,c,f", USAGE),
+        ("check,p,c,f,20260302", USAGE),
+        ("check,20260302,,c,f", USAGE),
+        ("check,20260302,p,,f", USAGE),
+        ("check,20260302,p,c,", USAGE),
+        ("check,20260302,p,c,f,,g", USAGE),
+        ("check,--workers=1,20260302,p,c,f", USAGE),
+        ("check,20260302,p,--rounds,5,c,f", USAGE),
+        ("check,20260302,p,c,f,--climb", USAGE),
+        ("check,20260302,p,c,f,--trips=5", USAGE),
+        ("check,20260302,p,c,f,--run", USAGE),
+        (
+            "check,20260302,p,--,c,f",
+            "check 1/40/20/20 on 20260302: f,p,c",
+        ),
+        (
+            "check,--,20260302,--run,--,-",
+            "check 1/40/20/20 on 20260302: -,--run,--",
+        ),
+        ("check,20260302,p,c,--", USAGE),
+    ];
+    for (line, want) in rows {
+        assert!(rt; is_answered(alloc, line, want)?, "{line}");
+    }
+    Ok(())
+}
+
+#[test]
+fn an_option_has_a_range(rt: HostRuntime) -> Result<(), Fail> {
+    let alloc = rt.alloc();
+    let rows: [(&str, &str); 39] = [
+        (
+            "plan,20260302,f,--workers,1",
+            "plan 1/40/20/20 on 20260302: f",
+        ),
+        (
+            "plan,20260302,f,--workers,64",
+            "plan 64/40/20/20 on 20260302: f",
+        ),
+        ("plan,20260302,f,--workers,0", USAGE),
+        ("plan,20260302,f,--workers,65", USAGE),
+        (
+            "plan,20260302,f,--rounds=1",
+            "plan 1/1/20/20 on 20260302: f",
+        ),
+        (
+            "plan,20260302,f,--rounds=200",
+            "plan 1/200/20/20 on 20260302: f",
+        ),
+        ("plan,20260302,f,--rounds=0", USAGE),
+        ("plan,20260302,f,--rounds=201", USAGE),
+        (
+            "certify,20260302,f,--lower=1",
+            "certify 1/40/1/20 on 20260302: f",
+        ),
+        (
+            "certify,20260302,f,--lower=50",
+            "certify 1/40/50/20 on 20260302: f",
+        ),
+        ("certify,20260302,f,--lower=0", USAGE),
+        ("certify,20260302,f,--lower=51", USAGE),
+        (
+            "certify,20260302,f,--exchange,0",
+            "certify 1/40/20/0 on 20260302: f",
+        ),
+        (
+            "certify,20260302,f,--exchange,1000",
+            "certify 1/40/20/1000 on 20260302: f",
+        ),
+        ("certify,20260302,f,--exchange,1001", USAGE),
+        ("make,7,--trips,1", "make 7 trips 1 1/40/20/20 on 20260302"),
+        (
+            "make,7,--trips=3000",
+            "make 7 trips 3000 1/40/20/20 on 20260302",
+        ),
+        ("make,7,--trips,0", USAGE),
+        ("make,7,--trips=3001", USAGE),
+        ("make,7,--workers,65", USAGE),
+        (
+            "plan,20260302,f,--workers,0064",
+            "plan 64/40/20/20 on 20260302: f",
+        ),
+        ("plan,20260302,f,--workers,00064", USAGE),
+        ("plan,20260302,f,--workers,", USAGE),
+        ("plan,20260302,f,--workers", USAGE),
+        ("plan,20260302,f,--workers=", USAGE),
+        ("plan,20260302,f,--workers,+1", USAGE),
+        ("plan,20260302,f,--workers,-1", USAGE),
+        ("plan,20260302,f,--workers=1=1", USAGE),
+        ("plan,20260302,f,--workers,a", USAGE),
+        ("plan,20260302,f,--worker,1", USAGE),
+        ("plan,20260302,f,--flow=1", USAGE),
+        ("plan,20260302,f,-r,5", USAGE),
+        ("plan,20260302,f,--=5", USAGE),
+        ("plan,20260302,f,--climb=1", USAGE),
+        ("plan,20260302,f,--climb=", USAGE),
+        ("make,7,--run=", USAGE),
+        ("make,7,--run=1", USAGE),
+        ("make,7,--run,1", USAGE),
+        (
+            "make,7,--run",
+            "make 7 trips 240 run 1/40/20/20 on 20260302",
+        ),
+    ];
+    for (line, want) in rows {
+        assert!(rt; is_answered(alloc, line, want)?, "{line}");
+    }
+    Ok(())
+}
+
+#[test]
+fn an_option_stands_once_and_in_any_place(rt: HostRuntime) -> Result<(), Fail> {
+    let alloc = rt.alloc();
+    let rows: [(&str, &str); 30] = [
+        (
+            "plan,--rounds,5,20260302,f",
+            "plan 1/5/20/20 on 20260302: f",
+        ),
+        (
+            "plan,20260302,--rounds=5,f",
+            "plan 1/5/20/20 on 20260302: f",
+        ),
+        (
+            "certify,--exchange,4,--lower=3,20260302,g,--rounds,2,f,--workers=8,--climb",
+            "certify 8/2/3/4 climb on 20260302: g,f",
+        ),
+        (
+            "make,--run,--lower,3,7,--exchange=4,--trips=5,--climb",
+            "make 7 trips 5 run 1/40/3/4 climb on 20260302",
+        ),
+        (
+            "make,7,--rounds=5",
+            "make 7 trips 240 1/5/20/20 on 20260302",
+        ),
+        ("plan,20260302,f,--workers,1,--workers,1", USAGE),
+        ("plan,20260302,f,--rounds=5,--rounds,5", USAGE),
+        ("certify,--lower=5,20260302,f,--lower=5", USAGE),
+        ("certify,20260302,f,--exchange=5,--exchange=5", USAGE),
+        ("certify,20260302,f,--climb,--climb", USAGE),
+        ("make,7,--trips=1,--trips=1", USAGE),
+        ("make,7,--run,--run", USAGE),
+        ("trips,20260302,--rounds,5,f", USAGE),
+        ("day,20260302,f,--climb", USAGE),
+        ("week,--workers=1,r", USAGE),
+        ("week,--run,r", USAGE),
+        ("plan,20260302,f,--trips=5", USAGE),
+        ("plan,20260302,f,--run", USAGE),
+        ("certify,20260302,f,--trips=5", USAGE),
+        ("certify,20260302,f,--run", USAGE),
+        ("plan,20260302,f,--rounds,--", USAGE),
+        ("plan,20260302,--", USAGE),
+        ("plan,--,20260302,f", "plan 1/40/20/20 on 20260302: f"),
+        ("plan,20260302,--,f", "plan 1/40/20/20 on 20260302: f"),
+        ("plan,20260302,f,--", "plan 1/40/20/20 on 20260302: f"),
+        (
+            "certify,20260302,--,--",
+            "certify 1/40/20/20 on 20260302: --",
+        ),
+        (
+            "certify,--rounds,5,--,20260302,--climb,-f",
+            "certify 1/5/20/20 on 20260302: --climb,-f",
+        ),
+        (
+            "certify,20260302,--,f,--rounds,5",
+            "certify 1/40/20/20 on 20260302: f,--rounds,5",
+        ),
+        ("make,--,7", "make 7 trips 240 1/40/20/20 on 20260302"),
+        ("week,--,-r", "week 1/40/20/20 on 0: -r"),
+    ];
+    for (line, want) in rows {
+        assert!(rt; is_answered(alloc, line, want)?, "{line}");
+    }
+    Ok(())
+}
+
+/// How many names a request has that these words and so many files more ask for, or 0 where they ask for nothing.
+fn names_with(alloc: Global, line: &str, files: usize) -> Result<usize, Fail> {
+    let mut words = listed(alloc, line)?;
+    for _file in 0..files {
+        words.push(Bytes::from_vec(b"f".to_vec(alloc)?))?;
+    }
+    match read_words(alloc, words.as_slice()) {
+        Ok(request) => Ok(request.names.len()),
+        Err(WordsFault::Usage) => Ok(0),
+        Err(WordsFault::Memory) => Err("memory".into()),
+    }
+}
+
+#[test]
+fn files_are_few(rt: HostRuntime) -> Result<(), Fail> {
+    let alloc = rt.alloc();
+    let rows: [(&str, usize, usize); 12] = [
+        ("trips,20260302", 64, 64),
+        ("trips,20260302", 65, 0),
+        ("day,20260302,--", 64, 64),
+        ("day,20260302,--", 65, 0),
+        ("plan,20260302,f,--", 63, 64),
+        ("plan,20260302,f,--", 64, 0),
+        ("certify,20260302", 64, 64),
+        ("certify,20260302", 65, 0),
+        ("check,20260302,p,c", 64, 66),
+        ("check,20260302,p,c", 65, 0),
+        ("check,20260302,p,--,c", 64, 66),
+        ("check,20260302,p,--,c", 65, 0),
+    ];
+    for (line, files, want) in rows {
+        assert_eq!(rt; names_with(alloc, line, files)?, want, "{line}");
+    }
+    Ok(())
+}
+
+#[test]
+fn words_may_be_long(rt: HostRuntime) -> Result<(), Fail> {
+    let alloc = rt.alloc();
+    let rows: [(&str, &str); 13] = [
+        ("plan,20260302,*,f", "plan 1/40/20/20 on 20260302: *,f"),
+        (
+            "certify,20260302,--,-*",
+            "certify 1/40/20/20 on 20260302: -*",
+        ),
+        (
+            "check,20260302,p*,c*,f*",
+            "check 1/40/20/20 on 20260302: f*,p*,c*",
+        ),
+        ("week,*", "week 1/40/20/20 on 0: *"),
+        ("plan,*,f", USAGE),
+        ("plan,*20260302,f", USAGE),
+        ("plan*,20260302,f", USAGE),
+        ("plan,20260302,f,-*", USAGE),
+        ("plan,20260302,f,--workers*,1", USAGE),
+        ("plan,20260302,f,--workers=*1", USAGE),
+        ("plan,20260302,f,--workers,*1", USAGE),
+        ("make,*7", USAGE),
+        ("make,7,--trips,*5", USAGE),
+    ];
+    for (line, want) in rows {
+        assert!(rt; is_answered(alloc, line, want)?, "{line}");
+    }
+    Ok(())
+}
+
+#[test]
+fn the_day_is_the_first_plain_word(rt: HostRuntime) -> Result<(), Fail> {
+    let alloc = rt.alloc();
+    let rows: [(&str, &str); 9] = [
+        ("plan,20260302,f", "20260302"),
+        ("certify,--rounds,5,20260302,f", "20260302"),
+        ("check,--climb,20260230,p,c,f", "20260230"),
+        ("trips,--,-d,f", "-d"),
+        ("plan,--rounds,--,f", "f"),
+        ("plan,--rounds", ""),
+        ("plan,,f", ""),
+        ("plan", ""),
+        ("20260302", ""),
+    ];
+    for (line, want) in rows {
+        let words = listed(alloc, line)?;
+        assert!(rt; day_word(words.as_slice()) == want.as_bytes(), "{line}");
+    }
+    assert!(rt; day_word(&[]).is_empty());
+    Ok(())
+}

@@ -1,0 +1,4 @@
+pub mod FileLemmas
+pub mod InputLemmas
+pub mod JoinLemmas
+pub mod PieceLemmas

@@ -1,0 +1,4 @@
+pub mod Stages
+pub mod Inputs
+pub mod Parts
+pub mod Taken

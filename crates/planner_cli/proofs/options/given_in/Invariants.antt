@@ -1,8 +1,0 @@
-use Rattle.std.proofs.Common.{◌≡◌, drop}
-use Rattle.std.specs.Option.{option_map}
-use Rattle.planner_cli.specs.Options as spec
-use Rattle.planner_cli.proofs.options.given_in.Given as goal
-
--- the options so far, with those of the words that are left
-abbrev pub invariant-loop-word : goal.invariant-loop-word
-invariant-loop-word l = spec.given_after spec.none_given (spec.said l.words) ≡ spec.given_with l.reading.given (option_map (λ name. name.now) l.reading.waiting) (drop l.word-index l.words)

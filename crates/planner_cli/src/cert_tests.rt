@@ -1,0 +1,461 @@
+//! The commands `certify` and `check`: a plan and its certificate are made, and checked with and without changes.
+
+use crate::plan_tests::{
+    Change, GROUP, NO_CHANGE, ONE_FOR_BOTH, TOGETHER, TOO_SOON, changed, demo,
+};
+use crate::run::run;
+use crate::status::Status;
+use crate::tests::{WRITTEN_HEAD, file, joined, listed, numbers, run_on, sink};
+use cert_check::Reason;
+use plan_core::{Bytes, MemFiles, NoGate, Seq};
+use std::alloc::Global;
+use std::test::Fail;
+use std::thread::Threads;
+
+/// The certificate of the plan of the two trips.
+const CERT_WRITTEN: &str =
+    "tbl; X_PREIS\natr; ART; LFD_NR; PREIS\nfrm; num[19.0]; num[19.0]; num[19.0]\nrec; 1; 1; 500\nrec; 1; 2; 500\nrec; 2; 1; 1100000\nrec; 2; 2; 1100000\nrec; 3; 1; 500\nrec; 3; 2; 500\nrec; 4; 1; 5200000\nrec; 4; 2; 5200000\nend; 8\ntbl; X_KLASSENPREIS\natr; ART; KLASSE; PREIS\nfrm; num[19.0]; num[19.0]; num[19.0]\nrec; 1; 1; 0\nrec; 2; 1; 0\nrec; 3; 1; 0\nrec; 4; 1; 0\nend; 4\ntbl; X_MARKE\natr; ART; GRUPPE_NR; STUECK; BEGINN; LENK; VIERTEL; GESAMT; DREI; WERT\nfrm; num[19.0]; num[19.0]; num[19.0]; num[19.0]; num[19.0]; num[19.0]; num[19.0]; num[19.0]; num[19.0]\nrec; 3; 1; 1; 27600; 4200; 0; 4200; 0; 500\nrec; 3; 1; 2; 27600; 8400; 0; 8400; 0; 0\nrec; 3; 1; 2; 31200; 4200; 0; 4200; 0; 500\nrec; 4; 1; 1; 27600; 4200; 0; 4200; 0; -32300000\nrec; 4; 1; 2; 27600; 8400; 0; 8400; 0; -37500000\nrec; 4; 1; 2; 31200; 4200; 0; 4200; 0; -35900000\nend; 6\ntbl; X_UMARKE\natr; ART; HOF_NR; LFD_NR; LENK; WERT\nfrm; num[19.0]; num[19.0]; num[19.0]; num[19.0]; num[19.0]\nrec; 1; 1; 1; 4200; 500\nrec; 1; 1; 2; 3600; 0\nrec; 2; 1; 1; 4200; 500000\nrec; 2; 1; 2; 3600; -600000\nend; 4\neof; 4\n";
+
+/// What a command writes of the network with some changes, and nothing on standard error.
+fn made<R: Threads + Sync>(
+    rt: &R,
+    alloc: Global,
+    command: &str,
+    changes: &[Change],
+) -> Result<Bytes, Fail> {
+    let mut out = sink(alloc, 10_000, &[])?;
+    let mut err = sink(alloc, 10_000, &[])?;
+    let text = demo(alloc, changes)?;
+    let words = [command, "20260302", "f"];
+    let status = run_on(rt, alloc, &words, text, &[], &mut out, &mut err)?;
+    if status.code() != 0 || !err.taken().is_empty() {
+        return Err("refused".into());
+    }
+    Ok(Bytes::from_vec(out.taken().to_vec(alloc)?))
+}
+
+/// A text with some changes.
+fn with(alloc: Global, text: Bytes, changes: &[Change]) -> Result<Bytes, Fail> {
+    let mut text = text;
+    for change in changes {
+        text = changed(alloc, text, *change)?;
+    }
+    Ok(text)
+}
+
+/// A reason as numbers: its own number, and what it tells, of a table its row alone.
+fn reason_numbers(reason: &Reason) -> [u64; 4] {
+    match reason {
+        Reason::PlanForm { row, .. } => [1, *row as u64, 0, 0],
+        Reason::TripTimes { fid, times } => [2, *fid, *times as u64, 0],
+        Reason::BlockUnlawful { block } => [3, *block as u64, 0, 0],
+        Reason::PoolOver { pool, used, cap } => [4, *pool as u64, *used as u64, *cap as u64],
+        Reason::PieceTimes {
+            block,
+            index,
+            times,
+        } => { [5, *block as u64, *index as u64, *times as u64] }
+        Reason::DutyUnlawful { duty } => [6, *duty as u64, 0, 0],
+        Reason::GroupOver { group, used, cap } => [7, *group as u64, *used as u64, *cap as u64],
+        Reason::PlanDiffers { row, .. } => [8, *row as u64, 0, 0],
+        Reason::CertForm { .. } => [9, 0, 0, 0],
+        Reason::NegativeClassPrice { pass, class } => [10, *pass as u64, *class as u64, 0],
+        Reason::Uncovered { pass, .. } => [12, *pass as u64, 0, 0],
+        Reason::BoundTooHigh {
+            pass,
+            printed,
+            shown,
+        } => [13, *pass as u64, *printed, *shown],
+    }
+}
+
+/// How a check ended, as numbers: the code of its status, and behind a no the numbers of the reason.
+fn status_numbers(status: &Status) -> [u64; 5] {
+    match status {
+        Status::CheckNo(reason) => {
+            let [kind, one, two, three] = reason_numbers(reason);
+            [10, kind, one, two, three]
+        }
+        other => [other.code() as u64, 0, 0, 0, 0],
+    }
+}
+
+/// What is checked: planning files, a plan and a certificate.
+#[derive(Drop)]
+struct Sets {
+    planning: Bytes,
+    plan: Bytes,
+    cert: Bytes,
+}
+
+/// Whether a check writes this line, says this on standard error, and ends so.
+fn is_checked<R: Threads + Sync>(
+    rt: &R,
+    alloc: Global,
+    sets: Sets,
+    line: &str,
+    said: &str,
+    ended: [u64; 5],
+) -> Result<bool, Fail> {
+    let mut files = MemFiles::new(
+        Seq::from_vec(vec![in alloc;
+            file(alloc, "f", sets.planning)?,
+            file(alloc, "p", sets.plan)?,
+            file(alloc, "c", sets.cert)?,
+        ]?),
+        numbers(alloc, &[])?,
+    );
+    let mut out = sink(alloc, 10_000, &[])?;
+    let mut err = sink(alloc, 10_000, &[])?;
+    let words = listed(alloc, &["check", "20260302", "p", "c", "f"])?;
+    let status = run(
+        rt,
+        alloc,
+        words.as_slice(),
+        &mut files,
+        &mut out,
+        &mut err,
+        &NoGate,
+    );
+    let is_told = out.taken() == line.as_bytes() && err.taken() == said.as_bytes();
+    Ok(is_told && status_numbers(&status) == ended)
+}
+
+/// The planning files, and the plan and certificate that are made of them.
+fn sets_of<R: Threads + Sync>(rt: &R, alloc: Global, changes: &[Change]) -> Result<Sets, Fail> {
+    Ok(Sets {
+        planning: demo(alloc, changes)?,
+        plan: made(rt, alloc, "plan", changes)?,
+        cert: made(rt, alloc, "certify", changes)?,
+    })
+}
+
+#[test]
+fn a_certificate_is_written(rt: HostRuntime) -> Result<(), Fail> {
+    let alloc = rt.alloc();
+    let cert = made(&rt, alloc, "certify", NO_CHANGE)?;
+    let want = joined(alloc, &[WRITTEN_HEAD, CERT_WRITTEN], b"\r\n")?;
+    assert!(rt; cert == want);
+    Ok(())
+}
+
+#[test]
+fn plans_and_certificates_are_checked(rt: HostRuntime) -> Result<(), Fail> {
+    let alloc = rt.alloc();
+    // Changes of the planning files, of the plan and of the certificate, and what the check says.
+    let rows: [(&[Change], &[Change], &[Change], &str, [u64; 5]); 25] = [
+        // As they were made.
+        (&[], &[], &[], "yes\n", [0, 0, 0, 0, 0]),
+        // Without the bounds.
+        (
+            &[],
+            &[("tbl; X_SCHRANKE", "tbl; X_SCHRANKEN")],
+            &[],
+            "no 1 PlanForm\n",
+            [10, 1, 0, 0, 0],
+        ),
+        // Without the second trip.
+        (
+            &[],
+            &[("rec; 1; 2; 33000; 1; 1; 1; 1; \"R\"; 1\r\nend; 2", "end; 1")],
+            &[],
+            "no 2 TripTimes\n",
+            [10, 2, 2, 0, 0],
+        ),
+        // The second trip begins too soon.
+        (TOO_SOON, &[], &[], "no 3 BlockUnlawful\n", [10, 3, 1, 0, 0]),
+        // Without the second piece.
+        (
+            &[],
+            &[(
+                "rec; 1; 2; 1; 2; 1; 2; 33000; 2; 9; 37200; 4200\r\nend; 2",
+                "end; 1",
+            )],
+            &[],
+            "no 5 PieceTimes\n",
+            [10, 5, 1, 2, 0],
+        ),
+        // Drivers sign on so early that the duty is too long.
+        (
+            &[(GROUP, "rec; 1; 2; 9; 2; 500; 1; 40000; 300")],
+            &[],
+            &[],
+            "no 6 DutyUnlawful\n",
+            [10, 6, 1, 0, 0],
+        ),
+        // A block costs one more.
+        (
+            &[],
+            &[("rec; 1; 1; 2200", "rec; 1; 1; 2201")],
+            &[],
+            "no 8 PlanDiffers\n",
+            [10, 8, 1, 0, 0],
+        ),
+        // A price is missing.
+        (
+            &[],
+            &[],
+            &[("rec; 4; 2; 5200000\r\nend; 8", "end; 7")],
+            "no 9 CertForm\n",
+            [10, 9, 0, 0, 0],
+        ),
+        // A class price below 0.
+        (
+            &[],
+            &[],
+            &[("rec; 2; 1; 0", "rec; 2; 1; -1")],
+            "no 10 NegativeClassPrice\n",
+            [10, 10, 2, 0, 0],
+        ),
+        // A price of a trip that is too high for its block.
+        (
+            &[],
+            &[],
+            &[("rec; 2; 1; 1100000", "rec; 2; 1; 1101000")],
+            "no 12 Uncovered\n",
+            [10, 12, 2, 0, 0],
+        ),
+        // Without a mark of duties, and without one of blocks.
+        (
+            &[],
+            &[],
+            &[
+                ("rec; 3; 1; 2; 27600; 8400; 0; 8400; 0; 0\r\n", ""),
+                ("end; 6", "end; 5"),
+            ],
+            "no 12 Uncovered\n",
+            [10, 12, 3, 0, 0],
+        ),
+        (
+            &[],
+            &[],
+            &[
+                ("rec; 1; 1; 2; 3600; 0\r\n", ""),
+                (
+                    "rec; 2; 1; 2; 3600; -600000\r\nend; 4",
+                    "rec; 2; 1; 2; 3600; -600000\r\nend; 3",
+                ),
+            ],
+            "no 12 Uncovered\n",
+            [10, 12, 1, 0, 0],
+        ),
+        // A bound of two blocks, and one that is below the one shown.
+        (
+            &[],
+            &[(
+                "rec; 1; 1; 1\r\nrec; 2; 2200",
+                "rec; 1; 1; 2\r\nrec; 2; 2200",
+            )],
+            &[],
+            "no 13 BoundTooHigh\n",
+            [10, 13, 1, 2, 1],
+        ),
+        (
+            &[],
+            &[("rec; 2; 2200; 2200", "rec; 2; 2200; 2199")],
+            &[],
+            "yes\n",
+            [0, 0, 0, 0, 0],
+        ),
+        // A duty mark that closes too low.
+        (
+            &[],
+            &[],
+            &[("8400; 0; -37500000", "8400; 0; -37500001")],
+            "no 12 Uncovered\n",
+            [10, 12, 4, 0, 0],
+        ),
+        // The group is another one.
+        (
+            &[],
+            &[("rec; 1; 1; 27600", "rec; 1; 2; 27600")],
+            &[],
+            "no 1 PlanForm\n",
+            [10, 1, 1, 0, 0],
+        ),
+        // The block is of no pool.
+        (
+            &[],
+            &[("rec; 1; 1; 2200", "rec; 1; 8; 2200")],
+            &[],
+            "no 1 PlanForm\n",
+            [10, 1, 1, 0, 0],
+        ),
+        // The first trip stands in the place of the second one, and both in the wrong order.
+        (
+            &[],
+            &[("rec; 1; 2; 33000; 1", "rec; 1; 1; 33000; 1")],
+            &[],
+            "no 2 TripTimes\n",
+            [10, 2, 1, 2, 0],
+        ),
+        (
+            &[],
+            &[(
+                "rec; 1; 1; 28800; 1; 1; 1; 1; \"H\"; 1\r\nrec; 1; 2; 33000; 1; 1; 1; 1; \"R\"; 1",
+                "rec; 1; 2; 33000; 1; 1; 1; 1; \"R\"; 1\r\nrec; 1; 1; 28800; 1; 1; 1; 1; \"H\"; 1",
+            )],
+            &[],
+            "no 3 BlockUnlawful\n",
+            [10, 3, 1, 0, 0],
+        ),
+        // The first piece twice, and the pieces in the wrong order.
+        (
+            &[],
+            &[(
+                "rec; 1; 2; 1; 2; 1; 2; 33000",
+                "rec; 1; 2; 1; 1; 1; 2; 33000",
+            )],
+            &[],
+            "no 5 PieceTimes\n",
+            [10, 5, 1, 1, 2],
+        ),
+        (
+            &[],
+            &[
+                (
+                    "rec; 1; 1; 1; 1; 2; 9; 28200",
+                    "rec; 1; 1; 1; 3; 2; 9; 28200",
+                ),
+                (
+                    "rec; 1; 2; 1; 2; 1; 2; 33000",
+                    "rec; 1; 2; 1; 1; 1; 2; 33000",
+                ),
+                (
+                    "rec; 1; 1; 1; 3; 2; 9; 28200",
+                    "rec; 1; 1; 1; 2; 2; 9; 28200",
+                ),
+            ],
+            &[],
+            "no 6 DutyUnlawful\n",
+            [10, 6, 1, 0, 0],
+        ),
+        // A leg ends a second later.
+        (
+            &[],
+            &[("1; 2; 32400; 1; 2; 33000", "1; 2; 32400; 1; 2; 33001")],
+            &[],
+            "no 8 PlanDiffers\n",
+            [10, 8, 3, 0, 0],
+        ),
+        // The price of a trip that is not there.
+        (
+            &[],
+            &[],
+            &[("rec; 1; 2; 500", "rec; 1; 3; 500")],
+            "no 9 CertForm\n",
+            [10, 9, 0, 0, 0],
+        ),
+        // A mark of blocks, and one of duties, with a second of driving more than the list that it stands for.
+        (
+            &[],
+            &[],
+            &[("rec; 1; 1; 1; 4200; 500", "rec; 1; 1; 1; 4201; 500")],
+            "no 12 Uncovered\n",
+            [10, 12, 1, 0, 0],
+        ),
+        (
+            &[],
+            &[],
+            &[("8400; 0; 8400; 0; -37500000", "8401; 0; 8400; 0; -37500000")],
+            "no 12 Uncovered\n",
+            [10, 12, 4, 0, 0],
+        ),
+    ];
+    for (planning, plan, cert, line, ended) in rows {
+        let made = sets_of(&rt, alloc, NO_CHANGE)?;
+        let sets = Sets {
+            planning: with(alloc, made.planning, planning)?,
+            plan: with(alloc, made.plan, plan)?,
+            cert: with(alloc, made.cert, cert)?,
+        };
+        assert!(rt; is_checked(&rt, alloc, sets, line, "", ended)?, "{line}");
+    }
+    Ok(())
+}
+
+/// One driver less than two duties.
+const ONE_DRIVER: &[Change] = &[TOGETHER_ALONE, (GROUP, "rec; 1; 2; 9; 1; 500; 1; 600; 300")];
+
+/// The second trip runs together with the first one.
+const TOGETHER_ALONE: Change = (
+    "rec; 1; 2; 33000; 1; 1; 1; 1; \"R\"; NULL",
+    "rec; 1; 2; 28800; 1; 1; 1; 1; \"H\"; NULL",
+);
+
+/// Two blocks and two duties, of one vehicle less, and of one driver less.
+#[test]
+fn pools_and_groups_are_not_exceeded(rt: HostRuntime) -> Result<(), Fail> {
+    let alloc = rt.alloc();
+    let rows: [(&[Change], &str, [u64; 5]); 3] = [
+        (TOGETHER, "yes\n", [0, 0, 0, 0, 0]),
+        (ONE_FOR_BOTH, "no 4 PoolOver\n", [10, 4, 1, 2, 1]),
+        (ONE_DRIVER, "no 7 GroupOver\n", [10, 7, 1, 2, 1]),
+    ];
+    for (planning, line, ended) in rows {
+        let made = sets_of(&rt, alloc, TOGETHER)?;
+        let sets = Sets {
+            planning: demo(alloc, planning)?,
+            plan: made.plan,
+            cert: made.cert,
+        };
+        assert!(rt; is_checked(&rt, alloc, sets, line, "", ended)?, "{line}");
+    }
+    Ok(())
+}
+
+/// Planning files are read first, then the plan, then the certificate; and all texts are judged before the first table.
+#[test]
+fn what_is_checked_is_read_in_order(rt: HostRuntime) -> Result<(), Fail> {
+    let alloc = rt.alloc();
+    let rows: [(&[Change], &[Change], &[Change], &str, u64); 5] = [
+        (
+            &[],
+            &[("tbl; X_SCHRANKE", "xyz; X_SCHRANKE")],
+            &[("tbl; X_PREIS", "xyz; X_PREIS")],
+            "file 2 line 44: Keyword\n",
+            3,
+        ),
+        (
+            &[],
+            &[],
+            &[("tbl; X_PREIS", "xyz; X_PREIS")],
+            "file 3 line 9: Order\n",
+            3,
+        ),
+        (
+            &[("tbl; X_HOF", "tbl; X_HOFE")],
+            &[],
+            &[("tbl; X_PREIS", "xyz; X_PREIS")],
+            "file 3 line 9: Order\n",
+            3,
+        ),
+        (
+            &[("tbl; X_HOF", "tbl; X_HOFE")],
+            &[("tbl; X_SCHRANKE", "tbl; X_SCHRANKEN")],
+            &[],
+            "table X_HOF column  row 0: NoTable\n",
+            3,
+        ),
+        (
+            &[("rec; 20260101; 1", "rec; 20270101; 1")],
+            &[("tbl; X_SCHRANKE", "tbl; X_SCHRANKEN")],
+            &[],
+            "day 20260302: NoVersion\n",
+            4,
+        ),
+    ];
+    for (planning, plan, cert, said, code) in rows {
+        let made = sets_of(&rt, alloc, NO_CHANGE)?;
+        let sets = Sets {
+            planning: with(alloc, made.planning, planning)?,
+            plan: with(alloc, made.plan, plan)?,
+            cert: with(alloc, made.cert, cert)?,
+        };
+        assert!(rt;
+            is_checked(&rt, alloc, sets, "", said, [code, 0, 0, 0, 0])?,
+            "{said}"
+        );
+    }
+    Ok(())
+}

@@ -1,0 +1,80 @@
+//! The day that the tables tell, together with the table that its trips were read from.
+
+ghost use Rattle.std.specs.Prelude.{◌≡◌, ◌<◌, ◌^◌, None, Some, All, IsTrue, IfOk, IfErr, length};
+ghost use Rattle.vdv451_text.specs.Plain.{are_plain, is_plain_table};
+ghost use Rattle.vdv452_tables.specs.declared.reading.Needs.TheVariants as needs;
+ghost use Rattle.vdv452_tables.specs.Calendar.{net_of, schemas_of};
+ghost use Rattle.vdv452_tables.specs.Rows.{first_fault, table_of};
+ghost use Rattle.vdv452_tables.specs.Schema.{trips as trips_schema};
+ghost use Rattle.plan_command.specs.PlanText.{HasTripRows};
+ghost use Rattle.planner_cli.specs.Model.{IsModelOf, IsModelRefused};
+
+use crate::model::{model_of, network};
+use crate::status::Status;
+use crate::trips::trips_place;
+use day_model::Day;
+use std::alloc::Global;
+use vdv451_text::Table;
+use vdv452_tables::{Needs, Network};
+
+/// A day, and the table that its trips were read from.
+#[derive(Drop)]
+pub(crate) struct Ready<'t> {
+    /// The day.
+    pub model: Day,
+    /// The table.
+    pub rec_frt: &'t Table,
+}
+
+/// The day in a network, with the table of its trips.
+fn ready_in<'t>(
+    alloc: Global,
+    tables: &'t [Table],
+    net: &Network,
+    day: u32,
+) -> Result<Ready<'t>, Status>
+    requires plain { IsTrue (are_plain tables.now) }
+    requires faultless { first_fault (schemas_of needs.All) tables.now ≡ None }
+    requires net { net.now ≡ net_of needs.All tables.now }
+    ensures model { IfOk result (λ ready. IsModelOf tables.now day ready.model) }
+    ensures found { IfOk result (λ ready. table_of trips_schema tables.now ≡ Some ready.rec_frt.now) }
+    ensures plain { IfOk result (λ ready. IsTrue (is_plain_table ready.rec_frt.now)) }
+    ensures rows { IfOk result (λ ready. HasTripRows ready.model ready.rec_frt.now) }
+    ensures cause { IfErr result (IsModelRefused tables.now day) }
+{
+    let model = match model_of(alloc, net, day) {
+        Ok(model) => model,
+        Err(status) => return Err(status),
+    };
+    // No number of a trip is above 10^18: the network says so.
+    let _ = net.trip_rows();
+    Ok(Ready {
+        model,
+        rec_frt: &tables[trips_place(tables)],
+    })
+}
+
+/// The day that the tables of all files tell, with the table of its trips.
+///
+/// # Errors
+///
+/// `Input` with the first fault of the tables; then `Day` where the day has no kind; then `Input` with the number of trips where there
+/// are more than 3,000, the first fault of the settings, or the first trip without times; and `Memory`.
+pub(crate) fn ready_day<'t>(
+    alloc: Global,
+    tables: &'t [Table],
+    day: u32,
+) -> Result<Ready<'t>, Status>
+    requires plain { IsTrue (are_plain tables.now) }
+    requires sized { All (λ table. length table.rows < 2 ^ 32) tables.now }
+    ensures model { IfOk result (λ ready. IsModelOf tables.now day ready.model) }
+    ensures found { IfOk result (λ ready. table_of trips_schema tables.now ≡ Some ready.rec_frt.now) }
+    ensures plain { IfOk result (λ ready. IsTrue (is_plain_table ready.rec_frt.now)) }
+    ensures rows { IfOk result (λ ready. HasTripRows ready.model ready.rec_frt.now) }
+    ensures cause { IfErr result (IsModelRefused tables.now day) }
+{
+    match network(alloc, tables, Needs::All) {
+        Ok(net) => ready_in(alloc, tables, &net, day),
+        Err(status) => Err(status),
+    }
+}
