@@ -25,9 +25,8 @@ SHIM = r"""
 #include <errno.h>
 #include <fcntl.h>
 #include <stdatomic.h>
-#include <stdio.h>
 #include <stdlib.h>
-#include <string.h>
+#include <sys/mman.h>
 #include <unistd.h>
 
 void *__libc_malloc(size_t);
@@ -35,15 +34,22 @@ void *__libc_calloc(size_t, size_t);
 void *__libc_realloc(void *, size_t);
 void *__libc_memalign(size_t, size_t);
 
-static atomic_long asked;
-static long refused = -1;
+/* How often memory was asked for: in a file that outlives the program, where one is named. */
+static atomic_long here;
+static atomic_long *asked = &here;
+static long refused;
+
+__attribute__((constructor)) static void begin(void) {
+    const char *said = getenv("REFUSE_AT"), *path = getenv("REFUSE_LOG");
+    int file = path ? open(path, O_RDWR) : -1;
+    void *room = file < 0 ? MAP_FAILED : mmap(NULL, sizeof here, PROT_READ | PROT_WRITE, MAP_SHARED, file, 0);
+    if (room != MAP_FAILED) asked = room;
+    atomic_store(asked, 0);
+    refused = said ? atol(said) : 0;
+}
 
 static int refuse(void) {
-    if (refused == -1) {
-        const char *said = getenv("REFUSE_AT");
-        refused = said ? atol(said) : 0;
-    }
-    return atomic_fetch_add(&asked, 1) + 1 == refused ? (errno = ENOMEM, 1) : 0;
+    return atomic_fetch_add(asked, 1) + 1 == refused ? (errno = ENOMEM, 1) : 0;
 }
 
 void *malloc(size_t n) { return refuse() ? NULL : __libc_malloc(n); }
@@ -55,17 +61,6 @@ int posix_memalign(void **to, size_t a, size_t n) {
     if (refuse()) return ENOMEM;
     *to = __libc_memalign(a, n);
     return *to ? 0 : ENOMEM;
-}
-
-__attribute__((destructor)) static void tell(void) {
-    const char *path = getenv("REFUSE_LOG");
-    char text[32];
-    if (!path) return;
-    int file = open(path, O_WRONLY | O_CREAT | O_TRUNC, 0600);
-    if (file < 0) return;
-    int length = snprintf(text, sizeof text, "%ld\n", atomic_load(&asked));
-    if (write(file, text, length) != length) { }
-    close(file);
 }
 """
 
@@ -102,9 +97,11 @@ def main():
         bad = 0
         for name, words, most in tasks:
             log = f"{room}/asked"
+            with open(log, "wb") as it:
+                it.write(bytes(8))
             whole = run(program, words, room, 0, log)
-            with open(log) as it:
-                asked = int(it.read())
+            with open(log, "rb") as it:
+                asked = int.from_bytes(it.read(8), sys.byteorder)
             numbers = range(1, min(asked, most or asked) + 1)
             ends = collections.Counter()
             with concurrent.futures.ThreadPoolExecutor(given.jobs) as pool:
