@@ -13,7 +13,7 @@ use cover_core::{Column, Items, Plan};
 use day_calendar::DayKind;
 use day_model::{Day, build_day};
 use number_tables::{number_table, signed_row};
-use plan_core::{Memory, Piece, Point, Sec, Seq};
+use plan_core::{Bytes, Memory, Piece, Point, Sec, Seq};
 use std::alloc::Global;
 use std::slice;
 use std::test::Fail;
@@ -363,6 +363,14 @@ fn read(alloc: Global, day: &Day, tables: &[Table]) -> Result<PlanText, Fail> {
     }
 }
 
+/// The text of tables that can be written.
+fn spelled(alloc: Global, tables: &[Table]) -> Result<Bytes, Fail> {
+    if !is_plain(tables) {
+        return Err(Fail::from("no plain tables"));
+    }
+    Ok(write_tables(alloc, tables)?)
+}
+
 /// Whether a plan is that of the day: the block has the trips 0 and 1, and the duty both pieces.
 fn is_plan(text: &PlanText) -> bool {
     let [block] = text.blocks.columns.as_slice() else {
@@ -394,7 +402,7 @@ fn a_plan_is_read_back(rt: HostRuntime) -> Result<(), Fail> {
     let tables = written(alloc, &day, rec_frt, &answer)?;
     let text = read(alloc, &day, tables.as_slice())?;
     assert!(rt; is_plan(&text));
-    let bytes = write_tables(alloc, tables.as_slice())?;
+    let bytes = spelled(alloc, tables.as_slice())?;
     let tables = read_file(alloc, bytes.as_slice(), 100_000)?;
     let text = read(alloc, &day, tables.as_slice())?;
     assert!(rt; is_plan(&text));
