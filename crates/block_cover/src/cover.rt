@@ -22,8 +22,8 @@ use unpaid_list::least_cover;
 /// as good, each once, sorted by the fields in their order. It is a cover, and so all blocks are paid.
 ///
 /// There is a price for each trip, from -3,000,000,000,000,000 to 3,000,000,000,000,000 thousandths of a cost unit; values are computed in
-/// 128 bits. Class prices may be any, and a class past them has price 0. It takes about twice the time of a search with dominance and no
-/// completion bound.
+/// 128 bits. Class prices may be any, and a class past them has price 0. It takes the time of making all marks; where a block is unpaid,
+/// that of a search with dominance and no completion bound more.
 ///
 /// # Errors
 ///

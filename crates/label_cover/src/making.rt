@@ -18,7 +18,7 @@ use unpaid_list::least_cover;
 /// cover, by prices and class prices in thousandths of a cost unit, with which `first_gap` shows without a search that no lawful duty has
 /// a value below minus its class price. A class has price 0 where there is none for it.
 ///
-/// The prices are from -3 * 10^15 to 3 * 10^15. The time is that of making all marks twice: the search for an unpaid duty makes them too.
+/// The prices are from -3 * 10^15 to 3 * 10^15. The time is that of making all marks; where a duty is unpaid, that of a search for it more.
 ///
 /// # Errors
 ///

@@ -8,7 +8,7 @@ use Rattle.cover_core.specs.declared.marks.Gap.TheVariants.{First, Next, Close}
 use Rattle.cover_core.specs.Plans.{number_at}
 use Rattle.mark_cover.specs.Marking.{Marking, IsPlaced}
 use Rattle.mark_cover.specs.Covers.{IsMet, ClosesBelow, IsMarkCover, IsGap, IsNoLater, IsFirstGap}
-use Rattle.mark_cover.specs.Searches.{is_met, is_unmet, is_below, is_low, IsFirstStart, IsFirstStep, IsFirstClosing}
+use Rattle.mark_cover.specs.Searches.{AreMetBy, AreUnmetBetween, is_met, is_unmet, is_below, is_low, IsFirstStart, IsFirstStep, IsFirstClosing}
 
 some-same : {A : Type 0} (x y : A) → Some x ≡ Some y → x ≡ y
 some-same {A = A} x y e = let f : Option A → A = λ o. unwrap_or o x in ap f e
@@ -36,7 +36,7 @@ get-any {L = L} p (x ∷ xs) zero a h is =
     let head : p x ≡ true = subst P (sym same) is in rw head refl
 get-any p (x ∷ xs) (suc k) a h is = let rest = get-any p xs k a h is in or-true (p x) (list_any p xs) rest
 
-met-from : {L : Type 0} (m : Marking L) (marks : List L) (b : L) → is_met m marks b ≡ true → IsMet m marks b
+pub met-from : {L : Type 0} (m : Marking L) (marks : List L) (b : L) → is_met m marks b ≡ true → IsMet m marks b
 met-from m marks b h = let (k, a, at, good) = any-get (λ x. m.good x b) marks h in (a, (k, at), good)
 
 met-onto : {L : Type 0} (m : Marking L) (marks : List L) (b : L) → IsMet m marks b → is_met m marks b ≡ true
@@ -82,10 +82,10 @@ below-none price (Some u) v h e k =
     let P : ℤ → Type 0 = λ x. x <ℤ neg_ℤ price in
     less-not u (neg_ℤ price) h (subst P (sym same) k)
 
-low-from : {L : Type 0} (m : Marking L) (class_prices : List ℤ) (a : L) → is_low m class_prices a ≡ true → ClosesBelow m class_prices a
+pub low-from : {L : Type 0} (m : Marking L) (class_prices : List ℤ) (a : L) → is_low m class_prices a ≡ true → ClosesBelow m class_prices a
 low-from m class_prices a h = below-some (number_at class_prices (m.class_of a)) (m.close a) h
 
-low-not : {L : Type 0} (m : Marking L) (class_prices : List ℤ) (a : L) → is_low m class_prices a ≡ false → ClosesBelow m class_prices a → ⊥
+pub low-not : {L : Type 0} (m : Marking L) (class_prices : List ℤ) (a : L) → is_low m class_prices a ≡ false → ClosesBelow m class_prices a → ⊥
 low-not m class_prices a h below = below-none (number_at class_prices (m.class_of a)) (m.close a) below.0 h below.1 below.2
 
 -- marks with a gap are no cover
@@ -240,3 +240,62 @@ past-last m marks a k placed order =
       | None ↦ λ is. refl
       | Some b ↦ λ is. let later = (placed.steps a b k is).0 in absurd (omega arith)
     ] refl
+
+-- one place more, where the mark is not as good
+pub between-more : {L : Type 0} (m : Marking L) (marks : List L) (low place : ℕ) (b a : L) → slice_get marks place ≡ Some a → m.good a b ≡ false →
+    AreUnmetBetween m marks low place b → AreUnmetBetween m marks low (place + 1) b
+between-more {L = L} m marks low place b a at here before k x from below has =
+    elim (last-or k place below) [
+      | inl less ↦ before k x from less has
+      | inr same ↦
+          let Q : ℕ → Type 0 = λ n. slice_get marks n ≡ Some x in
+          let P : L → Type 0 = λ y. m.good y b ≡ false in
+          subst P (get-same (slice_get marks place) a x at (subst Q same has)) here
+    ]
+
+-- an open list that ends with an item of a class is met among all marks, where it is among those of the class and item
+pub cell-passes : {L : Type 0} (m : Marking L) (cell marks : List L) (class item : ℕ) (o : Option L) → ((b : L) → o ≡ Some b → (m.class_of b ≡ class) × (m.last b ≡ item)) →
+    ((b : L) → m.class_of b ≡ class → m.last b ≡ item → is_met m cell b ≡ is_met m marks b) → is_unmet m cell o ≡ false → is_unmet m marks o ≡ false
+cell-passes m cell marks class item None ends same h = refl
+cell-passes m cell marks class item (Some b) ends same h = let (c, l) = ends b refl in ap not (sym (same b c l)) ∙ h
+
+-- one place more, whose mark's extension by an item is met
+pub places-more : {L : Type 0} (m : Marking L) (marks : List L) (item low place : ℕ) (a : L) → slice_get marks place ≡ Some a → is_unmet m marks (m.extend a item) ≡ false →
+    ((k : ℕ) (x : L) → low ≤ k → k < place → slice_get marks k ≡ Some x → is_unmet m marks (m.extend x item) ≡ false) →
+    (k : ℕ) (x : L) → low ≤ k → k < place + 1 → slice_get marks k ≡ Some x → is_unmet m marks (m.extend x item) ≡ false
+places-more {L = L} m marks item low place a at here before k x from below has =
+    elim (last-or k place below) [
+      | inl less ↦ before k x from less has
+      | inr same ↦
+          let Q : ℕ → Type 0 = λ n. slice_get marks n ≡ Some x in
+          let P : L → Type 0 = λ y. is_unmet m marks (m.extend y item) ≡ false in
+          subst P (get-same (slice_get marks place) a x at (subst Q same has)) here
+    ]
+
+-- the extensions by an item of all marks of a class are met, where those of its marks with an earlier last item are
+pub met-by : {L : Type 0} (m : Marking L) (marks : List L) (class item low end : ℕ) → IsPlaced m →
+    ((k : ℕ) (a : L) → slice_get marks k ≡ Some a → m.class_of a ≡ class → m.last a < item → (low ≤ k) × (k < end)) →
+    ((k : ℕ) (a : L) → low ≤ k → k < end → slice_get marks k ≡ Some a → is_unmet m marks (m.extend a item) ≡ false) → AreMetBy m marks class item
+met-by m marks class item low end placed sources met = λ k a at same.
+    elim (two-ways item (m.last a)) as (λ _. is_unmet m marks (m.extend a item) ≡ false) [
+      | inl order ↦ past-last m marks a item placed order
+      | inr less ↦ let (from, below) = sources k a at same less in met k a from below at
+    ]
+
+-- one item more, whose extensions are met
+pub items-more : {L : Type 0} (m : Marking L) (marks : List L) (class item : ℕ) → AreMetBy m marks class item → ((j : ℕ) → j < item → AreMetBy m marks class j) →
+    (j : ℕ) → j < item + 1 → AreMetBy m marks class j
+items-more m marks class item here before j below =
+    elim (last-or j item below) as (λ _. AreMetBy m marks class j) [
+      | inl less ↦ before j less
+      | inr same ↦ let P : ℕ → Type 0 = λ n. AreMetBy m marks class n in subst P (sym same) here
+    ]
+
+-- one class more
+pub classes-more : {L : Type 0} (m : Marking L) (marks : List L) (class : ℕ) → ((j : ℕ) → j < m.items → AreMetBy m marks class j) →
+    ((k j : ℕ) → k < class → j < m.items → AreMetBy m marks k j) → (k j : ℕ) → k < class + 1 → j < m.items → AreMetBy m marks k j
+classes-more m marks class here before k j below there =
+    elim (last-or k class below) as (λ _. AreMetBy m marks k j) [
+      | inl less ↦ before k j less there
+      | inr same ↦ let P : ℕ → Type 0 = λ n. AreMetBy m marks n j in subst P (sym same) (here j there)
+    ]

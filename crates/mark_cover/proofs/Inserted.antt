@@ -1,15 +1,16 @@
 -- What an insertion keeps.
-use Rattle.std.proofs.Common.{◌≡◌, ℕ, ◌⊎◌, inl, inr, Bool, true, false, cond, not, List, [], ◌∷◌, ◌++◌, filter, zero, suc, refl, sym, ap, ◌∙◌, subst}
+use Rattle.std.proofs.Common.{◌≡◌, ℕ, ◌<◌, ◌≤◌, ◌⊎◌, length, arith, inl, inr, Bool, true, false, cond, not, List, [], ◌∷◌, ◌++◌, filter, zero, suc, refl, sym, ap, ◌∙◌, subst, Result, Ok, Err, OnOk}
 use Rattle.std.specs.Prelude.{Option, Some, None, slice_get, unwrap_or}
-use Rattle.std.specs.List.{list_any}
 use Rattle.mark_cover.specs.Marking.{Marking, IsOrdered}
 use Rattle.mark_cover.specs.Covers.{StandsIn, IsMet}
-use Rattle.mark_cover.specs.Levels.{stays, insert, insert_all, listed, nexts}
+use Rattle.std.proofs.lemmas.Option.{slice_get_within}
+use Rattle.mark_cover.specs.Levels.{AreInserted, listed, nexts}
+use Rattle.mark_cover.specs.Searches.{AreUnmetBetween, is_met}
 use Rattle.mark_cover.proofs.Firsts.{any-get, get-any}
 
--- no mark is at least as good as another one
-abbrev pub AreAlone : {L : Type 0} → Marking L → List L → Type 0
-AreAlone {L} m marks = (a b : L) → StandsIn marks a → StandsIn marks b → m.good a b ≡ true → a ≡ b
+-- a mark is put last, unless another one is at least as good; those that it is at least as good as are taken out
+abbrev stays : {L : Type 0} → Marking L → L → L → Bool
+stays m a b = not (m.good a b)
 
 some-same : {A : Type 0} (x y : A) → Some x ≡ Some y → x ≡ y
 some-same {A = A} x y e = let f : Option A → A = λ o. unwrap_or o x in ap f e
@@ -79,93 +80,110 @@ not-onto : (t : Bool) → t ≡ false → not t ≡ true
 not-onto true h = absurd (cc)
 not-onto false h = refl
 
--- the two ways of an insertion
-insert-cases : {L : Type 0} (m : Marking L) (marks : List L) (a : L) (P : List L → Type 0) →
-    (list_any (λ x. m.good x a) marks ≡ true → P marks) → (list_any (λ x. m.good x a) marks ≡ false → P (filter (stays m a) marks ++ a ∷ [])) → P (insert m marks a)
-insert-cases {L = L} m marks a P beaten best =
-    elim (list_any (λ x. m.good x a) marks) as (λ t. list_any (λ x. m.good x a) marks ≡ t → P (cond t marks (filter (stays m a) marks ++ a ∷ []))) [
-      | true ↦ beaten
-      | false ↦ best
+-- no mark is at least as good, where none of them is by its place
+pub not-met : {L : Type 0} (m : Marking L) (marks : List L) (b : L) → ((k : ℕ) (a : L) → slice_get marks k ≡ Some a → m.good a b ≡ false) → is_met m marks b ≡ false
+not-met m marks b none =
+    elim (is_met m marks b) as (λ t. is_met m marks b ≡ t → t ≡ false) [
+      | true ↦ λ is. let (k, a, at, passes) = any-get (λ x. m.good x b) marks is in let no = none k a at in absurd (cc)
+      | false ↦ λ is. refl
     ] refl
 
-pub insert-only : {L : Type 0} (m : Marking L) (marks : List L) (a b : L) → StandsIn (insert m marks a) b → StandsIn marks b ⊎ (a ≡ b)
-insert-only m marks a b h =
-    insert-cases m marks a (λ l. StandsIn l b → StandsIn marks b ⊎ (a ≡ b))
-    (λ is stands. inl stands)
-    (λ is stands. elim (stands-either (filter (stays m a) marks) (a ∷ []) b stands) [
-      | inl left ↦ inl (filtered (stays m a) marks b left.0 left.1).0
-      | inr right ↦ inr (stands-one a b right)
-    ]) h
-
-pub insert-has : {L : Type 0} (m : Marking L) (marks : List L) (a : L) → IsOrdered m → IsMet m (insert m marks a) a
-insert-has {L = L} m marks a ordered =
-    insert-cases m marks a (λ l. IsMet m l a)
-    (λ is. let (k, x, at, good) = any-get (λ x. m.good x a) marks is in (x, (k, at), good))
-    (λ is. (a, stands-right (filter (stays m a) marks) (a ∷ []) a (0, refl), (ordered.kept 0).same a))
-
-pub insert-met : {L : Type 0} (m : Marking L) (marks : List L) (a c : L) → IsOrdered m → IsMet m marks c → IsMet m (insert m marks a) c
-insert-met {L = L} m marks a c ordered met =
-    let (x, stands, good) = met in
-    insert-cases m marks a (λ l. IsMet m l c)
-    (λ is. met)
-    (λ is. elim (m.good a x) as (λ t. m.good a x ≡ t → IsMet m (filter (stays m a) marks ++ a ∷ []) c) [
-      | true ↦ λ beats. (a, stands-right (filter (stays m a) marks) (a ∷ []) a (0, refl), (ordered.kept 0).through a x c beats good)
-      | false ↦ λ stay. (x, stands-left (filter (stays m a) marks) (a ∷ []) x (kept (stays m a) marks x stands.0 stands.1 (not-onto (m.good a x) stay)), good)
-    ] refl)
-
-pub insert-alone : {L : Type 0} (m : Marking L) (marks : List L) (a : L) → AreAlone m marks → AreAlone m (insert m marks a)
-insert-alone {L = L} m marks a alone =
-    insert-cases m marks a (λ l. AreAlone m l)
-    (λ is. alone)
-    (λ is x y first second good.
-    elim (stands-either (filter (stays m a) marks) (a ∷ []) x first) [
-      | inl left ↦
-          let (old, stay) = filtered (stays m a) marks x left.0 left.1 in
-          elim (stands-either (filter (stays m a) marks) (a ∷ []) y second) [
-            | inl left2 ↦ alone x y old (filtered (stays m a) marks y left2.0 left2.1).0 good
-            | inr right ↦
-                let same = stands-one a y right in
-                let P : L → Type 0 = λ z. m.good x z ≡ true in
-                let beaten : list_any (λ z. m.good z a) marks ≡ true = get-any (λ z. m.good z a) marks old.0 x old.1 (subst P (sym same) good) in
-                absurd (cc)
-          ]
-      | inr right ↦
-          let same = stands-one a x right in
-          elim (stands-either (filter (stays m a) marks) (a ∷ []) y second) [
-            | inl left2 ↦
-                let stay = not-true (m.good a y) (filtered (stays m a) marks y left2.0 left2.1).1 in
-                let P : L → Type 0 = λ z. m.good z y ≡ true in
-                let beats : m.good a y ≡ true = subst P (sym same) good in
-                absurd (cc)
-            | inr right2 ↦ sym same ∙ stands-one a y right2
-          ]
+-- no mark is at least as good, where none is from a place on and none before it
+pub all-unmet : {L : Type 0} (m : Marking L) (marks : List L) (b : L) (near end : ℕ) → AreUnmetBetween m marks 0 end b → AreUnmetBetween m marks near (length marks) b →
+    (near ≤ length marks → end ≡ near) → (length marks ≤ near → end ≡ length marks) → is_met m marks b ≡ false
+all-unmet m marks b near end before from place past =
+    not-met m marks b (λ k a at.
+    let within = slice_get_within marks k a at in
+    elim (either-way near k) as (λ _. m.good a b ≡ false) [
+      | inl order ↦ from k a order within at
+      | inr below ↦ elim (either-way near (length marks)) as (λ _. m.good a b ≡ false) [
+        | inl fits ↦ let same = place fits in before k a (omega arith) (omega (arith, same, below)) at
+        | inr over ↦ let same = past (omega (arith, over)) in before k a (omega arith) (omega (arith, same, within)) at
+      ]
     ])
+  where
+    either-way : (a b : ℕ) → (a ≤ b) ⊎ (b < a)
+    either-way a b = grind arith
 
-pub all-only : {L : Type 0} (m : Marking L) (marks cs : List L) (b : L) → StandsIn (insert_all m marks cs) b → StandsIn marks b ⊎ StandsIn cs b
-all-only m marks [] b h = inl h
-all-only {L = L} m marks (c ∷ cs) b h = elim (all-only m (insert m marks c) cs b h) [
-  | inl left ↦ elim (insert-only m marks c b left) [ inl old ↦ inl old | inr same ↦ inr (0, ap (λ (x : L). Some x) same) ]
-  | inr right ↦ inr (suc right.0, right.1)
-]
+-- a mark that is put last, where none was at least as good, and those that it is at least as good as are taken out
+pub pushed : {L : Type 0} (m : Marking L) (marks : List L) (a : L) → IsOrdered m → is_met m marks a ≡ false → AreInserted m (a ∷ []) marks (filter (stays m a) marks ++ a ∷ [])
+pushed {L = L} m marks a ordered best = record {
+  only = λ b stands. elim (stands-either (filter (stays m a) marks) (a ∷ []) b stands) [
+    | inl left ↦ inl (filtered (stays m a) marks b left.0 left.1).0
+    | inr right ↦ inr right
+  ];
+  met = λ b stands.
+      let same = stands-one a b stands in
+      let P : L → Type 0 = λ x. IsMet m (filter (stays m a) marks ++ a ∷ []) x in
+      subst P same (a, stands-right (filter (stays m a) marks) (a ∷ []) a (0, refl), (ordered.kept 0).same a);
+  keeps = λ c met.
+      let (x, stands, good) = met in
+      elim (m.good a x) as (λ t. m.good a x ≡ t → IsMet m (filter (stays m a) marks ++ a ∷ []) c) [
+        | true ↦ λ beats. (a, stands-right (filter (stays m a) marks) (a ∷ []) a (0, refl), (ordered.kept 0).through a x c beats good)
+        | false ↦ λ stay. (x, stands-left (filter (stays m a) marks) (a ∷ []) x (kept (stays m a) marks x stands.0 stands.1 (not-onto (m.good a x) stay)), good)
+      ] refl;
+  alone = λ alone x y first second good.
+      elim (stands-either (filter (stays m a) marks) (a ∷ []) x first) [
+        | inl left ↦
+            let (old, stay) = filtered (stays m a) marks x left.0 left.1 in
+            elim (stands-either (filter (stays m a) marks) (a ∷ []) y second) [
+              | inl left2 ↦ alone x y old (filtered (stays m a) marks y left2.0 left2.1).0 good
+              | inr right ↦
+                  let same = stands-one a y right in
+                  let P : L → Type 0 = λ z. m.good x z ≡ true in
+                  let beaten : is_met m marks a ≡ true = get-any (λ z. m.good z a) marks old.0 x old.1 (subst P (sym same) good) in
+                  absurd (cc)
+            ]
+        | inr right ↦
+            let same = stands-one a x right in
+            elim (stands-either (filter (stays m a) marks) (a ∷ []) y second) [
+              | inl left2 ↦
+                  let stay = not-true (m.good a y) (filtered (stays m a) marks y left2.0 left2.1).1 in
+                  let P : L → Type 0 = λ z. m.good z y ≡ true in
+                  let beats : m.good a y ≡ true = subst P (sym same) good in
+                  absurd (cc)
+              | inr right2 ↦ sym same ∙ stands-one a y right2
+            ]
+      ];
+}
 
-pub all-keeps : {L : Type 0} (m : Marking L) (marks cs : List L) (b : L) → IsOrdered m → IsMet m marks b → IsMet m (insert_all m marks cs) b
-all-keeps m marks [] b ordered met = met
-all-keeps m marks (c ∷ cs) b ordered met = all-keeps m (insert m marks c) cs b ordered (insert-met m marks c b ordered met)
+-- a mark that is met changes nothing
+pub stayed : {L : Type 0} (m : Marking L) (marks : List L) (a : L) → IsMet m marks a → AreInserted m (a ∷ []) marks marks
+stayed {L = L} m marks a met = record {
+  only = λ b stands. inl stands;
+  met = λ b stands.
+      let same = stands-one a b stands in
+      let P : L → Type 0 = λ x. IsMet m marks x in
+      subst P same met;
+  keeps = λ c other. other;
+  alone = λ alone. alone;
+}
 
-all-met-at : {L : Type 0} (m : Marking L) (marks cs : List L) (b : L) (k : ℕ) → IsOrdered m → slice_get cs k ≡ Some b → IsMet m (insert_all m marks cs) b
-all-met-at m marks [] b k ordered h = absurd (get-none b k h)
-all-met-at {L = L} m marks (c ∷ cs) b zero ordered h =
-    let same = some-same c b h in
-    let P : L → Type 0 = λ x. IsMet m (insert m marks c) x in
-    all-keeps m (insert m marks c) cs b ordered (subst P same (insert-has m marks c ordered))
-all-met-at m marks (c ∷ cs) b (suc k) ordered h = all-met-at m (insert m marks c) cs b k ordered h
+-- what follows in case of success
+pub on-ok : {A E P Q : Type 0} (r : Result A E) → OnOk r P → (P → Q) → OnOk r Q
+on-ok (Ok a) h f = f h
+on-ok (Err e) h f = tt
 
-pub all-met : {L : Type 0} (m : Marking L) (marks cs : List L) (b : L) → IsOrdered m → StandsIn cs b → IsMet m (insert_all m marks cs) b
-all-met m marks cs b ordered h = all-met-at m marks cs b h.0 ordered h.1
+-- nothing is put in
+pub none-inserted : {L : Type 0} (m : Marking L) (marks : List L) → AreInserted m [] marks marks
+none-inserted m marks = record {
+  only = λ b stands. inl stands;
+  met = λ b stands. absurd (stands-none b stands);
+  keeps = λ b met. met;
+  alone = λ alone. alone;
+}
 
-pub all-alone : {L : Type 0} (m : Marking L) (marks cs : List L) → AreAlone m marks → AreAlone m (insert_all m marks cs)
-all-alone m marks [] alone = alone
-all-alone m marks (c ∷ cs) alone = all-alone m (insert m marks c) cs (insert-alone m marks c alone)
+-- some candidates are put in after others
+pub more-inserted : {L : Type 0} (m : Marking L) (first second old now new : List L) → AreInserted m first old now → AreInserted m second now new → AreInserted m (first ++ second) old new
+more-inserted m first second old now new one two = record {
+  only = λ b stands. elim (two.only b stands) [
+    | inl before ↦ elim (one.only b before) [ inl there ↦ inl there | inr put ↦ inr (stands-left first second b put) ]
+    | inr put ↦ inr (stands-right first second b put)
+  ];
+  met = λ b stands. elim (stands-either first second b stands) [ inl put ↦ two.keeps b (one.met b put) | inr put ↦ two.met b put ];
+  keeps = λ b met. two.keeps b (one.keeps b met);
+  alone = λ alone. two.alone (one.alone alone);
+}
 
 pub listed-only : {L : Type 0} (o : Option L) (b : L) → StandsIn (listed o) b → o ≡ Some b
 listed-only None b h = absurd (stands-none b h)

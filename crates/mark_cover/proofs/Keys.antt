@@ -199,3 +199,38 @@ no-group {L = L} m marks class item low high ordered order early late b of_class
       | inl below ↦ early-differs m ordered a b class item of_class last (early k a below at)
       | inr above ↦ late-differs m ordered a b class item of_class last (late k a (omega arith) at)
     ])
+
+-- the marks of a class with an earlier last item stand between these places
+pub sources-between : {L : Type 0} (m : Marking L) (marks : List L) (class item from end : ℕ) → AreEarly m marks class 0 from → AreLate m marks class item end →
+    (k : ℕ) (a : L) → slice_get marks k ≡ Some a → m.class_of a ≡ class → m.last a < item → (from ≤ k) × (k < end)
+sources-between m marks class item from end early late k a at same less = (
+  elim (either-way from k) as (λ _. from ≤ k) [
+    | inl order ↦ order
+    | inr below ↦ elim (before-from (m.class_of a) (m.last a) class 0 (early k a below at)) as (λ _. from ≤ k) [
+      | inl other ↦ absurd (omega (arith, other, same))
+      | inr none ↦ let no = none.1 in absurd (omega (arith, no))
+    ]
+  ],
+  elim (either-way end k) as (λ _. k < end) [
+    | inl order ↦ elim (late-from (m.class_of a) (m.last a) class item (late k a order at)) as (λ _. k < end) [
+      | inl other ↦ absurd (omega (arith, other, same))
+      | inr none ↦ let no = none.1 in absurd (omega (arith, no, less))
+    ]
+    | inr below ↦ below
+  ],
+)
+  where
+    either-way : (a b : ℕ) → (a ≤ b) ⊎ (b < a)
+    either-way a b = grind arith
+
+-- and those between these places are of the class
+pub between-class : {L : Type 0} (m : Marking L) (marks : List L) (class item from end : ℕ) → AreLate m marks class 0 from → AreEarly m marks class item end →
+    (k : ℕ) (a : L) → slice_get marks k ≡ Some a → from ≤ k → k < end → m.class_of a ≡ class
+between-class m marks class item from end late early k a at low high =
+    elim (late-from (m.class_of a) (m.last a) class 0 (late k a low at)) as (λ _. m.class_of a ≡ class) [
+      | inl above ↦ elim (before-from (m.class_of a) (m.last a) class item (early k a high at)) as (λ _. m.class_of a ≡ class) [
+        | inl less ↦ absurd (omega (arith, above, less))
+        | inr same ↦ same.0
+      ]
+      | inr same ↦ sym same.0
+    ]

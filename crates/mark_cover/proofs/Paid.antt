@@ -1,9 +1,10 @@
 -- A cover pays.
-use Rattle.std.proofs.Common.{◌≡◌, ℕ, ℤ, neg_ℤ, ◌≤ℤ◌, ◌<ℤ◌, ◌<◌, List, ◌∙◌, arith, subst}
+use Rattle.std.proofs.Common.{◌≡◌, ℕ, ℤ, neg_ℤ, ◌≤ℤ◌, ◌<ℤ◌, ◌<◌, List, length, ◌∙◌, arith, subst}
 use Rattle.std.proofs.lemmas.Int.{ints}
 use Rattle.plan_core.specs.declared.Price.{Price}
 use Rattle.cover_core.specs.Cover.{Problem}
 use Rattle.cover_core.specs.Plans.{value_of, number_at}
+use Rattle.cover_core.specs.FirstLeast.{IsAtMostAll}
 use Rattle.cover_core.specs.Labels.{IsCover}
 use Rattle.cover_core.proofs.Labels.{covers}
 use Rattle.label_search.specs.Laws.{GoodAs}
@@ -31,18 +32,25 @@ class-cover m marks class_prices class ordered placed there cover = record {
 not-below : (u v : ℤ) → ((u <ℤ v) → ⊥) → v ≤ℤ u
 not-below u v h = grind (arith, ints)
 
+-- under a cover no list of a class has a value below minus the class price, whatever the class prices are
+pub cover-at-least : {L : Type 0} (m : Marking L) (p : Problem) (prices : List Price) (marks : List L) (class_prices : List ℤ) → IsOrdered m → IsPlaced m → AreMarksOf m p prices →
+    IsMarkCover m marks class_prices → (class : ℕ) → class < length p.caps → IsAtMostAll p prices class (neg_ℤ (number_at class_prices class))
+cover-at-least {L = L} m p prices marks class_prices ordered placed marks_of cover class below = λ list worth e.
+    let same = marks_of.classes in
+    let there : class < m.classes = omega arith in
+    let tied = marks_of.tied class below in
+    let (b, has, closed) = tied.onto list worth e in
+    let (a, kept, good) = covers (of_class m class) (GoodAs m.good) (KeptIn m marks class) (ordered.kept class) (class-cover m marks class_prices class ordered placed there cover) list b has in
+    let (u, closes, below_value) = ordered.closes a b (value_of prices worth list) good closed in
+    let refuted : (u <ℤ neg_ℤ (number_at class_prices (m.class_of a))) → ⊥ = λ low. cover.closes a kept.0 (u, closes, low) in
+    let P : ℕ → Type 0 = λ k. neg_ℤ (number_at class_prices k) ≤ℤ u in
+    let least = subst P kept.1 (not-below u (neg_ℤ (number_at class_prices (m.class_of a))) refuted) in
+    omega (arith, ints, least, below_value)
+
 pub cover-is-paid : {L : Type 0} (m : Marking L) (p : Problem) (prices : List Price) → IsOrdered m → IsPlaced m → AreMarksOf m p prices → CoverIsPaid m p prices
 cover-is-paid {L = L} m p prices ordered placed marks_of marks class_prices charged cover = record {
   charged = λ class below. let same = marks_of.classes in charged class (omega arith);
   covered = λ class list worth below e.
-      let same = marks_of.classes in
-      let there : class < m.classes = omega arith in
-      let tied = marks_of.tied class below in
-      let (b, has, closed) = tied.onto list worth e in
-      let (a, kept, good) = covers (of_class m class) (GoodAs m.good) (KeptIn m marks class) (ordered.kept class) (class-cover m marks class_prices class ordered placed there cover) list b has in
-      let (u, closes, below_value) = ordered.closes a b (value_of prices worth list) good closed in
-      let refuted : (u <ℤ neg_ℤ (number_at class_prices (m.class_of a))) → ⊥ = λ low. cover.closes a kept.0 (u, closes, low) in
-      let P : ℕ → Type 0 = λ k. neg_ℤ (number_at class_prices k) ≤ℤ u in
-      let least = subst P kept.1 (not-below u (neg_ℤ (number_at class_prices (m.class_of a))) refuted) in
+      let least = cover-at-least m p prices marks class_prices ordered placed marks_of cover class below list worth e in
       omega (arith, ints);
 }

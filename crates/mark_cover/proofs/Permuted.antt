@@ -1,8 +1,8 @@
 -- Kept marks stay kept ones in another order.
-use Rattle.std.proofs.Common.{◌≡◌, ℕ, ◌<◌, List, length, get_or, refl, sym, ◌∙◌, true}
+use Rattle.std.proofs.Common.{List, length, refl, sym}
 use Rattle.std.proofs.lemmas.List.Sorted.{Contains-permutation, IsPermutation-sym}
 use Rattle.std.proofs.lemmas.Option.{slice_get_read, slice_get_within, get_or_from_slice_get}
-use Rattle.std.specs.Prelude.{Contains, Option, Some, slice_get}
+use Rattle.std.specs.Prelude.{Contains}
 use Rattle.std.specs.List.Sorted.{IsPermutation}
 use Rattle.mark_cover.specs.Marking.{Marking}
 use Rattle.mark_cover.specs.Covers.{StandsIn, IsMet}

@@ -1,19 +1,8 @@
 -- Marks made item by item: of those of one class and item only the ones to which no other is at least as good.
-use Rattle.std.specs.Prelude.{ℕ, ◌++◌, Bool, cond, not, zero, suc, List, [], ◌∷◌, Option, Some, None, filter}
-use Rattle.std.specs.List.{list_any}
+use Rattle.std.specs.Prelude.{◌≡◌, ℕ, ◌++◌, ◌<◌, ◌⊎◌, List, [], ◌∷◌, Option, Some, None, true}
 use Rattle.mark_cover.specs.Marking.{Marking}
-
--- whether a mark is not one that another is at least as good as
-abbrev pub stays : {L : Type 0} → Marking L → L → L → Bool
-stays m a b = not (m.good a b)
-
--- a mark is put last, unless another one is at least as good; those that it is at least as good as are taken out
-abbrev pub insert : {L : Type 0} → Marking L → List L → L → List L
-insert m marks a = cond (list_any (λ x. m.good x a) marks) marks (filter (stays m a) marks ++ a ∷ [])
-
-abbrev pub insert_all : {L : Type 0} → Marking L → List L → List L → List L
-insert_all m marks [] = marks
-insert_all m marks (a ∷ rest) = insert_all m (insert m marks a) rest
+use Rattle.mark_cover.specs.Covers.{StandsIn, IsMet}
+use Rattle.mark_cover.specs.Minimal.{IsOpenMark}
 
 abbrev pub listed : {L : Type 0} → Option L → List L
 listed None = []
@@ -24,16 +13,31 @@ abbrev pub nexts : {L : Type 0} → Marking L → List L → ℕ → List L
 nexts m [] item = []
 nexts m (a ∷ rest) item = listed (m.extend a item) ++ nexts m rest item
 
--- the marks of a class that end with an item, from those of the items before it
-abbrev pub level : {L : Type 0} → Marking L → ℕ → List L → ℕ → List L
-level m class marks item = insert_all m [] (listed (m.start class item) ++ nexts m marks item)
+-- no mark is at least as good as another one
+abbrev pub AreAlone : {L : Type 0} → Marking L → List L → Type 0
+AreAlone {L} m marks = (a b : L) → StandsIn marks a → StandsIn marks b → m.good a b ≡ true → a ≡ b
 
--- the marks of a class whose items are below n
-abbrev pub class_marks : {L : Type 0} → Marking L → ℕ → ℕ → List L
-class_marks m class zero = []
-class_marks m class (suc n) = class_marks m class n ++ level m class (class_marks m class n) n
+-- Candidates are put into marks: a mark was there or is a candidate, each candidate has a mark at least as good, so has each mark that had
+-- one before, and where no mark was at least as good as another one, none is now.
+pub record AreInserted {L : Type 0} (m : Marking L) (candidates old new : List L) : Type 0 where
+  pub only : (b : L) → StandsIn new b → StandsIn old b ⊎ StandsIn candidates b
+  pub met : (b : L) → StandsIn candidates b → IsMet m new b
+  pub keeps : (b : L) → IsMet m old b → IsMet m new b
+  pub alone : AreAlone m old → AreAlone m new
+
+-- the marks of one class up to an item
+pub record AreOfClass {L : Type 0} (m : Marking L) (class n : ℕ) (marks : List L) : Type 0 where
+  pub are_open : (a : L) → StandsIn marks a → IsOpenMark m a
+  pub in_class : (a : L) → StandsIn marks a → m.class_of a ≡ class
+  pub lasts : (a : L) → StandsIn marks a → m.last a < n
+  pub starts : (item : ℕ) (b : L) → item < n → m.start class item ≡ Some b → IsMet m marks b
+  pub steps : (a b : L) (item : ℕ) → StandsIn marks a → item < n → m.extend a item ≡ Some b → IsMet m marks b
+  pub alone : AreAlone m marks
 
 -- the marks of the classes below k
-abbrev pub all_marks : {L : Type 0} → Marking L → ℕ → List L
-all_marks m zero = []
-all_marks m (suc k) = all_marks m k ++ class_marks m k m.items
+pub record AreBelow {L : Type 0} (m : Marking L) (k : ℕ) (marks : List L) : Type 0 where
+  pub are_open : (a : L) → StandsIn marks a → IsOpenMark m a
+  pub classes : (a : L) → StandsIn marks a → m.class_of a < k
+  pub starts : (class item : ℕ) (b : L) → class < k → m.start class item ≡ Some b → IsMet m marks b
+  pub steps : (a b : L) (item : ℕ) → StandsIn marks a → m.extend a item ≡ Some b → IsMet m marks b
+  pub alone : AreAlone m marks

@@ -1,5 +1,5 @@
 -- What the searches for gaps find.
-use Rattle.std.specs.Prelude.{◌≡◌, ℕ, ℤ, neg_ℤ, ◌<◌, int_lt, Bool, true, false, not, List, Option, Some, None, slice_get}
+use Rattle.std.specs.Prelude.{◌≡◌, ℕ, ℤ, neg_ℤ, ◌<◌, ◌≤◌, int_lt, Bool, true, false, not, List, Option, Some, None, slice_get}
 use Rattle.std.specs.List.{list_any}
 use Rattle.cover_core.specs.declared.marks.Gap.{Gap}
 use Rattle.cover_core.specs.declared.marks.Gap.TheVariants.{First, Next, Close}
@@ -67,3 +67,11 @@ AreMetBelow {L} m marks bound = (k : ℕ) (b : L) → k < bound → slice_get ma
 -- the marks at places below a bound do not close too low
 abbrev pub AreHighBelow : {L : Type 0} → Marking L → List L → List ℤ → ℕ → Type 0
 AreHighBelow {L} m marks class_prices bound = (k : ℕ) (b : L) → k < bound → slice_get marks k ≡ Some b → is_low m class_prices b ≡ false
+
+-- the extensions by an item of all marks of a class are met
+abbrev pub AreMetBy : {L : Type 0} → Marking L → List L → ℕ → ℕ → Type 0
+AreMetBy {L} m marks class item = (k : ℕ) (a : L) → slice_get marks k ≡ Some a → m.class_of a ≡ class → is_unmet m marks (m.extend a item) ≡ false
+
+-- no mark from a place to another one is at least as good
+abbrev pub AreUnmetBetween : {L : Type 0} → Marking L → List L → ℕ → ℕ → L → Type 0
+AreUnmetBetween {L} m marks low high b = (k : ℕ) (a : L) → low ≤ k → k < high → slice_get marks k ≡ Some a → m.good a b ≡ false

@@ -1,14 +1,14 @@
 //! The first gap of a cover.
 #![tactic(auto)]
 
-ghost use Rattle.std.specs.Prelude.{◌≡◌, ◌<◌, ◌≤◌, ℕ, ℤ, neg_ℤ, pos, Some, None, IfSome, IfNone, true, length, slice_get};
+ghost use Rattle.std.specs.Prelude.{◌≡◌, ◌<◌, ◌≤◌, ℕ, ℤ, neg_ℤ, pos, Some, None, IfSome, IfNone, true, false, length, slice_get};
 ghost use Rattle.std.specs.Option.{option_map};
 ghost use Rattle.cover_core.specs.Plans.{number_at};
-ghost use Rattle.mark_cover.specs.Covers.{IsFirstGap, IsMarkCover};
+ghost use Rattle.mark_cover.specs.Covers.{ClosesBelow, IsFirstGap, IsMarkCover, StandsIn};
 ghost use Rattle.mark_cover.specs.Orders.{AreGrouped};
-ghost use Rattle.mark_cover.specs.Searches.{AreThere, IsFirstClosing, IsFirstStart, IsFirstStep, IsFirstWhere, is_below, is_low, is_met, is_unmet};
+ghost use Rattle.mark_cover.specs.Searches.{AreMetBy, AreThere, AreUnmetBetween, IsFirstClosing, IsFirstStart, IsFirstStep, IsFirstWhere, is_below, is_low, is_met, is_unmet};
 
-use crate::groups::{are_grouped, group};
+use crate::groups::{are_grouped, group, place_of};
 use crate::marks::Marks;
 use cover_core::Gap;
 
@@ -17,6 +17,27 @@ pub(crate) fn is_met_in<M: Marks>(m: &M, marks: &[M::Mark], made: &M::Open) -> b
     ensures { result ≡ is_met (M.marking m.now) marks.now (M.seen m.now made.now) }
 {
     marks.iter().any(|mark| m.is_as_good(mark, made))
+}
+
+/// The place of the first mark, from a place to another one, that is at least as good as that of an open list.
+pub(crate) fn good_place<M: Marks>(
+    m: &M,
+    marks: &[M::Mark],
+    made: &M::Open,
+    from: usize,
+    end: usize,
+) -> Option<usize>
+    requires { end ≤ length marks.now }
+    ensures within { IfSome result (λ place. place < length marks.now) }
+    ensures met { IfSome result (λ place. is_met (M.marking m.now) marks.now (M.seen m.now made.now) ≡ true) }
+    ensures none { IfNone result (AreUnmetBetween (M.marking m.now) marks.now from end (M.seen m.now made.now)) }
+{
+    for place in from..end {
+        if m.is_as_good(&marks[place], made) {
+            return Some(place);
+        }
+    }
+    None
 }
 
 /// Whether there is an open list that ends with an item of a class, and no mark is at least as good as its own.
@@ -82,8 +103,126 @@ fn mark_gap<M: Marks>(m: &M, marks: &[M::Mark], grouped: bool, mark: &M::Mark) -
     None
 }
 
-/// The first extension of a mark that is not met.
+/// A place, or a bound that it is past.
+fn at_most(place: usize, bound: usize) -> usize
+    ensures bound { result ≤ bound }
+    ensures place { place ≤ bound → result ≡ place }
+    ensures past { bound ≤ place → result ≡ bound }
+{
+    if place < bound { place } else { bound }
+}
+
+/// The place of a mark that is at least as good as that of an open list, where there is none from a place on.
+fn good_place_before<M: Marks>(
+    m: &M,
+    marks: &[M::Mark],
+    made: &M::Open,
+    near: usize,
+) -> Option<usize>
+    requires { AreUnmetBetween (M.marking m.now) marks.now near (length marks.now) (M.seen m.now made.now) }
+    ensures met { IfSome result (λ place. is_met (M.marking m.now) marks.now (M.seen m.now made.now) ≡ true) }
+    ensures none { IfNone result (is_met (M.marking m.now) marks.now (M.seen m.now made.now) ≡ false) }
+{
+    let end = at_most(near, marks.len());
+    match good_place(m, marks, made, 0, end) {
+        Some(place) => Some(place),
+        None => None,
+    }
+}
+
+/// The place of a mark that is at least as good as that of an open list, looked for from a place on and then before it: one that is at
+/// least as good as one open list's often is for the next one too, so it is looked at first.
+pub(crate) fn good_place_near<M: Marks>(
+    m: &M,
+    marks: &[M::Mark],
+    made: &M::Open,
+    near: usize,
+) -> Option<usize>
+    ensures met { IfSome result (λ place. is_met (M.marking m.now) marks.now (M.seen m.now made.now) ≡ true) }
+    ensures none { IfNone result (is_met (M.marking m.now) marks.now (M.seen m.now made.now) ≡ false) }
+{
+    match good_place(m, marks, made, near, marks.len()) {
+        Some(place) => Some(place),
+        None => good_place_before(m, marks, made, near),
+    }
+}
+
+/// The same, where there is an open list; else the place where to look next.
+fn near_met<M: Marks>(m: &M, marks: &[M::Mark], near: usize, made: Option<M::Open>) -> Option<usize>
+    ensures { IfSome result (λ place. is_unmet (M.marking m.now) marks.now (option_map (M.seen m.now) made) ≡ false) }
+{
+    match made {
+        None => Some(near),
+        Some(made) => good_place_near(m, marks, &made, near),
+    }
+}
+
+/// Whether the extensions by an item of all marks of a class are met, where the marks stand by class and last item.
+fn are_met_by<M: Marks>(m: &M, marks: &[M::Mark], class: u32, item: u32) -> bool
+    requires grouped { AreGrouped (M.marking m.now) marks.now }
+    requires there { AreThere (M.marking m.now) marks.now }
+    requires item { item < (M.marking m.now).items }
+    ensures { result ≡ true → AreMetBy (M.marking m.now) marks.now class item }
+{
+    let key = u64::from(item);
+    let from = place_of(m, marks, class, 0);
+    let end = place_of(m, marks, class, key);
+    let cell = group(m, marks, true, class, item);
+    let mut near = 0;
+    for place in from..end {
+        match near_met(m, cell, near, m.next(&marks[place], item)) {
+            Some(found) => near = found,
+            None => return false,
+        }
+    }
+    true
+}
+
+/// Whether the extensions of all marks of a class are met, where the marks stand by class and last item.
+fn are_met_in_class<M: Marks>(m: &M, marks: &[M::Mark], class: u32) -> bool
+    requires grouped { AreGrouped (M.marking m.now) marks.now }
+    requires there { AreThere (M.marking m.now) marks.now }
+    ensures { result ≡ true → (item : ℕ) → item < (M.marking m.now).items → AreMetBy (M.marking m.now) marks.now class item }
+{
+    for item in 0..m.items() {
+        if !are_met_by(m, marks, class, item) {
+            return false;
+        }
+    }
+    true
+}
+
+/// Whether the extensions of all marks are met, where the marks stand by class and last item.
+fn are_steps_met<M: Marks>(m: &M, marks: &[M::Mark]) -> bool
+    requires grouped { AreGrouped (M.marking m.now) marks.now }
+    requires there { AreThere (M.marking m.now) marks.now }
+    ensures { result ≡ true → IsFirstStep (M.marking m.now) marks.now None }
+{
+    for class in 0..m.classes() {
+        if !are_met_in_class(m, marks, class) {
+            return false;
+        }
+    }
+    true
+}
+
+/// The first extension of a mark that is not met. All are looked at by class and item before, which is faster, but does not tell the first.
 fn step_gap<M: Marks>(m: &M, marks: &[M::Mark], grouped: bool) -> Option<Gap>
+    requires grouped { grouped ≡ true → AreGrouped (M.marking m.now) marks.now }
+    requires there { AreThere (M.marking m.now) marks.now }
+    requires few { length marks.now < 4294967296 }
+    ensures { IsFirstStep (M.marking m.now) marks.now result }
+{
+    if grouped {
+        if are_steps_met(m, marks) {
+            return None;
+        }
+    }
+    first_step_gap(m, marks, grouped)
+}
+
+/// The first extension of a mark that is not met, looked for mark by mark.
+fn first_step_gap<M: Marks>(m: &M, marks: &[M::Mark], grouped: bool) -> Option<Gap>
     requires grouped { grouped ≡ true → AreGrouped (M.marking m.now) marks.now }
     requires there { AreThere (M.marking m.now) marks.now }
     requires few { length marks.now < 4294967296 }
@@ -144,6 +283,20 @@ fn closing_gap<M: Marks>(m: &M, marks: &[M::Mark], class_prices: &[i64]) -> Opti
         }
     }
     None
+}
+
+/// Whether a mark closes with a value below minus the price of its class. The classes and last items of the marks are there.
+pub fn closes_below<M: Marks>(m: &M, marks: &[M::Mark], class_prices: &[i64]) -> bool
+    requires there { AreThere (M.marking m.now) marks.now }
+    ensures some { result ≡ true → (a : M.Mark) × StandsIn marks.now a × ClosesBelow (M.marking m.now) class_prices.now a }
+    ensures none { result ≡ false → (a : M.Mark) → StandsIn marks.now a → ¬ ClosesBelow (M.marking m.now) class_prices.now a }
+{
+    for place in 0..marks.len() {
+        if closes_low(m, class_prices, &marks[place]) {
+            return true;
+        }
+    }
+    false
 }
 
 /// The first place where marks are no cover, by class prices: an open list of one item to which no mark is at least as good, an open

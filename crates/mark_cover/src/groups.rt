@@ -40,7 +40,7 @@ pub(crate) fn are_grouped<M: Marks>(m: &M, marks: &[M::Mark]) -> bool
 }
 
 /// The place of the first mark whose class and last item are not before these.
-fn place_of<M: Marks>(m: &M, marks: &[M::Mark], class: u32, item: u64) -> usize
+pub(crate) fn place_of<M: Marks>(m: &M, marks: &[M::Mark], class: u32, item: u64) -> usize
     requires { AreGrouped (M.marking m.now) marks.now }
     ensures within { result ≤ length marks.now }
     ensures early { AreEarly (M.marking m.now) marks.now class item result }

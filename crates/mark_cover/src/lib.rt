@@ -15,6 +15,6 @@ mod marks;
 mod tests;
 
 pub use covers::{cover_is_paid, kept_marks_are_minimal};
-pub use gaps::first_gap;
+pub use gaps::{closes_below, first_gap};
 pub use making::{OpenLists, make_marks};
 pub use marks::Marks;

@@ -1,12 +1,13 @@
 //! The marks of all open lists that are kept, made item by item.
 #![tactic(auto)]
 
-ghost use Rattle.std.specs.Prelude.{◌≡◌, ◌<◌, ◌++◌, [], Some, OnOk, IfOk, filter};
+ghost use Rattle.std.specs.Prelude.{◌≡◌, ◌<◌, ◌++◌, ◌∷◌, [], Some, OnOk, IfOk, false, filter, not};
 ghost use Rattle.std.specs.Option.{option_map};
-ghost use Rattle.mark_cover.specs.Levels.{all_marks, class_marks, insert, insert_all, level, listed, nexts, stays as stays_beside};
+ghost use Rattle.mark_cover.specs.Levels.{AreInserted, AreOfClass, listed, nexts};
 ghost use Rattle.mark_cover.specs.Minimal.{AreGiven, AreKept, AreSafe, IsApart};
+ghost use Rattle.mark_cover.specs.Searches.{is_met};
 
-use crate::gaps::is_met_in;
+use crate::gaps::good_place_near;
 use crate::marks::Marks;
 use plan_core::{Memory, Seq};
 use std::alloc::Global;
@@ -34,27 +35,23 @@ pub trait OpenLists: Marks {
 
 /// Whether a mark stays beside another one, which is not at least as good.
 fn stays<M: OpenLists>(m: &M, a: &M::Mark, b: &M::Mark) -> bool
-    ensures { result ≡ stays_beside (M.marking m.now) a.now b.now }
+    ensures { result ≡ not ((M.marking m.now).good a.now b.now) }
 {
     !m.beats(a, b)
 }
 
 /// Takes out the marks that a mark is at least as good as.
 fn take_out<M: OpenLists>(m: &M, marks: &mut Vec<M::Mark>, a: &M::Mark)
-    ensures { marks.new.items ≡ filter (stays_beside (M.marking m.now) a.now) marks.old.items }
+    ensures { marks.new.items ≡ filter (λ b. not ((M.marking m.now).good a.now b)) marks.old.items }
 {
     marks.retain(|mark| stays(m, a, mark));
 }
 
-/// Puts a mark last, unless another one is at least as good, and takes out those that it is at least as good as.
-fn insert_made<M: OpenLists>(m: &M, marks: &mut Vec<M::Mark>, made: M::Open) -> Result<(), Memory>
-    requires { M.sound m.now (M.seen m.now made) }
-    ensures { OnOk result (marks.new.items ≡ insert (M.marking m.now) marks.old.items (M.seen m.now made)) }
+/// Puts a mark last, where no other one is at least as good, and takes out those that it is at least as good as.
+fn push_best<M: OpenLists>(m: &M, marks: &mut Vec<M::Mark>, mark: M::Mark) -> Result<(), Memory>
+    requires { is_met (M.marking m.now) marks.old.items mark ≡ false }
+    ensures { OnOk result (AreInserted (M.marking m.now) (mark ∷ []) marks.old.items marks.new.items) }
 {
-    if is_met_in(m, marks.as_slice(), &made) {
-        return Ok(());
-    }
-    let mark = m.narrow(&made);
     take_out(m, marks, &mark);
     match marks.push(mark) {
         Ok(()) => Ok(()),
@@ -62,18 +59,38 @@ fn insert_made<M: OpenLists>(m: &M, marks: &mut Vec<M::Mark>, made: M::Open) -> 
     }
 }
 
+/// Puts the mark of an open list among marks. It looks first at a place where one may be at least as good, and answers where to look next.
+fn insert_made<M: OpenLists>(
+    m: &M,
+    marks: &mut Vec<M::Mark>,
+    near: usize,
+    made: M::Open,
+) -> Result<usize, Memory>
+    requires { M.sound m.now (M.seen m.now made) }
+    ensures { OnOk result (AreInserted (M.marking m.now) (M.seen m.now made ∷ []) marks.old.items marks.new.items) }
+{
+    match good_place_near(m, marks.as_slice(), &made, near) {
+        Some(place) => Ok(place),
+        None => {
+            push_best(m, marks, m.narrow(&made))?;
+            Ok(near)
+        }
+    }
+}
+
 /// The same, where there is a mark.
 fn insert_some<M: OpenLists>(
     m: &M,
     marks: &mut Vec<M::Mark>,
+    near: usize,
     made: Option<M::Open>,
-) -> Result<(), Memory>
+) -> Result<usize, Memory>
     requires { (b : M.Mark) → option_map (M.seen m.now) made ≡ Some b → M.sound m.now b }
-    ensures { OnOk result (marks.new.items ≡ insert_all (M.marking m.now) marks.old.items (listed (option_map (M.seen m.now) made))) }
+    ensures { OnOk result (AreInserted (M.marking m.now) (listed (option_map (M.seen m.now) made)) marks.old.items marks.new.items) }
 {
     match made {
-        Some(made) => insert_made(m, marks, made),
-        None => Ok(()),
+        Some(made) => insert_made(m, marks, near, made),
+        None => Ok(near),
     }
 }
 
@@ -86,10 +103,11 @@ fn insert_nexts<M: OpenLists>(
 ) -> Result<(), Memory>
     requires item { item < (M.marking m.now).items }
     requires given { AreGiven (M.marking m.now) (M.sound m.now) kept.now }
-    ensures { OnOk result (marks.new.items ≡ insert_all (M.marking m.now) marks.old.items (nexts (M.marking m.now) kept.now item)) }
+    ensures { OnOk result (AreInserted (M.marking m.now) (nexts (M.marking m.now) kept.now item) marks.old.items marks.new.items) }
 {
+    let mut near = 0;
     for place in 0..kept.len() {
-        insert_some(m, marks, m.next(&kept[place], item))?;
+        near = insert_some(m, marks, near, m.next(&kept[place], item))?;
     }
     Ok(())
 }
@@ -106,9 +124,9 @@ fn make_level<M: OpenLists>(
     requires item { item < (M.marking m.now).items }
     requires given { AreGiven (M.marking m.now) (M.sound m.now) kept.now }
     requires empty { marks.old.items ≡ [] }
-    ensures { OnOk result (marks.new.items ≡ level (M.marking m.now) class kept.now item) }
+    ensures { OnOk result (AreInserted (M.marking m.now) (listed ((M.marking m.now).start class item) ++ nexts (M.marking m.now) kept.now item) [] marks.new.items) }
 {
-    insert_some(m, marks, m.first(class, item))?;
+    insert_some(m, marks, 0, m.first(class, item))?;
     insert_nexts(m, kept, item, marks)
 }
 
@@ -126,7 +144,7 @@ fn keep<L: Copy>(kept: &mut Vec<L>, made: &mut Vec<L>) -> Result<(), Memory>
 /// Makes the marks of a class.
 fn make_class<M: OpenLists>(alloc: Global, m: &M, class: u32) -> Result<Vec<M::Mark>, Memory>
     requires { class < (M.marking m.now).classes }
-    ensures { IfOk result (λ marks. marks.items ≡ class_marks (M.marking m.now) class (M.marking m.now).items) }
+    ensures { IfOk result (λ marks. AreOfClass (M.marking m.now) class (M.marking m.now).items marks.items) }
 {
     let mut kept = Vec::new(alloc);
     let mut made = Vec::new(alloc);

@@ -1,5 +1,5 @@
 -- Kept marks in rising order are a cover, where all classes are paid.
-use Rattle.std.proofs.Common.{◌≡◌, ℕ, ℤ, neg_ℤ, ◌<◌, ◌<ℤ◌, Bool, true, List, [], ◌∷◌, length, Some, None, Option, refl, sym, subst, ◌∙◌, arith}
+use Rattle.std.proofs.Common.{◌≡◌, ℕ, ℤ, neg_ℤ, ◌<◌, ◌<ℤ◌, Bool, true, List, [], ◌∷◌, length, Some, None, Option, Result, Ok, Err, IfOk, refl, sym, subst, ◌∙◌, arith}
 use Rattle.std.proofs.lemmas.Int.{ints}
 use Rattle.std.proofs.lemmas.List.Elements.{All-from_recursion}
 use Rattle.std.proofs.lemmas.List.Kept.{AllPairs-cons}
@@ -13,9 +13,10 @@ use Rattle.plan_core.specs.declared.Price.{Price}
 use Rattle.cover_core.specs.Cover.{Problem}
 use Rattle.cover_core.specs.Labels.{label_after, label_of}
 use Rattle.cover_core.specs.Plans.{number_at}
-use Rattle.mark_cover.specs.Covers.{IsMarkCover, StandsIn}
+use Rattle.mark_cover.specs.Covers.{ClosesBelow, IsMarkCover, StandsIn}
 use Rattle.mark_cover.specs.Marking.{AreMarksOf, IsPlaced, Marking, of_class}
 use Rattle.mark_cover.specs.Minimal.{AreKept}
+use Rattle.mark_cover.specs.Searches.{AreThere}
 use Rattle.unpaid_list.specs.Laws.{TellsMarksApart}
 use Rattle.unpaid_list.specs.Unpaid.{AreClassesPaid}
 
@@ -56,6 +57,28 @@ module _ {L : Type 0} (m : Marking L) where
   list-class placed class [] b e = absurd (cc)
   list-class placed class (x ∷ xs) b e = after-class placed class (m.start class x) xs b (λ a is. (placed.starts class x a is).1) e
 
+  after-last : IsPlaced m → (class : ℕ) (o : Option L) (xs : List ℕ) (b : L) → ((a : L) → o ≡ Some a → m.last a < m.items) → label_after (of_class m class) o xs ≡ Some b → m.last b < m.items
+  after-last placed class None xs b known e = absurd (cc)
+  after-last placed class (Some a) [] b known e = known b e
+  after-last placed class (Some a) (x ∷ xs) b known e =
+      after-last placed class (m.extend a x) xs b (λ c is. let step = placed.steps a c x is in let below = step.1 in let same = step.3 in omega (arith, below, same)) e
+
+  list-last : IsPlaced m → (class : ℕ) (list : List ℕ) (b : L) → label_of (of_class m class) list ≡ Some b → m.last b < m.items
+  list-last placed class [] b e = absurd (cc)
+  list-last placed class (x ∷ xs) b e =
+      after-last placed class (m.start class x) xs b (λ a is. let first = placed.starts class x a is in let below = first.0 in let same = first.2 in omega (arith, below, same)) e
+
+  -- the classes and last items of kept marks are there
+  pub kept-there : (marks : List L) → IsPlaced m → AreKept m marks → AreThere m marks
+  kept-there marks placed kept = λ k a at.
+      let (class, there, list, has) = kept.are_open a (k, at) in
+      let same = list-class placed class list a has in
+      (omega (arith, there, same), list-last placed class list a has)
+
+  -- kept marks are a cover, where none of them closes below minus its class price
+  pub high-cover : (marks : List L) (class_prices : List ℤ) → AreKept m marks → ((a : L) → StandsIn marks a → ClosesBelow m class_prices a → ⊥) → IsMarkCover m marks class_prices
+  high-cover marks class_prices kept high = record { starts = kept.starts; steps = kept.steps; closes = high }
+
   -- no kept mark closes below minus its class price, since it is a list's mark, and that list would be unpaid
   pub paid-cover : (p : Problem) (prices : List Price) (class_prices : List ℤ) (marks : List L) → IsPlaced m → AreMarksOf m p prices → AreKept m marks →
       AreClassesPaid p prices class_prices (length p.caps) → IsMarkCover m marks class_prices
@@ -73,6 +96,11 @@ module _ {L : Type 0} (m : Marking L) where
         let less = subst P (list-class placed class list a has) under in
         omega (arith, ints, value, high, less);
   }
+
+-- what holds of a value holds of each answer that is this value
+pub ok-from : {A E : Type 0} (answer : Result A E) (a : A) (P : A → Type 0) → IfOk answer (λ x. x ≡ a) → P a → IfOk answer P
+ok-from (Ok x) a P same holds = subst P (sym same) holds
+ok-from (Err e) a P same holds = tt
 
 equal-of : (o : Ordering) → is_eq o ≡ true → o ≡ Equal
 equal-of Less e = absurd (cc)

@@ -12,7 +12,7 @@ ghost use Rattle.unpaid_list.specs.Unpaid.{AreClassesPaid, IsUnpaidCause};
 use crate::columns::first_unpaid;
 use crate::lists::ValuedLists;
 use cover_core::{Columns, CoverFault};
-use mark_cover::{kept_marks_are_minimal, make_marks};
+use mark_cover::{closes_below, kept_marks_are_minimal, make_marks};
 use plan_core::Seq;
 use std::alloc::Global;
 
@@ -29,10 +29,36 @@ fn put_in_order<T: Ord + Copy>(marks: Seq<T>) -> Seq<T>
     Seq::from_vec(items)
 }
 
+/// These marks, where they are a cover: a search is made only where one of them closes with a value below minus the price of its class.
+fn judged<C: Columns, M: ValuedLists>(
+    alloc: Global,
+    columns: &C,
+    m: &M,
+    class_prices: &[i64],
+    marks: Seq<M::Mark>,
+) -> Result<Seq<M::Mark>, CoverFault>
+    requires same { M.problem m.now ≡ C.problem columns.now }
+    requires kept { AreKept (M.marking m.now) marks }
+    ensures marks { IfOk result (λ answer. answer ≡ marks) }
+    ensures cover { OnOk result (IsMarkCover (M.marking m.now) marks class_prices.now) }
+    ensures paid { OnOk result (AreClassesPaid (C.problem columns.now) (M.prices m.now) class_prices.now (length (C.problem columns.now).caps)) }
+    ensures unpaid { IfErr result (λ fault. IsUnpaidCause (C.problem columns.now) (M.prices m.now) class_prices.now fault) }
+{
+    if !closes_below(m, marks.as_slice(), class_prices) {
+        return Ok(marks);
+    }
+    match first_unpaid(alloc, columns, m, class_prices) {
+        Err(_) => Err(CoverFault::Memory),
+        Ok(Some(column)) => Err(CoverFault::Unpaid { column }),
+        Ok(None) => Ok(marks),
+    }
+}
+
 /// The least cover of the open lists of a problem under prices and class prices: the marks of all open lists to which no other mark is at
 /// least as good, each once, in rising order. It is a cover, and so no list has a value below minus the price of its class.
 ///
-/// `columns` and `m` are of one problem, and the order of marks tells any two apart.
+/// `columns` and `m` are of one problem, and the order of marks tells any two apart. The marks are made first, and a list is searched for
+/// only where one of them closes with a value below minus the price of its class.
 ///
 /// # Errors
 ///
@@ -54,12 +80,8 @@ where
     ensures unpaid { IfErr result (λ fault. IsUnpaidCause (C.problem columns.now) (M.prices m.now) class_prices.now fault) }
 {
     kept_marks_are_minimal::<M>();
-    match first_unpaid(alloc, columns, m, class_prices) {
+    match make_marks(alloc, m) {
         Err(_) => Err(CoverFault::Memory),
-        Ok(Some(column)) => Err(CoverFault::Unpaid { column }),
-        Ok(None) => match make_marks(alloc, m) {
-            Err(_) => Err(CoverFault::Memory),
-            Ok(marks) => Ok(put_in_order(marks)),
-        },
+        Ok(marks) => judged(alloc, columns, m, class_prices, put_in_order(marks)),
     }
 }

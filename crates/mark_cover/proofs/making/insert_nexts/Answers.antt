@@ -15,4 +15,4 @@ loop-place-preserved g c =
     let below = c.loop-place-test.true in
     let at = slice_get_read c.args.kept.now (length c.args.kept.now) c.loop-place.place c.index-kept-place.result refl (omega arith) c.index-kept-place.is in
     insert-step (g.M.Marks.marking c.args.m.now) c.args.marks.now.items c.args.kept.now c.args.item c.loop-place.place c.index-kept-place.result
-    (option_map (g.M.Marks.seen c.args.m.now) c.next.result) c.loop-place.marks.items c.insert_some.new.marks.items at c.next.ensures c.loop-place.invariant c.in_ok-insert_some.ensures
+    (option_map (g.M.Marks.seen c.args.m.now) c.next.result) c.loop-place.marks.items c.insert_some.new.marks.items at c.next.ensures c.loop-place.invariant c.in_ok-near.ensures

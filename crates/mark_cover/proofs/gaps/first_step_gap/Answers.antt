@@ -2,7 +2,7 @@ use Rattle.std.proofs.Common.{◌≡◌, ◌<◌, ℕ, false, length, refl, arit
 use Rattle.std.proofs.lemmas.Option.{slice_get_read, slice_get_within}
 use Rattle.mark_cover.specs.Searches.{is_unmet}
 use Rattle.mark_cover.proofs.Firsts.{more}
-use Rattle.mark_cover.proofs.gaps.step_gap.Goals as goal
+use Rattle.mark_cover.proofs.gaps.first_step_gap.Goals as goal
 
 pub mark_gap-requires-clause-last : goal.mark_gap-requires-clause-last
 mark_gap-requires-clause-last g c =
