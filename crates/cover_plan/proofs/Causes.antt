@@ -7,8 +7,8 @@ use Rattle.dual_bound.specs.declared.kept.Kept.{Kept}
 use Rattle.cover_plan.specs.declared.fault.PlanFault.{PlanFault}
 use Rattle.cover_plan.specs.declared.fault.PlanFault.TheVariants as faults
 use Rattle.cover_plan.specs.Endings.{Numbers, HasPlaces, HasNoPlan}
-use Rattle.cover_plan.specs.Ends.{HasNone, IsCountBoundOf, IsPaidOffer, IsCause}
-use Rattle.cover_plan.specs.Steps.{IsCountCause, IsCostCause}
+use Rattle.cover_plan.specs.Ends.{HasNone, IsCountBoundOf, IsCountCause, IsPaidOffer, IsCause}
+use Rattle.cover_plan.specs.Steps.{IsCostCause}
 
 module _ (counted costed : Problem) (counts : IsCountOf costed counted) where
   prices_there : (kept : Kept) → IsPaidOffer counted kept → length kept.prices.items ≡ costed.items
@@ -34,10 +34,10 @@ module _ (counted costed : Problem) (counts : IsCountOf costed counted) where
       above counted none.count.prices.items none.count.class_prices counts (prices_there none.count paid) (class_prices_there none.count paid) paid.paid
       (subst Q (none.places_are ∙ ap (λ (l : List ℕ). sum l) counts.caps) over)
 
-  pub count_cause : (numbers : Numbers) (fault : PlanFault) → NoPlanAbove costed → IsCountCause counted numbers fault → IsCause counted costed numbers fault
-  count_cause numbers (faults.NoPlan bound places) above h = (h.0, has_none numbers bound places h.0 above h.1)
-  count_cause numbers (faults.NotPlaced item partial) above h = absurd h
-  count_cause numbers faults.Memory above h = tt
+  pub count_cause : (numbers : Numbers) (fault : PlanFault) → IsCountCause counted costed numbers fault → IsCause counted costed numbers fault
+  count_cause numbers (faults.NoPlan bound places) h = h
+  count_cause numbers (faults.NotPlaced item partial) h = absurd h
+  count_cause numbers faults.Memory h = tt
 
   pub cost_cause : (numbers : Numbers) (count : Kept) (fault : PlanFault) → HasPlaces counted numbers count → IsCostCause costed numbers fault → IsCause counted costed numbers fault
   cost_cause numbers count (faults.NoPlan bound places) has h = absurd h

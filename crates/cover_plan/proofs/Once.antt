@@ -1,5 +1,5 @@
 -- Planning ends in one way alone.
-use Rattle.std.proofs.Common.{◌≡◌, ◌≢◌, ℕ, ℤ, ◌<◌, ◌≤◌, nat_lt, Bool, true, false, zero, suc, List, [], ◌∷◌, ◌++◌, All, refl, sym, ap, ◌∙◌, subst, arith}
+use Rattle.std.proofs.Common.{◌≡◌, ◌≢◌, ℕ, ℤ, ◌<◌, ◌≤◌, nat_lt, Bool, true, false, zero, suc, List, [], ◌∷◌, ◌++◌, All, Option, Some, None, refl, sym, ap, ◌∙◌, subst, arith}
 use Rattle.std.specs.FinMap.{nat_cmp-IsAntisymmetric, int_cmp-IsAntisymmetric}
 use Rattle.std.specs.Ordering.{nat_cmp, int_cmp, ordering_then}
 use Rattle.std.specs.declared.cmp.Ordering.{Ordering}
@@ -20,7 +20,8 @@ use Rattle.tail_exchange.specs.Order.{rank, candidate_cmp}
 use Rattle.tail_exchange.specs.Exchange.{applied, IsStep, NoneLowers, Leads}
 use Rattle.tail_exchange.proofs.Leasts.{candidate_total}
 use Rattle.price_rounds.specs.Rounds.{after_rounds, all_offers, IsFirstGreatest}
-use Rattle.cover_plan.specs.Endings.{Numbers, IsFirstKept, IsKept, IsImproved, HasPlaces, IsMade, IsRounded, HasNoPlan, LeavesBy, RoundingLeaves, Ending, planned, no_plan, not_placed, EndsAs}
+use Rattle.cover_plan.specs.Endings.{Numbers, IsFirstKept, IsKept, IsImproved, HasPlaces, IsMade, IsRounded, HasNoPlan, LeavesBy, RoundingLeaves, Ending, planned, no_plan, not_placed, EndsAs, EndsBy, EndsKnown}
+use Rattle.cover_plan.specs.declared.known.KnownPlan.{KnownPlan}
 use Rattle.cover_plan.proofs.Methods.{first_kept, rounded_made, rounding_leaves}
 use Rattle.cover_plan.proofs.Orders.{one_by_value, then_equal, reversed_greater}
 
@@ -256,3 +257,20 @@ module _ (counted costed : Problem) (numbers : Numbers) (fixed : numbers.climb �
       let other : RoundingLeaves costed numbers j b = rounding_leaves costed numbers j b fixed m.leaves in
       let same : left i a ≡ left j b = one_rounding costed other.cost.prices.items (after_rounds costed numbers.rounds).pool (left i a) (left j b) (at_other one.cost other.cost (left i a) one.kept other.kept one.rounds) other.rounds in
       ap (λ (n : ℕ). not_placed n a) (same_item i j a b same) ∙ ap (λ (l : List Column). not_placed j l) (same_part i j a b same)
+
+  -- where a plan is known, all but the first pass is given
+  known_ending : (known : KnownPlan) (one other : Ending) → EndsKnown counted numbers known one → EndsKnown counted numbers known other → one ≡ other
+  known_ending known (planned c k a) (planned d l b) h m =
+      ap (λ (x : Kept). planned x k a) (same_kept counted c d h.0.kept m.0.kept)
+      ∙ ap (λ (x : Kept). planned d x a) (h.1 ∙ sym m.1)
+      ∙ ap (λ (x : List Column). planned d l x) (h.2 ∙ sym m.2)
+  known_ending known (planned c k a) (no_plan bound places) h m = absurd (no_places bound places c m h.0)
+  known_ending known (planned c k a) (not_placed item b) h m = absurd m
+  known_ending known (no_plan bound places) (planned d l b) h m = absurd (no_places bound places d h m.0)
+  known_ending known (no_plan bound places) (no_plan bound' places') h m = one_ending (no_plan bound places) (no_plan bound' places') h m
+  known_ending known (no_plan bound places) (not_placed item b) h m = absurd m
+  known_ending known (not_placed item a) other h m = absurd h
+
+  pub one_ending_by : (known : Option KnownPlan) (one other : Ending) → EndsBy counted costed numbers known one → EndsBy counted costed numbers known other → one ≡ other
+  one_ending_by None one other h m = one_ending one other h m
+  one_ending_by (Some known) one other h m = known_ending known one other h m

@@ -1,6 +1,6 @@
 -- How planning ends, as it is defined: from a problem with each worth 1 and one with costs, and from numbers of rounds and steps. There are
 -- two methods: that of fixed rounds is defined step by step, and ends in one way alone; climbing is told by what it promises.
-use Rattle.std.specs.Prelude.{◌≡◌, ℕ, ◌<◌, ◌≤◌, Bool, true, false, List, sum}
+use Rattle.std.specs.Prelude.{◌≡◌, ℕ, ◌<◌, ◌≤◌, Bool, true, false, List, Option, Some, None, sum}
 use Rattle.cover_core.specs.declared.Column.{Column}
 use Rattle.cover_core.specs.Cover.{Problem}
 use Rattle.cover_core.specs.Plans.{IsPlan}
@@ -10,6 +10,7 @@ use Rattle.plan_round.specs.Faults.{RoundsTo}
 use Rattle.plan_round.specs.Laws.{HasRoomForEach, IsStuck}
 use Rattle.tail_exchange.specs.Exchange.{Leads, NoneLowers}
 use Rattle.price_rounds.specs.declared.effort.Effort.{Effort}
+use Rattle.cover_plan.specs.declared.known.KnownPlan.{KnownPlan}
 use Rattle.price_rounds.specs.Rounds.{after_rounds, all_offers, IsFirstGreatest}
 use Rattle.price_rounds.specs.Steps.{IsOffer}
 
@@ -110,6 +111,19 @@ EndsAs counted costed numbers (planned count cost columns) = IsPlanned counted c
 EndsAs counted costed numbers (no_plan bound places) = HasNoPlan counted numbers bound places
 EndsAs counted costed numbers (not_placed item partial) = LeavesItem counted costed numbers item partial
 
+-- planning ends so where a plan is known: the first pass is made, and the known plan with its offer stands for the second one
+abbrev pub EndsKnown : Problem → Numbers → KnownPlan → Ending → Type 0
+EndsKnown counted numbers known (planned count cost columns) = HasPlaces counted numbers count × (cost ≡ known.cost) × (columns ≡ known.plan.columns)
+EndsKnown counted numbers known (no_plan bound places) = HasNoPlan counted numbers bound places
+EndsKnown counted numbers known (not_placed item partial) = ⊥
+
+-- planning ends so, where a plan is known or none is
+abbrev pub EndsBy : Problem → Problem → Numbers → Option KnownPlan → Ending → Type 0
+EndsBy counted costed numbers None ending = EndsAs counted costed numbers ending
+EndsBy counted costed numbers (Some known) ending = EndsKnown counted numbers known ending
+
 -- planning by the method of fixed rounds ends in one way alone
 abbrev pub EndsOnce : Problem → Problem → Type 0
-EndsOnce counted costed = (numbers : Numbers) → numbers.climb ≡ false → (one other : Ending) → EndsAs counted costed numbers one → EndsAs counted costed numbers other → one ≡ other
+EndsOnce counted costed =
+    (numbers : Numbers) → numbers.climb ≡ false → (known : Option KnownPlan) (one other : Ending) → EndsBy counted costed numbers known one →
+    EndsBy counted costed numbers known other → one ≡ other

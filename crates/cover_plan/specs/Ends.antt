@@ -25,6 +25,12 @@ pub record IsPaidOffer (p : Problem) (kept : Kept) : Type 0 where
   pub paid : IsPaid p kept.prices.items kept.class_prices
   pub bound : kept.bound ≡ bound_of kept.prices.items kept.class_prices p.caps
 
+-- why the first pass ends planning: its bound is above the sum of all caps, and then there is no plan
+abbrev pub IsCountCause : Problem → Problem → Numbers → PlanFault → Type 0
+IsCountCause counted costed numbers (faults.NoPlan bound places) = HasNoPlan counted numbers bound places × HasNone costed
+IsCountCause counted costed numbers (faults.NotPlaced item partial) = ⊥
+IsCountCause counted costed numbers faults.Memory = Unit {0}
+
 -- why there is no plan; want of memory needs no cause
 abbrev pub IsCause : Problem → Problem → Numbers → PlanFault → Type 0
 IsCause counted costed numbers (faults.NoPlan bound places) = HasNoPlan counted numbers bound places × HasNone costed

@@ -10,14 +10,7 @@ use Rattle.plan_round.specs.Laws.{HasRoomForEach, IsStuck}
 use Rattle.price_rounds.specs.Rounds.{after_rounds}
 use Rattle.cover_plan.specs.declared.fault.PlanFault.{PlanFault}
 use Rattle.cover_plan.specs.declared.fault.PlanFault.TheVariants as faults
-use Rattle.cover_plan.specs.Endings.{Numbers, IsFirstKept, HasNoPlan, LeavesBy}
-use Rattle.cover_plan.specs.Ends.{IsPaidOffer}
-
--- why the first pass ends planning
-abbrev pub IsCountCause : Problem → Numbers → PlanFault → Type 0
-IsCountCause counted numbers (faults.NoPlan bound places) = (none : HasNoPlan counted numbers bound places) × IsPaidOffer counted none.count
-IsCountCause counted numbers (faults.NotPlaced item partial) = ⊥
-IsCountCause counted numbers faults.Memory = Unit {0}
+use Rattle.cover_plan.specs.Endings.{Numbers, IsFirstKept, LeavesBy}
 
 -- rounding of the second pass leaves an item
 pub record LeavesOf (costed : Problem) (numbers : Numbers) (item : ℕ) (partial : Plan) : Type 0 where

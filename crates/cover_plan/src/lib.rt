@@ -2,7 +2,7 @@
 //!
 //! Blocks of vehicles and duties of drivers are planned by the same call. Two passes of price rounds give the bounds and a pool of
 //! columns; the pool is rounded to a plan, and exchange steps make it cheaper. How planning ends is defined without workers
-//! (`specs/Endings.antt`), and in one way alone ([`ends_once`]).
+//! (`specs/Endings.antt`), and in one way alone ([`ends_once`]). The first pass can be had alone, where a plan is known ([`count_of`]).
 //!
 //! The other method, climbing, finds plan and bounds in its own way. Its plans are plans and its bounds are bounds as well; how it ends is
 //! not defined as a function, so that it ends in one way for any number of workers is no theorem here.
@@ -10,11 +10,13 @@
 
 mod climbing;
 mod fault;
+mod known;
 mod laws;
 mod making;
 mod planned;
 
 pub use fault::PlanFault;
+pub use known::KnownPlan;
 pub use laws::ends_once;
-pub use making::plan_of;
+pub use making::{count_of, plan_of};
 pub use planned::Planned;

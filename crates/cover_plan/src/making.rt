@@ -10,8 +10,8 @@ ghost use Rattle.worker_price.specs.Work.{ArePricesFor};
 ghost use Rattle.price_rounds.specs.Efforts.{IsEffort};
 ghost use Rattle.price_rounds.specs.Rounds.{after_rounds, IsBoundOf};
 ghost use Rattle.cover_plan.specs.Endings.{HasPlaces, IsFirstKept, IsKept, IsMade, IsPlanned, IsRounded, numbers_of};
-ghost use Rattle.cover_plan.specs.Ends.{IsCause, IsCountBoundOf, IsPaidOffer};
-ghost use Rattle.cover_plan.specs.Steps.{IsCountCause, IsCostCause, IsRoundedCause, HasPool};
+ghost use Rattle.cover_plan.specs.Ends.{IsCause, IsCountBoundOf, IsCountCause, IsPaidOffer};
+ghost use Rattle.cover_plan.specs.Steps.{IsCostCause, IsRoundedCause, HasPool};
 
 use crate::climbing::{climbed_count, climbed_plan};
 use crate::fault::PlanFault;
@@ -71,19 +71,29 @@ fn kept_count<R: Threads + Sync, P: Pricer + Sync, G: Gate + Sync>(
     }
 }
 
-/// The kept offer with each worth 1, where its bound is not above the sum of all caps.
-fn count_offer<R: Threads + Sync, P: Pricer + Sync, G: Gate + Sync>(
+/// The first pass alone: the kept offer with each worth 1, by the method of the effort. No plan has fewer columns than its bound.
+///
+/// `counted` is the problem with each worth 1, and `costed` the one with costs, of whose plans the bound speaks.
+///
+/// # Errors
+///
+/// `NoPlan` exactly where the bound is above the sum of all caps; then there is no plan. And `Memory`.
+pub fn count_of<R: Threads + Sync, P: Pricer + Sync, G: Gate + Sync>(
     rt: &R,
     alloc: Global,
     counted: &P,
+    costed: &P,
     effort: &Effort,
     gate: &G,
 ) -> Result<Kept, PlanFault>
     requires effort { IsEffort effort.now }
+    requires counts { IsCountOf (P.problem costed.now) (P.problem counted.now) }
     ensures counts { IfOk result (HasPlaces (P.problem counted.now) (numbers_of effort.now)) }
+    ensures bound { IfOk result (λ kept. IsCountBoundOf (P.problem costed.now) kept.bound) }
     ensures paid { IfOk result (IsPaidOffer (P.problem counted.now)) }
-    ensures cause { IfErr result (IsCountCause (P.problem counted.now) (numbers_of effort.now)) }
+    ensures cause { IfErr result (IsCountCause (P.problem counted.now) (P.problem costed.now) (numbers_of effort.now)) }
 {
+    plan_sizes::<P>();
     match kept_count(rt, alloc, counted, effort, gate) {
         Err(Memory) => Err(PlanFault::Memory),
         Ok(kept) => {
@@ -208,8 +218,7 @@ pub fn plan_of<R: Threads + Sync, P: Pricer + Sync, G: Gate + Sync>(
     ensures cost_paid { IfOk result (λ r. IsPaidOffer (P.problem costed.now) r.cost) }
     ensures cause { IfErr result (IsCause (P.problem counted.now) (P.problem costed.now) (numbers_of effort.now)) }
 {
-    plan_sizes::<P>();
-    match count_offer(rt, alloc, counted, effort, gate) {
+    match count_of(rt, alloc, counted, costed, effort, gate) {
         Err(fault) => Err(fault),
         Ok(count) => match cost_plan(rt, alloc, costed, effort, gate) {
             Err(fault) => Err(fault),

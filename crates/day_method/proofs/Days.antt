@@ -3,7 +3,7 @@ use Rattle.std.proofs.Common.{◌≡◌, ℕ, true, false, List, sym, ap, ◌∙
 use Rattle.cover_core.specs.declared.Column.{Column}
 use Rattle.dual_bound.specs.declared.kept.Kept.{Kept}
 use Rattle.cover_plan.specs.Endings.{Numbers, Ending, planned, no_plan, not_placed, EndsAs}
-use Rattle.cover_plan.proofs.Once.{one_ending}
+use Rattle.cover_plan.proofs.Once.{one_ending, one_ending_by}
 use Rattle.day_method.specs.Method.{DayProblems, SidePlan, DayEnding, with_duties, blocks_after, DutiesEndAs, GoesOn, DayEndsAs}
 
 one_duties : (day : DayProblems) (numbers : Numbers) → numbers.climb ≡ false → (blocks : SidePlan) (one other : DayEnding) → DutiesEndAs day numbers blocks one → DutiesEndAs day numbers blocks other → one ≡ other
@@ -17,6 +17,6 @@ one_further day numbers fixed (not_placed item partial) one other h k = h ∙ sy
 
 pub one_day : (day : DayProblems) (numbers : Numbers) → numbers.climb ≡ false → (one other : DayEnding) → DayEndsAs day numbers one → DayEndsAs day numbers other → one ≡ other
 one_day day numbers fixed one other h k =
-    let same : h.blocks ≡ k.blocks = one_ending (day.blocks true) (day.blocks false) numbers fixed h.blocks k.blocks h.ends k.ends in
+    let same : h.blocks ≡ k.blocks = one_ending_by (day.blocks true) (day.blocks false) numbers fixed day.known_blocks h.blocks k.blocks h.ends k.ends in
     let P : Ending → Type 0 = λ e. GoesOn day numbers e one in
     one_further day numbers fixed k.blocks one other (subst P same h.goes_on) k.goes_on

@@ -1,18 +1,21 @@
 -- How a day is planned, as it is defined: its blocks, and then duties over the pieces of the blocks. Four passes are made, and the first
 -- that gives no plan ends the planning. No worker occurs here.
-use Rattle.std.specs.Prelude.{◌≡◌, ℕ, Bool, true, false, List}
+use Rattle.std.specs.Prelude.{◌≡◌, ℕ, Bool, true, false, List, Option}
 use Rattle.cover_core.specs.declared.Column.{Column}
 use Rattle.cover_core.specs.Cover.{Problem}
 use Rattle.dual_bound.specs.declared.kept.Kept.{Kept}
-use Rattle.cover_plan.specs.Endings.{Numbers, Ending, EndsAs}
+use Rattle.cover_plan.specs.declared.known.KnownPlan.{KnownPlan}
+use Rattle.cover_plan.specs.Endings.{Numbers, Ending, EndsAs, EndsBy}
 use Rattle.cover_plan.specs.Endings.{planned, no_plan, not_placed}
 use Rattle.day_method.specs.declared.side.Side.{Side}
 use Rattle.day_method.specs.declared.side.Side.TheVariants.{Vehicles, Drivers}
 
 -- The problems of a day, each counted (true) or with costs (false), and how their plans are written: with the items that stand for
--- several written out, and then in printed order. The duties are those over the pieces of blocks in printed order.
+-- several written out, and then in printed order. The duties are those over the pieces of blocks in printed order. A plan of blocks may
+-- be known: then only the first pass is made for them, and no pass with costs.
 pub record DayProblems : Type 0 where
   pub blocks : Bool → Problem
+  pub known_blocks : Option KnownPlan
   pub written_blocks : List Column → List Column
   pub printed_blocks : List Column → List Column
   pub duties : List Column → Bool → Problem
@@ -60,7 +63,7 @@ GoesOn day numbers (not_placed item partial) ending = ending ≡ left_out Vehicl
 -- the day ends so: its blocks are planned, and where they are, its duties
 pub record DayEndsAs (day : DayProblems) (numbers : Numbers) (ending : DayEnding) : Type 0 where
   pub blocks : Ending
-  pub ends : EndsAs (day.blocks true) (day.blocks false) numbers blocks
+  pub ends : EndsBy (day.blocks true) (day.blocks false) numbers day.known_blocks blocks
   pub goes_on : GoesOn day numbers blocks ending
 
 -- a day that is planned by fixed rounds ends in one way alone
