@@ -1,0 +1,5 @@
+pub mod Bridge
+pub mod FlowPlans
+pub mod Laid
+pub mod Listed
+pub mod Unique

@@ -1,0 +1,5 @@
+pub mod Paths
+pub mod DayNets
+pub mod DayLaws
+pub mod Flows
+pub mod Examples
