@@ -7,7 +7,7 @@ use Rattle.std.specs.Str.{bytes_eq}
 use Rattle.std.specs.Str.Parse.{digits_value}
 use Rattle.price_rounds.specs.declared.effort.Effort.{Effort}
 use Rattle.command_words.specs.declared.options.Allowed.{Allowed}
-use Rattle.command_words.specs.declared.options.Allowed.TheVariants.{Nothing, Planning, Everything}
+use Rattle.command_words.specs.declared.options.Allowed.TheVariants.{Nothing, Planning, Making}
 use Rattle.command_words.specs.declared.options.Given.{Given}
 use Rattle.command_words.specs.declared.options.Settings.{Settings}
 
@@ -17,9 +17,9 @@ is_option [] = false
 is_option (b ∷ []) = false
 is_option (b ∷ c ∷ word) = b == 45
 
--- the two flags: options without a value
+-- the three flags: options without a value
 abbrev pub is_flag : List ℕ → Bool
-is_flag word = bytes_eq word (codes "--run") || bytes_eq word (codes "--climb")
+is_flag word = bytes_eq word (codes "--run") || (bytes_eq word (codes "--climb") || bytes_eq word (codes "--flow"))
 
 -- an option may have its value behind a `=`
 abbrev pub has_mark : List ℕ → Bool
@@ -91,11 +91,16 @@ with_run given = if given.run then None else Some (record given { run = true })
 abbrev pub with_climb : Given → Option Given
 with_climb given = if given.climb then None else Some (record given { climb = true })
 
+-- that the blocks of a day with one pool are those of its flow plan, which was not said before
+abbrev pub with_flow : Given → Option Given
+with_flow given = if given.flow then None else Some (record given { flow = true })
+
 -- one more flag
 abbrev pub with_flag : Given → List ℕ → Option Given
 with_flag given word =
     if bytes_eq word (codes "--run") then with_run given else
-    (if bytes_eq word (codes "--climb") then with_climb given else None)
+    (if bytes_eq word (codes "--climb") then with_climb given else
+    (if bytes_eq word (codes "--flow") then with_flow given else None))
 
 abbrev pub given_after : Given → List Said → Option Given
 given_after given [] = Some given
@@ -108,21 +113,21 @@ abbrev pub given_with : Given → Option (List ℕ) → List (List ℕ) → Opti
 given_with given waiting words = given_after given (said_after waiting words)
 
 abbrev pub none_given : Given
-none_given = record { workers = None; rounds = None; lower = None; exchange = None; climb = false; trips = None; run = false }
+none_given = record { workers = None; rounds = None; lower = None; exchange = None; climb = false; flow = false; trips = None; run = false }
 
 -- no option of planning is given
 abbrev pub plans_nothing : Given → Bool
-plans_nothing given = is_none given.workers && (is_none given.rounds && (is_none given.lower && (is_none given.exchange && not given.climb)))
+plans_nothing given = is_none given.workers && (is_none given.rounds && (is_none given.lower && (is_none given.exchange && (not given.climb && not given.flow))))
 
 -- no option of making a day is given
 abbrev pub makes_nothing : Given → Bool
 makes_nothing given = is_none given.trips && not given.run
 
--- a command takes no options, those of planning, or these and those of making a day
+-- a command takes no options, those of planning, or those of making a day: all but the flow
 abbrev pub is_allowed : Allowed → Given → Bool
 is_allowed Nothing given = plans_nothing given && makes_nothing given
 is_allowed Planning given = makes_nothing given
-is_allowed Everything given = true
+is_allowed Making given = not given.flow
 
 -- the effort that options ask for: 1 worker, 40 rounds, 20 lowering rounds and 20 exchange steps unless said; and climbing where it is said
 abbrev pub effort_of : Given → Effort
@@ -140,9 +145,9 @@ in_range effort =
     (nat_le 1 effort.workers && nat_le effort.workers 64)
     && ((nat_le 1 effort.rounds && nat_le effort.rounds 200) && ((nat_le 1 effort.lower && nat_le effort.lower 50) && nat_le effort.exchange 1000))
 
--- what options set: an effort; 240 trips of a made day unless said; and whether that day is planned
+-- what options set: an effort; whether the flow is asked for; 240 trips of a made day unless said; and whether that day is planned
 abbrev pub settings_of : Given → Settings
-settings_of given = record { effort = effort_of given; trips = unwrap_or given.trips 240; run = given.run }
+settings_of given = record { effort = effort_of given; flow = given.flow; trips = unwrap_or given.trips 240; run = given.run }
 
 -- an effort in its ranges, and 1 to 3,000 trips
 abbrev pub are_in_range : Settings → Bool

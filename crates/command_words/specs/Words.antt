@@ -8,7 +8,7 @@ use Rattle.std.specs.Str.Parse.{digits_value}
 use Rattle.price_rounds.specs.declared.effort.Effort.{Effort}
 use Rattle.command_words.specs.Options.{plain_of, said, settings_said}
 use Rattle.command_words.specs.declared.options.Allowed.{Allowed}
-use Rattle.command_words.specs.declared.options.Allowed.TheVariants.{Nothing, Planning, Everything}
+use Rattle.command_words.specs.declared.options.Allowed.TheVariants.{Nothing, Planning, Making}
 use Rattle.command_words.specs.declared.options.Settings.{Settings}
 use Rattle.command_words.specs.declared.command.Command.{Command}
 use Rattle.command_words.specs.declared.command.Command.TheVariants as commands
@@ -73,14 +73,14 @@ name_of word =
     (if bytes_eq word (codes "make") then Some Make else
     (if bytes_eq word (codes "week") then Some Week else None))))))
 
--- planning takes options, with a certificate too, and making a day takes them and more
+-- planning takes options, with a certificate too, and making a day takes others
 abbrev pub allowed_of : CommandName → Allowed
 allowed_of Trips = Nothing
 allowed_of Day = Nothing
 allowed_of Plan = Planning
 allowed_of Certify = Planning
 allowed_of Check = Nothing
-allowed_of Make = Everything
+allowed_of Make = Making
 allowed_of Week = Nothing
 
 -- the first of the words
@@ -93,10 +93,10 @@ abbrev pub day_said : List (List ℕ) → List ℕ
 day_said words = first_word (plain_words (drop 1 words))
 
 -- a request for a day and files
-abbrev pub day_request : Command → Effort → List (List ℕ) → Option Request
-day_request command effort words =
+abbrev pub day_request : Command → Settings → List (List ℕ) → Option Request
+day_request command settings words =
     if are_day_and_files words
-    then Some (record { command = command; effort = effort; day = digits_value 10 (first_word words); names = drop 1 words })
+    then Some (record { command = command; effort = settings.effort; flow = settings.flow; day = digits_value 10 (first_word words); names = drop 1 words })
     else None
 
 -- A request to check a plan and its certificate: a day, the plan, the certificate, and 1 to 64 files. The files are read first.
@@ -106,7 +106,7 @@ check_request effort (day ∷ []) = None
 check_request effort (day ∷ plan ∷ []) = None
 check_request effort (day ∷ plan ∷ cert ∷ files) =
     if are_day_and_files (day ∷ files) && (file_word plan && file_word cert)
-    then Some (record { command = commands.Check; effort = effort; day = digits_value 10 day; names = files ++ plan ∷ cert ∷ [] })
+    then Some (record { command = commands.Check; effort = effort; flow = false; day = digits_value 10 day; names = files ++ plan ∷ cert ∷ [] })
     else None
 
 -- the day of a calendar that is made
@@ -118,6 +118,7 @@ abbrev pub make_request : Settings → ℕ → Request
 make_request settings seed = record {
   command = commands.Make (record { seed = seed; trips = settings.trips; run = settings.run });
   effort = settings.effort;
+  flow = false;
   day = made_day;
   names = [];
 }
@@ -129,14 +130,14 @@ is_roster (file ∷ others) = file_word file && no_words others
 
 -- a request for a roster, which has days of its own
 abbrev pub week_request : Effort → List (List ℕ) → Option Request
-week_request effort words = if is_roster words then Some (record { command = commands.Week; effort = effort; day = 0; names = words }) else None
+week_request effort words = if is_roster words then Some (record { command = commands.Week; effort = effort; flow = false; day = 0; names = words }) else None
 
 -- a request by the name of its command, what its options set, and its plain words
 abbrev pub request_for : CommandName → Settings → List (List ℕ) → Option Request
-request_for Trips settings words = day_request commands.Trips settings.effort words
-request_for Day settings words = day_request commands.Day settings.effort words
-request_for Plan settings words = day_request commands.Plan settings.effort words
-request_for Certify settings words = day_request commands.Certify settings.effort words
+request_for Trips settings words = day_request commands.Trips settings words
+request_for Day settings words = day_request commands.Day settings words
+request_for Plan settings words = day_request commands.Plan settings words
+request_for Certify settings words = day_request commands.Certify settings words
 request_for Check settings words = check_request settings.effort words
 request_for Make settings words = option_map (make_request settings) (seed_said words)
 request_for Week settings words = week_request settings.effort words

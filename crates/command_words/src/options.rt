@@ -17,10 +17,10 @@ use price_rounds::Effort;
 pub(crate) enum Allowed {
     /// None.
     Nothing,
-    /// Those of planning: `--workers`, `--rounds`, `--lower`, `--exchange` and `--climb`.
+    /// Those of planning: `--workers`, `--rounds`, `--lower`, `--exchange` and `--climb`; and `--flow`.
     Planning,
-    /// Those of planning, and those of making a day: `--trips` and `--run`.
-    Everything,
+    /// Those of planning but `--flow`, and those of making a day: `--trips` and `--run`.
+    Making,
 }
 
 /// What options set.
@@ -28,6 +28,8 @@ pub(crate) enum Allowed {
 pub(crate) struct Settings {
     /// How much work a plan is given.
     pub(crate) effort: Effort,
+    /// Whether the blocks of a day with one pool are those of its flow plan, where they can be.
+    pub(crate) flow: bool,
     /// How many trips a made day has, from 1 to 3,000.
     pub(crate) trips: u32,
     /// Whether a made day is planned.
@@ -42,6 +44,7 @@ struct Given {
     lower: Option<u32>,
     exchange: Option<u32>,
     climb: bool,
+    flow: bool,
     trips: Option<u32>,
     run: bool,
 }
@@ -62,13 +65,14 @@ fn is_option(word: &[u8]) -> bool
     }
 }
 
-/// Whether a word is one of the flags `--run` and `--climb`, which have no value.
+/// Whether a word is one of the flags `--run`, `--climb` and `--flow`, which have no value.
 fn is_flag(word: &[u8]) -> bool
     ensures { result ≡ spec.is_flag word.now }
 {
     let run: &[u8] = b"--run";
     let climb: &[u8] = b"--climb";
-    word == run || word == climb
+    let flow: &[u8] = b"--flow";
+    word == run || (word == climb || word == flow)
 }
 
 /// Cuts a word at its first `=`.
@@ -173,16 +177,31 @@ fn with_climb(given: Given) -> Option<Given>
     Some(given)
 }
 
+/// That the blocks of a day with one pool are those of its flow plan, where it was not said before.
+fn with_flow(given: Given) -> Option<Given>
+    ensures { result ≡ spec.with_flow given }
+{
+    if given.flow {
+        return None;
+    }
+    let mut given = given;
+    given.flow = true;
+    Some(given)
+}
+
 /// One more flag, where it is one and was not given before.
 fn with_flag(given: Given, word: &[u8]) -> Option<Given>
     ensures { result ≡ spec.with_flag given word.now }
 {
     let run: &[u8] = b"--run";
     let climb: &[u8] = b"--climb";
+    let flow: &[u8] = b"--flow";
     if word == run {
         with_run(given)
     } else if word == climb {
         with_climb(given)
+    } else if word == flow {
+        with_flow(given)
     } else {
         None
     }
@@ -234,6 +253,7 @@ fn given_in(words: &[Bytes]) -> Option<Given>
             lower: None,
             exchange: None,
             climb: false,
+            flow: false,
             trips: None,
             run: false,
         },
@@ -256,7 +276,8 @@ fn plans_nothing(given: Given) -> bool
 {
     given.workers.is_none()
         && (given.rounds.is_none()
-            && (given.lower.is_none() && (given.exchange.is_none() && !given.climb)))
+            && (given.lower.is_none()
+                && (given.exchange.is_none() && (!given.climb && !given.flow))))
 }
 
 fn makes_nothing(given: Given) -> bool
@@ -272,7 +293,7 @@ fn is_allowed(allowed: Allowed, given: Given) -> bool
     match allowed {
         Allowed::Nothing => plans_nothing(given) && makes_nothing(given),
         Allowed::Planning => makes_nothing(given),
-        Allowed::Everything => true,
+        Allowed::Making => !given.flow,
     }
 }
 
@@ -302,6 +323,7 @@ fn settings_of(given: Given) -> Settings
 {
     Settings {
         effort: effort_of(given),
+        flow: given.flow,
         trips: given.trips.unwrap_or(240),
         run: given.run,
     }

@@ -11,6 +11,8 @@ pub struct Request {
     pub command: Command,
     /// How much work a plan is given. Where no options say it, 1 worker, 40 price rounds, 20 lowering rounds and 20 exchange steps.
     pub effort: Effort,
+    /// Whether the blocks of a day with one depot are those of its flow plan, where it has one whose paths are blocks.
+    pub flow: bool,
     /// The day as the number YYYYMMDD. A made day is 2026-03-02; a roster has days of its own, and then this is 0.
     pub day: u32,
     /// The names of the files, in the order in which they are read: those of the planning files in the order of their words, and for `check`

@@ -78,11 +78,14 @@ fn add_names(text: &mut Vec<u8>, names: &Seq<Bytes>) -> Result<(), Fail> {
     Ok(())
 }
 
-/// A request in one line: its command, its effort, its day and the names that it has.
+/// A request in one line: its command, its effort, whether it asks for the flow, its day and the names that it has.
 fn told(alloc: Global, request: &Request) -> Result<Vec<u8>, Fail> {
     let mut text = Vec::new(alloc);
     add_command(&mut text, alloc, request.command)?;
     add_effort(&mut text, alloc, request.effort)?;
+    if request.flow {
+        text.extend_from_slice(b" flow")?;
+    }
     add_number(&mut text, alloc, " on ", request.day)?;
     add_names(&mut text, &request.names)?;
     Ok(text)
@@ -294,7 +297,19 @@ fn an_option_has_a_range(rt: HostRuntime) -> Result<(), Fail> {
 #[test]
 fn an_option_stands_once_and_in_any_place(rt: HostRuntime) -> Result<(), Fail> {
     let alloc = rt.alloc();
-    let rows: [(&str, &str); 30] = [
+    let rows: [(&str, &str); 36] = [
+        (
+            "plan,20260302,f,--flow",
+            "plan 1/40/20/20 flow on 20260302: f",
+        ),
+        (
+            "certify,--flow,20260302,--climb,f",
+            "certify 1/40/20/20 climb flow on 20260302: f",
+        ),
+        ("plan,--flow,20260302,f,--flow", USAGE),
+        ("plan,20260302,f,--flow=1", USAGE),
+        ("make,7,--run,--flow", USAGE),
+        ("check,20260302,p,c,f,--flow", USAGE),
         (
             "plan,--rounds,5,20260302,f",
             "plan 1/5/20/20 on 20260302: f",

@@ -224,7 +224,7 @@ fn allowed_of(name: CommandName) -> Allowed
         CommandName::Plan => Allowed::Planning,
         CommandName::Certify => Allowed::Planning,
         CommandName::Check => Allowed::Nothing,
-        CommandName::Make => Allowed::Everything,
+        CommandName::Make => Allowed::Making,
         CommandName::Week => Allowed::Nothing,
     }
 }
@@ -264,24 +264,25 @@ fn names_of(alloc: Global, files: Parted<'_>) -> Result<Seq<Bytes>, Memory>
 fn day_request(
     alloc: Global,
     command: Command,
-    effort: Effort,
+    settings: Settings,
     words: Parted<'_>,
 ) -> Result<Request, WordsFault>
-    requires effort { IsEffort effort }
+    requires effort { IsEffort settings.effort }
     requires trips { spec.HasFewTrips command }
     requires names { spec.ReadsFiles command }
-    ensures request { IfOk result (λ request. spec.day_request command effort (plain_of (said_by words.entry.before.now) ++ words.entry.behind.now) ≡ Some request) }
+    ensures request { IfOk result (λ request. spec.day_request command settings (plain_of (said_by words.entry.before.now) ++ words.entry.behind.now) ≡ Some request) }
     ensures names { IfOk result (λ request. spec.HasNames request.command (length request.names)) }
     ensures effort { IfOk result (λ request. IsEffort request.effort) }
     ensures trips { IfOk result (λ request. spec.HasFewTrips request.command) }
-    ensures usage { IsErrOf result WordsFault.Usage ↔ (spec.day_request command effort (plain_of (said_by words.entry.before.now) ++ words.entry.behind.now) ≡ None) }
+    ensures usage { IsErrOf result WordsFault.Usage ↔ (spec.day_request command settings (plain_of (said_by words.entry.before.now) ++ words.entry.behind.now) ≡ None) }
 {
     let Some(said) = day_and_files(words) else {
         return Err(WordsFault::Usage);
     };
     Ok(Request {
         command,
-        effort,
+        effort: settings.effort,
+        flow: settings.flow,
         day: digits_number(said.first),
         names: names_of(alloc, said.others)?,
     })
@@ -351,6 +352,7 @@ fn check_request(alloc: Global, effort: Effort, words: Parted<'_>) -> Result<Req
     Ok(Request {
         command: Command::Check,
         effort,
+        flow: false,
         day: digits_number(said.day),
         names: names_with(alloc, said.files, said.plan, said.certificate)?,
     })
@@ -376,6 +378,7 @@ fn make_request(alloc: Global, settings: Settings, words: Parted<'_>) -> Result<
             run: settings.run,
         }),
         effort: settings.effort,
+        flow: false,
         day: MADE_DAY,
         names: Seq::new(alloc),
     })
@@ -406,6 +409,7 @@ fn week_request(alloc: Global, effort: Effort, words: Parted<'_>) -> Result<Requ
     Ok(Request {
         command: Command::Week,
         effort,
+        flow: false,
         day: 0,
         names: names_of(alloc, words)?,
     })
@@ -428,10 +432,10 @@ fn request_for(
 {
     let effort = settings.effort;
     match name {
-        CommandName::Trips => day_request(alloc, Command::Trips, effort, words),
-        CommandName::Day => day_request(alloc, Command::Day, effort, words),
-        CommandName::Plan => day_request(alloc, Command::Plan, effort, words),
-        CommandName::Certify => day_request(alloc, Command::Certify, effort, words),
+        CommandName::Trips => day_request(alloc, Command::Trips, settings, words),
+        CommandName::Day => day_request(alloc, Command::Day, settings, words),
+        CommandName::Plan => day_request(alloc, Command::Plan, settings, words),
+        CommandName::Certify => day_request(alloc, Command::Certify, settings, words),
         CommandName::Check => check_request(alloc, effort, words),
         CommandName::Make => make_request(alloc, settings, words),
         CommandName::Week => week_request(alloc, effort, words),
@@ -459,14 +463,15 @@ fn request_of(alloc: Global, name: CommandName, words: &[Bytes]) -> Result<Reque
 /// - `trips DAY FILE..` and `day DAY FILE..`, without options;
 /// - `plan DAY FILE..` and `certify DAY FILE..`, with the options of planning;
 /// - `check DAY PLAN CERT FILE..`, without options;
-/// - `make SEED`, with the options of planning and those of making a day;
+/// - `make SEED`, with those of making a day;
 /// - `week ROSTER`, without options.
 ///
 /// DAY is eight ASCII digits and SEED one to nine, signs excluded. There are 1 to 64 FILE words. No FILE, PLAN, CERT or ROSTER is empty.
 ///
 /// The options of planning are `--workers N` (1 to 64; 1 unless said), `--rounds N` (1 to 200; 40), `--lower N` (1 to 50; 20) and
-/// `--exchange N` (0 to 1,000; 20), and the flag `--climb` for the other method. Those of making a day are `--trips N` (1 to 3,000; 240)
-/// and the flag `--run` to plan it; without that flag the options of planning change nothing. N is one to four ASCII digits, in the word
+/// `--exchange N` (0 to 1,000; 20), the flag `--climb` for the other method, and the flag `--flow` for exact blocks of a day with one depot.
+/// Those of making a day are the same but `--flow`, and `--trips N` (1 to 3,000; 240) and the flag `--run` to plan it; without that flag the
+/// options of planning change nothing. N is one to four ASCII digits, in the word
 /// behind or in the same word behind a `=`. A flag has no value. Each stands at most once.
 ///
 /// The first `--` ends the options and is passed over; what is behind it is plain, and no value of an option. Before it a word that begins

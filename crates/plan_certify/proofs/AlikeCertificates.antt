@@ -9,7 +9,6 @@ use Rattle.vdv451_text.specs.Plain.{text}
 use Rattle.cover_core.specs.declared.Column.{Column}
 use Rattle.cover_core.specs.declared.marks.BlockMark.{BlockMark}
 use Rattle.cover_core.specs.Plans.{price_at}
-use Rattle.cover_plan.specs.Endings.{Numbers}
 use Rattle.day_method.specs.Method.{SidePlan}
 use Rattle.dual_bound.specs.declared.kept.Kept.{Kept}
 use Rattle.mark_cover.specs.Covers.{IsMarkCover}
@@ -130,10 +129,10 @@ module _ (one other : DayFacts) (alike : AreAlike one other) where
   }
 
   pub same_certificates : HaveSameCertificates one other
-  same_certificates = λ numbers bytes h. record {
+  same_certificates = λ asked bytes h. record {
     blocks = h.blocks;
     duties = h.duties;
-    plan = plans_alike one other alike numbers h.blocks h.duties h.plan;
+    plan = plans_alike one other alike asked h.blocks h.duties h.plan;
     cert = h.cert;
     parts = certs_alike h.blocks h.duties h.cert h.parts;
     written = h.written ∙ ap (λ classes. text (tables_of classes h.cert)) classes_alike;

@@ -9,7 +9,6 @@ use Rattle.cover_core.specs.declared.marks.BlockMark.{BlockMark}
 use Rattle.cover_core.specs.declared.marks.Mark.{Mark}
 use Rattle.cover_core.specs.Labels.{label_after, label_of}
 use Rattle.dual_bound.specs.declared.kept.Kept.{Kept}
-use Rattle.cover_plan.specs.Ends.{IsPaidOffer}
 use Rattle.plan_params.specs.declared.rows.ParamRows.{ParamRows}
 use Rattle.plan_params.specs.declared.rows.group.Group.{Group}
 use Rattle.plan_params.specs.declared.rows.pool.Pool.{Pool}
@@ -28,6 +27,7 @@ use Rattle.plan_cert.specs.declared.cert.Cert.{Cert}
 use Rattle.plan_cert.specs.declared.cert.CertPart.{CertPart}
 use Rattle.plan_cert.specs.Shapes.{class_numbers_of, group_numbers_of, pool_numbers_of}
 use Rattle.plan_cert.specs.Writing.{HaveClasses}
+use Rattle.plan_command.specs.Planning.{IsDualFeasible}
 use Rattle.plan_certify.specs.Certificate.{ArePaid, IsBlockPartOf, IsCertOf, IsDutyPartOf, duty_facts}
 
 -- The mark of an open list has the class of the list, so the marks of a least cover are of classes that are there.
@@ -71,7 +71,7 @@ module _ (facts : DayFacts) where
       subst Q (sym none) (All-nil P)
 
   -- a price for each pool, and marks of pools that are there
-  block-classes : (counts : Bool) (kept : Kept) (part : CertPart) → IsPaidOffer (blocks_of facts counts) kept →
+  block-classes : (counts : Bool) (kept : Kept) (part : CertPart) → IsDualFeasible (blocks_of facts counts) kept →
       IsBlockPartOf facts counts kept part →
       (length part.class_prices ≡ length (pool_numbers_of facts)) ×
       All (λ (a : Mark). a.class < length (group_numbers_of facts)) part.cover.marks ×
@@ -88,7 +88,7 @@ module _ (facts : DayFacts) where
       )
 
   -- a price for each group, and marks of groups that are there
-  duty-classes : (over : DutyFacts) (kept : Kept) (part : CertPart) → over.params ≡ facts.params → IsPaidOffer (duties_of over) kept →
+  duty-classes : (over : DutyFacts) (kept : Kept) (part : CertPart) → over.params ≡ facts.params → IsDualFeasible (duties_of over) kept →
       IsDutyPartOf over kept part →
       (length part.class_prices ≡ length (group_numbers_of facts)) ×
       All (λ (a : Mark). a.class < length (group_numbers_of facts)) part.cover.marks ×

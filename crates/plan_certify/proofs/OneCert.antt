@@ -8,8 +8,7 @@ use Rattle.cover_core.specs.declared.Prices.{Prices}
 use Rattle.cover_core.specs.declared.marks.BlockMark.{BlockMark}
 use Rattle.cover_core.specs.declared.marks.Mark.{Mark}
 use Rattle.dual_bound.specs.declared.kept.Kept.{Kept}
-use Rattle.cover_plan.specs.Endings.{Numbers}
-use Rattle.day_method.specs.Method.{DayEnding, DayEndsAs, DayEndsOnce, SidePlan}
+use Rattle.day_method.specs.Method.{DayEnding, SidePlan}
 use Rattle.day_method.specs.Method.{answered, left_out, refused}
 use Rattle.day_model.specs.Facts.{DayFacts}
 use Rattle.mark_cover.specs.Marking.{Marking}
@@ -24,7 +23,8 @@ use Rattle.plan_cert.specs.Shapes.{class_numbers_of}
 use Rattle.plan_cert.specs.Writing.{tables_of}
 use Rattle.plan_command.specs.declared.fault.PlanFault.{PlanFault}
 use Rattle.plan_command.specs.declared.fault.PlanFault.TheVariants as faults
-use Rattle.plan_command.specs.Planning.{IsPlanCauseOver, day_problems}
+use Rattle.plan_command.specs.Once.{PlanEndsOnce}
+use Rattle.plan_command.specs.Planning.{Asked, IsPlanCauseOver, PlanEndsAs}
 use Rattle.plan_certify.specs.Certificate.{IsBlockPartOf, IsCertOf, IsDutyPartOf, duty_facts}
 use Rattle.plan_certify.specs.Once.{CertifiesThePlan, HasCertOrCause, HasOneCert, HasOneCertText}
 use Rattle.plan_certify.proofs.Rising.{no-ties, same-rising}
@@ -120,21 +120,21 @@ same-duties : (a b c d : SidePlan) → answered a b ≡ answered c d → b ≡ d
 unfolding duties_in
 same-duties a b c d h = ap (duties_in b) h
 
-module _ (facts : DayFacts) (once : DayEndsOnce (day_problems facts)) where
+module _ (facts : DayFacts) (once : PlanEndsOnce facts) where
   -- A day that is planned by fixed rounds ends with one pair of blocks and duties.
-  one-end : (numbers : Numbers) → numbers.climb ≡ false → (a b c d : SidePlan) → DayEndsAs (day_problems facts) numbers (answered a b) →
-      DayEndsAs (day_problems facts) numbers (answered c d) →
+  one-end : (asked : Asked) → asked.numbers.climb ≡ false → (a b c d : SidePlan) → PlanEndsAs facts asked (answered a b) →
+      PlanEndsAs facts asked (answered c d) →
       answered a b ≡ answered c d
-  one-end numbers fixed a b c d h k = once numbers fixed (answered a b) (answered c d) h k
+  one-end asked fixed a b c d h k = once asked fixed (answered a b) (answered c d) h k
 
   pub certifies-plan : CertifiesThePlan facts
-  certifies-plan = λ numbers fixed table one other plan cert.
-      let same = one-end numbers fixed plan.blocks plan.duties cert.blocks cert.duties plan.plan.ends cert.plan.ends in
+  certifies-plan = λ asked fixed table one other plan cert.
+      let same = one-end asked fixed plan.blocks plan.duties cert.blocks cert.duties plan.plan.ends cert.plan.ends in
       (same-blocks plan.blocks plan.duties cert.blocks cert.duties same, same-duties plan.blocks plan.duties cert.blocks cert.duties same)
 
   pub one-cert-text : HasOneCertText facts
-  one-cert-text = λ numbers fixed one other h k.
-      let same = one-end numbers fixed h.blocks h.duties k.blocks k.duties h.plan.ends k.plan.ends in
+  one-cert-text = λ asked fixed one other h k.
+      let same = one-end asked fixed h.blocks h.duties k.blocks k.duties h.plan.ends k.plan.ends in
       let P : SidePlan → Type 0 = λ s. IsCertOf facts s h.duties h.cert in
       let Q : SidePlan → Type 0 = λ s. IsCertOf facts k.blocks s h.cert in
       let first = subst P (same-blocks h.blocks h.duties k.blocks k.duties same) h.parts in
@@ -142,15 +142,15 @@ module _ (facts : DayFacts) (once : DayEndsOnce (day_problems facts)) where
       let cert : h.cert ≡ k.cert = one-cert facts k.blocks k.duties h.cert k.cert is k.parts in
       h.written ∙ (ap (λ (c : Cert). text (tables_of (class_numbers_of facts) c)) cert ∙ sym k.written)
 
-  cert-or-fault : (numbers : Numbers) → numbers.climb ≡ false → (blocks duties : SidePlan) (fault : PlanFault) →
-      DayEndsAs (day_problems facts) numbers (answered blocks duties) →
-      IsPlanCauseOver facts numbers fault → fault ≡ faults.Memory
+  cert-or-fault : (asked : Asked) → asked.numbers.climb ≡ false → (blocks duties : SidePlan) (fault : PlanFault) →
+      PlanEndsAs facts asked (answered blocks duties) →
+      IsPlanCauseOver facts asked fault → fault ≡ faults.Memory
   unfolding kind_in
-  cert-or-fault numbers fixed blocks duties (faults.NoPlan side bound places) ends cause =
-      absurd (omega (arith, ap kind_in (once numbers fixed (answered blocks duties) (refused side bound places) ends cause.0)))
-  cert-or-fault numbers fixed blocks duties (faults.NotPlaced side item name partial) ends cause =
-      absurd (omega (arith, ap kind_in (once numbers fixed (answered blocks duties) (left_out side item partial.columns) ends cause.0)))
-  cert-or-fault numbers fixed blocks duties faults.Memory ends cause = refl
+  cert-or-fault asked fixed blocks duties (faults.NoPlan side bound places) ends cause =
+      absurd (omega (arith, ap kind_in (once asked fixed (answered blocks duties) (refused side bound places) ends cause.0)))
+  cert-or-fault asked fixed blocks duties (faults.NotPlaced side item name partial) ends cause =
+      absurd (omega (arith, ap kind_in (once asked fixed (answered blocks duties) (left_out side item partial.columns) ends cause.0)))
+  cert-or-fault asked fixed blocks duties faults.Memory ends cause = refl
 
   pub cert-or-cause : HasCertOrCause facts
-  cert-or-cause = λ numbers fixed bytes fault h. cert-or-fault numbers fixed h.blocks h.duties fault h.plan.ends
+  cert-or-cause = λ asked fixed bytes fault h. cert-or-fault asked fixed h.blocks h.duties fault h.plan.ends

@@ -1,24 +1,15 @@
 -- What a paid offer gives: prices for which a cover can be made, and that it is made.
-use Rattle.std.proofs.Common.{◌≡◌, ℤ, Bool, List, [], ◌∷◌, ap, ◌∙◌, subst, arith}
+use Rattle.std.proofs.Common.{◌≡◌, ℤ, Bool, List, ap, ◌∙◌, subst, arith}
 use Rattle.std.proofs.lemmas.Int.{ints}
 use Rattle.plan_core.specs.declared.Price.{Price}
 use Rattle.cover_core.specs.declared.Column.{Column}
 use Rattle.cover_core.specs.declared.marks.CoverFault.{CoverFault}
 use Rattle.cover_core.specs.declared.marks.CoverFault.TheVariants.{Unpaid}
 use Rattle.cover_core.specs.Cover.{Problem}
-use Rattle.cover_core.specs.FirstLeast.{AllWithin}
 use Rattle.cover_core.specs.Plans.{IsPaid}
 use Rattle.day_model.specs.Facts.{DayFacts}
 use Rattle.depot_network.specs.Network.{NetFacts, blocks as net_blocks, blocks_of}
 use Rattle.unpaid_list.specs.Unpaid.{IsFirstUnpaid, IsUnpaidCause}
-
--- The prices that a method keeps are at most 10^13 above or below 0, and a cover is made of prices of at most 3 * 10^15.
-pub moderate : (prices : List Price) → AllWithin 10000000000000 prices → AllWithin 3000000000000000 prices
-moderate [] within = tt
-moderate (x ∷ xs) within =
-    let low = within.0 in
-    let high = within.1 in
-    (omega (arith, ints, low), omega (arith, ints, high), moderate xs within.2)
 
 -- Under paid prices no list is unpaid: its value is at least minus the price of its class, and an unpaid one's is below.
 pub never-unpaid : (p : Problem) (prices : List Price) (class_prices : List ℤ) (column : Column) → IsPaid p prices class_prices →

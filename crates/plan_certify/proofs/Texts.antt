@@ -5,8 +5,6 @@ use Rattle.vdv451_text.specs.declared.table.Table.{Table}
 use Rattle.vdv451_text.specs.Plain.{text}
 use Rattle.dual_bound.specs.declared.kept.Kept.{Kept}
 use Rattle.cover_core.specs.declared.Column.{Column}
-use Rattle.cover_plan.specs.Endings.{Numbers}
-use Rattle.cover_plan.specs.Ends.{IsPaidOffer}
 use Rattle.day_method.specs.Method.{SidePlan}
 use Rattle.day_model.specs.Facts.{DayFacts}
 use Rattle.block_cut.specs.Cuts.{pieces_of_plan}
@@ -14,13 +12,13 @@ use Rattle.duty_network.specs.Duties.{duties as duties_of}
 use Rattle.plan_cert.specs.declared.cert.Cert.{Cert}
 use Rattle.plan_cert.specs.Shapes.{class_numbers_of}
 use Rattle.plan_cert.specs.Writing.{tables_of}
-use Rattle.plan_command.specs.Planning.{IsDayPlan, duties_over}
+use Rattle.plan_command.specs.Planning.{Asked, IsDayPlan, IsDualFeasible, duties_over}
 use Rattle.plan_certify.specs.Certificate.{ArePaid, IsCertOf, IsCertTextOf, IsCertTextOver}
 
 -- The offers that a plan keeps are paid, in each of its four passes.
-pub plan-paid : (facts : DayFacts) (numbers : Numbers) (blocks duties : SidePlan) → IsDayPlan facts numbers blocks duties →
+pub plan-paid : (facts : DayFacts) (asked : Asked) (blocks duties : SidePlan) → IsDayPlan facts asked blocks duties →
     ArePaid facts blocks duties
-plan-paid facts numbers blocks duties plan = record {
+plan-paid facts asked blocks duties plan = record {
   block_number = plan.blocks_are.count_paid;
   block_cost = plan.blocks_are.cost_paid;
   duty_number = plan.duties_are.count_paid;
@@ -30,10 +28,10 @@ plan-paid facts numbers blocks duties plan = record {
 -- an offer of duties over pieces that are those of blocks
 pub paid-there : (facts : DayFacts) (blocks : List Column) (pieces : List Piece) (counts : Bool) (kept : Kept) →
     pieces ≡ pieces_of_plan facts blocks →
-    IsPaidOffer (duties_over facts blocks counts) kept →
-    IsPaidOffer (duties_of (record { pieces = pieces; params = facts.params; counts = counts })) kept
+    IsDualFeasible (duties_over facts blocks counts) kept →
+    IsDualFeasible (duties_of (record { pieces = pieces; params = facts.params; counts = counts })) kept
 paid-there facts blocks pieces counts kept same paid =
-    let P : List Piece → Type 0 = λ ps. IsPaidOffer (duties_of (record { pieces = ps; params = facts.params; counts = counts })) kept in
+    let P : List Piece → Type 0 = λ ps. IsDualFeasible (duties_of (record { pieces = ps; params = facts.params; counts = counts })) kept in
     subst P (sym same) paid
 
 -- The text of the tables of a certificate is the text of the certificate.
@@ -44,10 +42,10 @@ ok-text facts blocks duties cert (Ok bytes) tables is same spelled = record { ce
 ok-text facts blocks duties cert (Err e) tables is same spelled = tt
 
 -- The text of the certificate of the plan that the method ends with is the day's.
-pub text-over : (facts : DayFacts) (numbers : Numbers) (blocks duties : SidePlan) (bytes : List ℕ) →
-    IsDayPlan facts numbers blocks duties → IsCertTextOf facts blocks duties bytes →
-    IsCertTextOver facts numbers bytes
-text-over facts numbers blocks duties bytes plan is = record {
+pub text-over : (facts : DayFacts) (asked : Asked) (blocks duties : SidePlan) (bytes : List ℕ) →
+    IsDayPlan facts asked blocks duties → IsCertTextOf facts blocks duties bytes →
+    IsCertTextOver facts asked bytes
+text-over facts asked blocks duties bytes plan is = record {
   blocks = blocks;
   duties = duties;
   plan = plan;

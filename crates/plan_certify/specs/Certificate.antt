@@ -3,8 +3,6 @@ use Rattle.std.specs.Prelude.{◌≡◌, ℕ, Bool, true, false, List, [], ◌�
 use Rattle.vdv451_text.specs.Plain.{text}
 use Rattle.cover_core.specs.declared.Column.{Column}
 use Rattle.dual_bound.specs.declared.kept.Kept.{Kept}
-use Rattle.cover_plan.specs.Endings.{Numbers}
-use Rattle.cover_plan.specs.Ends.{IsPaidOffer}
 use Rattle.day_method.specs.Method.{SidePlan}
 use Rattle.day_model.specs.Facts.{DayFacts}
 use Rattle.mark_cover.specs.Covers.{IsMarkCover}
@@ -19,7 +17,7 @@ use Rattle.plan_cert.specs.declared.cert.Cert.{Cert}
 use Rattle.plan_cert.specs.declared.cert.CertPart.{CertPart}
 use Rattle.plan_cert.specs.Shapes.{class_numbers_of}
 use Rattle.plan_cert.specs.Writing.{tables_of}
-use Rattle.plan_command.specs.Planning.{IsDayPlan, duties_over}
+use Rattle.plan_command.specs.Planning.{Asked, IsDayPlan, IsDualFeasible, duties_over}
 
 -- The part of a pass over the blocks of a day, each worth 1 or its cost: the prices and class prices that the pass kept, and the least
 -- cover of the open blocks under them. Its marks are exactly those to which no other one is at least as good, each once, in the order of
@@ -57,13 +55,13 @@ pub record IsCertOf (facts : DayFacts) (blocks duties : SidePlan) (cert : Cert) 
   pub of_duty_number : IsDutyPartOf (duty_facts facts blocks.columns true) duties.count duty_number
   pub of_duty_cost : IsDutyPartOf (duty_facts facts blocks.columns false) duties.cost duty_cost
 
--- The offers that planned blocks and duties keep are paid: there is a price for each trip and each piece, and no block or duty has a value
--- below minus the price of its class.
+-- The offers that planned blocks and duties keep are dual feasible: there is a price for each trip and each piece, and no block or duty has
+-- a value below minus the price of its class.
 pub record ArePaid (facts : DayFacts) (blocks duties : SidePlan) : Type 0 where
-  pub block_number : IsPaidOffer (blocks_of facts true) blocks.count
-  pub block_cost : IsPaidOffer (blocks_of facts false) blocks.cost
-  pub duty_number : IsPaidOffer (duties_over facts blocks.columns true) duties.count
-  pub duty_cost : IsPaidOffer (duties_over facts blocks.columns false) duties.cost
+  pub block_number : IsDualFeasible (blocks_of facts true) blocks.count
+  pub block_cost : IsDualFeasible (blocks_of facts false) blocks.cost
+  pub duty_number : IsDualFeasible (duties_over facts blocks.columns true) duties.count
+  pub duty_cost : IsDualFeasible (duties_over facts blocks.columns false) duties.cost
 
 -- the text of the certificate of blocks and duties
 pub record IsCertTextOf (facts : DayFacts) (blocks duties : SidePlan) (bytes : List ℕ) : Type 0 where
@@ -73,10 +71,10 @@ pub record IsCertTextOf (facts : DayFacts) (blocks duties : SidePlan) (bytes : L
 
 -- The text of the certificate of a day: that of the blocks and duties that the method ends with, as the text of the day's plan has them.
 -- No worker occurs in it.
-pub record IsCertTextOver (facts : DayFacts) (numbers : Numbers) (bytes : List ℕ) : Type 0 where
+pub record IsCertTextOver (facts : DayFacts) (asked : Asked) (bytes : List ℕ) : Type 0 where
   pub blocks : SidePlan
   pub duties : SidePlan
-  pub plan : IsDayPlan facts numbers blocks duties
+  pub plan : IsDayPlan facts asked blocks duties
   pub cert : Cert
   pub parts : IsCertOf facts blocks duties cert
   pub written : bytes ≡ text (tables_of (class_numbers_of facts) cert)

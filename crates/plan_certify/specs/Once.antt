@@ -1,13 +1,12 @@
 -- A planned day has one certificate, and a day that is planned by fixed rounds has one text of it, or one cause.
 use Rattle.std.specs.Prelude.{◌≡◌, ℕ, false, List}
 use Rattle.vdv451_text.specs.declared.table.Table.{Table}
-use Rattle.cover_plan.specs.Endings.{Numbers}
 use Rattle.day_method.specs.Method.{SidePlan}
 use Rattle.day_model.specs.Facts.{DayFacts}
 use Rattle.plan_cert.specs.declared.cert.Cert.{Cert}
 use Rattle.plan_command.specs.declared.fault.PlanFault.{PlanFault}
 use Rattle.plan_command.specs.declared.fault.PlanFault.TheVariants as faults
-use Rattle.plan_command.specs.Planning.{IsPlanCauseOver}
+use Rattle.plan_command.specs.Planning.{Asked, IsPlanCauseOver}
 use Rattle.plan_command.specs.PlanText.{IsPlanTextOver}
 use Rattle.plan_certify.specs.Certificate.{IsCertOf, IsCertTextOver}
 
@@ -18,18 +17,18 @@ HasOneCert facts = (blocks duties : SidePlan) (one other : Cert) → IsCertOf fa
 
 -- two texts of certificates of a day are the same
 abbrev pub HasOneCertText : DayFacts → Type 0
-HasOneCertText facts = (numbers : Numbers) → numbers.climb ≡ false → (one other : List ℕ) → IsCertTextOver facts numbers one →
-    IsCertTextOver facts numbers other → one ≡ other
+HasOneCertText facts = (asked : Asked) → asked.numbers.climb ≡ false → (one other : List ℕ) → IsCertTextOver facts asked one →
+    IsCertTextOver facts asked other → one ≡ other
 
 -- the text of a certificate is of the blocks and duties that the text of the plan has
 abbrev pub CertifiesThePlan : DayFacts → Type 0
 CertifiesThePlan facts =
-    (numbers : Numbers) → numbers.climb ≡ false →
-    (table : Table) (one other : List ℕ) (plan : IsPlanTextOver facts numbers table one) (cert : IsCertTextOver facts numbers other) →
+    (asked : Asked) → asked.numbers.climb ≡ false →
+    (table : Table) (one other : List ℕ) (plan : IsPlanTextOver facts asked table one) (cert : IsCertTextOver facts asked other) →
     (plan.blocks ≡ cert.blocks) × (plan.duties ≡ cert.duties)
 
 -- a day whose certificate has a text has no cause for a refusal, but for want of memory
 abbrev pub HasCertOrCause : DayFacts → Type 0
 HasCertOrCause facts =
-    (numbers : Numbers) → numbers.climb ≡ false → (bytes : List ℕ) (fault : PlanFault) → IsCertTextOver facts numbers bytes →
-    IsPlanCauseOver facts numbers fault → fault ≡ faults.Memory
+    (asked : Asked) → asked.numbers.climb ≡ false → (bytes : List ℕ) (fault : PlanFault) → IsCertTextOver facts asked bytes →
+    IsPlanCauseOver facts asked fault → fault ≡ faults.Memory

@@ -6,7 +6,6 @@ ghost use Rattle.plan_command.specs.Once.{HasTextOrCause};
 ghost use Rattle.plan_certify.specs.Alike.{HaveSameCertificates};
 ghost use Rattle.plan_certify.specs.Once.{CertifiesThePlan, HasCertOrCause, HasOneCert, HasOneCertText};
 
-use day_method::day_ends_once;
 use plan_command::day_answers_once;
 
 /// The certificate of a day is a function of the day and its plan: two certificates of the same blocks and duties are the same, by either
@@ -19,7 +18,6 @@ pub fn day_is_certified_once()
     ensures either { (facts : DayFacts) → HasCertOrCause facts }
     ensures planned { (facts : DayFacts) → HasTextOrCause facts }
 {
-    day_ends_once();
     day_answers_once();
 }
 

@@ -1,10 +1,10 @@
 //! The parts of a certificate.
 
 ghost use Rattle.std.specs.Prelude.{◌≡◌, ◌≤◌, All, IfOk, length};
-ghost use Rattle.cover_plan.specs.Ends.{IsPaidOffer};
 ghost use Rattle.depot_network.specs.Network.{blocks_of, is_count};
 ghost use Rattle.block_cut.specs.Cuts.{IsShift};
 ghost use Rattle.duty_network.specs.Duties.{duties as duties_of, is_count as is_counted};
+ghost use Rattle.plan_command.specs.Planning.{IsDualFeasible};
 ghost use Rattle.plan_certify.specs.Certificate.{IsBlockPartOf, IsDutyPartOf};
 
 use block_cover::make_block_cover;
@@ -25,7 +25,7 @@ pub(crate) fn block_part(
     worth: Worth,
     kept: Kept,
 ) -> Result<CertPart, Memory>
-    requires { IsPaidOffer (blocks_of model.now (is_count worth)) kept }
+    requires { IsDualFeasible (blocks_of model.now (is_count worth)) kept }
     ensures { IfOk result (IsBlockPartOf model.now (is_count worth) kept) }
 {
     let net = PoolNet::new(model, worth);
@@ -45,7 +45,7 @@ pub(crate) fn block_part(
 
 /// The part of a pass over duties of a net. The offer is paid, so there is a cover.
 fn net_part(alloc: Global, net: &DutyNet<'_>, kept: Kept) -> Result<CertPart, Memory>
-    requires { IsPaidOffer (duties_of net.now) kept }
+    requires { IsDualFeasible (duties_of net.now) kept }
     ensures { IfOk result (IsDutyPartOf net.now kept) }
 {
     match make_cover(alloc, net, &kept.prices, kept.class_prices.as_slice()) {
@@ -72,7 +72,7 @@ pub(crate) fn duty_part(
 ) -> Result<CertPart, Memory>
     requires few { length pieces.now ≤ 3000 }
     requires shifts { All IsShift pieces.now }
-    requires paid { IsPaidOffer (duties_of (record { pieces = pieces.now; params = model.now.params; counts = is_counted worth })) kept }
+    requires paid { IsDualFeasible (duties_of (record { pieces = pieces.now; params = model.now.params; counts = is_counted worth })) kept }
     ensures { IfOk result (IsDutyPartOf (record { pieces = pieces.now; params = model.now.params; counts = is_counted worth }) kept) }
 {
     let pieces = pieces.with_items(pieces.as_slice())?;

@@ -7,7 +7,7 @@ use day_calendar::DayKind;
 use day_maker::make_tables;
 use day_model::{Day, build_day};
 use plan_cert::read_cert;
-use plan_command::plan_day;
+use plan_command::{Method, plan_day};
 use plan_core::{Bytes, NoGate};
 use price_rounds::Effort;
 use std::alloc::Global;
@@ -192,14 +192,17 @@ fn day_of(alloc: Global, tables: &[Table]) -> Result<Day, Fail> {
 
 /// The certificate of a day, with the default numbers.
 fn text_of<R: Threads + Sync>(rt: &R, alloc: Global, day: &Day) -> Result<Bytes, Fail> {
-    let effort = Effort {
-        workers: 1,
-        rounds: 40,
-        lower: 20,
-        exchange: 20,
-        climb: false,
+    let method = Method {
+        effort: Effort {
+            workers: 1,
+            rounds: 40,
+            lower: 20,
+            exchange: 20,
+            climb: false,
+        },
+        flow: false,
     };
-    match certificate_text(rt, alloc, day, &effort, &NoGate) {
+    match certificate_text(rt, alloc, day, &method, &NoGate) {
         Ok(text) => Ok(text),
         Err(_) => Err(Fail::from("no certificate")),
     }
@@ -226,19 +229,22 @@ fn parts_of<R: Threads + Sync>(
 ) -> Result<usize, Fail>
     requires { trips ≤ 3000 }
 {
-    let effort = Effort {
-        workers: 2,
-        rounds: 8,
-        lower: 4,
-        exchange: 10,
-        climb,
+    let method = Method {
+        effort: Effort {
+            workers: 2,
+            rounds: 8,
+            lower: 4,
+            exchange: 10,
+            climb,
+        },
+        flow: false,
     };
     let tables = make_tables(alloc, seed, trips)?;
     let day = day_of(alloc, tables.as_slice())?;
-    let Ok(plan) = plan_day(rt, alloc, &day, &effort, &NoGate) else {
+    let Ok(plan) = plan_day(rt, alloc, &day, &method, &NoGate) else {
         return Err(Fail::from("no plan"));
     };
-    let Ok(text) = certificate_text(rt, alloc, &day, &effort, &NoGate) else {
+    let Ok(text) = certificate_text(rt, alloc, &day, &method, &NoGate) else {
         return Err(Fail::from("no certificate"));
     };
     let tables = read_file(alloc, text.as_slice(), 10_000_000)?;

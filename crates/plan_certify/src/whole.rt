@@ -2,20 +2,18 @@
 
 ghost use Rattle.std.specs.Prelude.{◌≡◌, ◌≤◌, ◌∷◌, [], All, IfOk, IfErr, length};
 ghost use Rattle.price_rounds.specs.Efforts.{IsEffort};
-ghost use Rattle.cover_plan.specs.Endings.{numbers_of};
 ghost use Rattle.block_cut.specs.Cuts.{IsShift, pieces_of_plan};
 ghost use Rattle.plan_cert.specs.Shapes.{class_numbers_of};
 ghost use Rattle.plan_cert.specs.Writing.{HaveClasses};
-ghost use Rattle.plan_command.specs.Planning.{IsPlanCauseOver, side_of};
+ghost use Rattle.plan_command.specs.Planning.{IsPlanCauseOver, asked_of, side_of};
 ghost use Rattle.plan_certify.specs.Certificate.{ArePaid, IsCertOf, IsCertTextOf, IsCertTextOver};
 
 use crate::parts::{block_part, duty_part};
 use cover_core::Worth;
 use day_model::Day;
 use plan_cert::{Cert, CertPart, write_cert};
-use plan_command::{DayPlan, PlanFault, plan_day};
+use plan_command::{DayPlan, Method, PlanFault, plan_day};
 use plan_core::{Bytes, Gate, Memory, Seq};
-use price_rounds::Effort;
 use std::alloc::Global;
 use std::thread::Threads;
 use vdv451_text::write_tables;
@@ -42,8 +40,8 @@ fn cert_of(
 /// duties under them, which are the marks to which no other one is at least as good, each once and in the order of their fields.
 ///
 /// The offers of the plan are paid: no block has a value below minus the price of its pool, and no lawful duty over the pieces one below
-/// minus the price of its group. So the covers are there. Making them takes about twice the time of pricing all blocks and duties once
-/// with no completion bound. The numbers of the classes of the day can be written, as `plan_cert::write_cert` wants.
+/// minus the price of its group. So the covers are there. Making them takes about the time of pricing all blocks and duties once with no
+/// completion bound. The numbers of the classes of the day can be written, as `plan_cert::write_cert` wants.
 ///
 /// # Errors
 ///
@@ -93,14 +91,14 @@ pub fn certificate_text<R: Threads + Sync, G: Gate + Sync>(
     rt: &R,
     alloc: Global,
     model: &Day,
-    effort: &Effort,
+    method: &Method,
     gate: &G,
 ) -> Result<Bytes, PlanFault>
-    requires { IsEffort effort.now }
-    ensures written { IfOk result (IsCertTextOver model.now (numbers_of effort.now)) }
-    ensures cause { IfErr result (IsPlanCauseOver model.now (numbers_of effort.now)) }
+    requires { IsEffort method.now.effort }
+    ensures written { IfOk result (IsCertTextOver model.now (asked_of method.now)) }
+    ensures cause { IfErr result (IsPlanCauseOver model.now (asked_of method.now)) }
 {
-    let plan = match plan_day(rt, alloc, model, effort, gate) {
+    let plan = match plan_day(rt, alloc, model, method, gate) {
         Ok(plan) => plan,
         Err(fault) => return Err(fault),
     };

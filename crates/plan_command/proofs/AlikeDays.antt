@@ -1,5 +1,5 @@
 -- Two days that are alike have the same blocks, legs, pieces and tables, and so the same texts and causes.
-use Rattle.std.proofs.Common.{◌≡◌, ℕ, ◌+◌, Bool, true, false, List, [], ◌∷◌, ◌++◌, Option, Some, length, map, refl, ap, ◌∙◌, subst, IsSomeAnd, slice_get}
+use Rattle.std.proofs.Common.{◌≡◌, ℕ, ◌+◌, Bool, true, false, List, [], ◌∷◌, ◌++◌, Option, Some, None, length, map, refl, ap, ◌∙◌, subst, IsSomeAnd, slice_get}
 use Rattle.std.proofs.Math.Path.{fun_ext}
 use Rattle.std.specs.Prelude.{option_and_then, unwrap_or}
 use Rattle.plan_core.specs.declared.types.Leg.{Leg}
@@ -8,7 +8,7 @@ use Rattle.vdv451_text.specs.declared.table.Table.{Table}
 use Rattle.vdv451_text.specs.Plain.{text}
 use Rattle.cover_core.specs.declared.Column.{Column}
 use Rattle.cover_core.specs.Cover.{Problem}
-use Rattle.cover_plan.specs.Endings.{Numbers}
+use Rattle.cover_plan.specs.declared.known.KnownPlan.{KnownPlan}
 use Rattle.cover_plan.specs.Ends.{HasNone}
 use Rattle.day_method.specs.declared.side.Side.{Side}
 use Rattle.day_method.specs.declared.side.Side.TheVariants.{Vehicles, Drivers}
@@ -34,7 +34,10 @@ use Rattle.plan_command.specs.declared.fault.ItemName.TheVariants.{Trip, Piece}
 use Rattle.plan_command.specs.declared.fault.PlanFault.{PlanFault}
 use Rattle.plan_command.specs.declared.fault.PlanFault.TheVariants as faults
 use Rattle.plan_command.specs.Alike.{AreAlike, HaveSameCauses, HaveSameShortTexts, HaveSameTexts}
-use Rattle.plan_command.specs.Planning.{ArePlannedBlocks, ArePlannedDuties, HasNoneOf, IsDayPlan, IsLeft, IsLeftItem, IsPlanCauseOver, IsPlannedSide, day_problems, duties_over}
+use Rattle.plan_command.specs.Flow.{AreKnownBlocks}
+use Rattle.plan_command.specs.Planning.{ArePlannedBlocks, ArePlannedDuties, Asked, HasNoneOf, IsDayPlan, IsLeft, IsLeftItem, IsPlanCauseOver, IsPlannedSide, IsThis, PlanEndsAs, day_problems, duties_over}
+use Rattle.plan_command.proofs.AlikeFlows.{exact_alike, known_alike}
+use Rattle.plan_command.proofs.Sides.{side_where}
 use Rattle.plan_command.specs.PlanText.{answer_of, four_bounds}
 use Rattle.umlauf_write.specs.Answers.{bound_table}
 use Rattle.plan_command.specs.ShortText.{count_table, short_tables}
@@ -99,11 +102,12 @@ module _ (one other : DayFacts) (alike : AreAlike one other) where
       let over : (List Column → List WorkPiece) → ParamRows → List Column → Bool → Problem = λ pieces params blocks counts. duties (record { pieces = pieces blocks; params = params; counts = counts }) in
       ap (λ pieces. over pieces one.params) same_pieces ∙ ap (λ params. over (pieces_of_plan other) params) alike.params
 
-  same_problems : day_problems one ≡ day_problems other
-  same_problems =
+  same_problems : (known : Option KnownPlan) → day_problems one known ≡ day_problems other known
+  same_problems known =
       let problems : (Bool → Problem) → (List Column → Bool → Problem) → DayProblems = λ blocks duties.
       record {
         blocks = blocks;
+        known_blocks = known;
         written_blocks = λ columns. columns;
         printed_blocks = printed;
         duties = duties;
@@ -134,31 +138,39 @@ module _ (one other : DayFacts) (alike : AreAlike one other) where
       } in
       ap (λ legs. answer legs (pieces_of_plan one)) same_legs ∙ ap (λ pieces. answer (block_legs other) pieces) same_pieces
 
-  ends_alike : (numbers : Numbers) (ending : DayEnding) → DayEndsAs (day_problems one) numbers ending → DayEndsAs (day_problems other) numbers ending
-  ends_alike numbers ending h = let P : DayProblems → Type 0 = λ problems. DayEndsAs problems numbers ending in subst P same_problems h
+  ends_alike : (asked : Asked) (ending : DayEnding) → PlanEndsAs one asked ending → PlanEndsAs other asked ending
+  ends_alike asked ending h =
+      let P : DayProblems → Type 0 = λ problems. DayEndsAs problems asked.numbers ending in
+      record {
+        known = h.known;
+        known_is = known_alike one other alike.trips alike.params alike.deads asked.flow h.known h.known_is;
+        ends = subst P (same_problems h.known) h.ends;
+      }
 
-  planned_blocks_alike : (numbers : Numbers) (blocks : SidePlan) → ArePlannedBlocks one numbers blocks → ArePlannedBlocks other numbers blocks
-  planned_blocks_alike numbers blocks h =
-      let P : (Bool → Problem) → Type 0 = λ problem. IsPlannedSide (problem true) (problem false) numbers blocks in
-      subst P same_blocks h
+  planned_blocks_alike : (asked : Asked) (blocks : SidePlan) → ArePlannedBlocks one asked blocks → ArePlannedBlocks other asked blocks
+  planned_blocks_alike asked blocks h =
+      let P : (Bool → Problem) → Type 0 = λ problem. IsPlannedSide (problem true) (problem false) asked.numbers (AreKnownBlocks one asked.flow) blocks in
+      side_where (blocks_of other true) (blocks_of other false) asked.numbers (AreKnownBlocks one asked.flow) (AreKnownBlocks other asked.flow) blocks
+      (known_alike one other alike.trips alike.params alike.deads asked.flow) (subst P same_blocks h)
 
-  planned_duties_alike : (numbers : Numbers) (blocks : List Column) (duties : SidePlan) → ArePlannedDuties one numbers blocks duties → ArePlannedDuties other numbers blocks duties
-  planned_duties_alike numbers blocks duties h =
-      let P : (List Column → Bool → Problem) → Type 0 = λ problem. IsPlannedSide (problem blocks true) (problem blocks false) numbers duties in
+  planned_duties_alike : (asked : Asked) (blocks : List Column) (duties : SidePlan) → ArePlannedDuties one asked blocks duties → ArePlannedDuties other asked blocks duties
+  planned_duties_alike asked blocks duties h =
+      let P : (List Column → Bool → Problem) → Type 0 = λ problem. IsPlannedSide (problem blocks true) (problem blocks false) asked.numbers (IsThis None) duties in
       subst P same_duties h
 
-  pub plans_alike : (numbers : Numbers) (blocks duties : SidePlan) → IsDayPlan one numbers blocks duties → IsDayPlan other numbers blocks duties
-  plans_alike numbers blocks duties h = record {
-    ends = ends_alike numbers (answered blocks duties) h.ends;
-    blocks_are = planned_blocks_alike numbers blocks h.blocks_are;
-    duties_are = planned_duties_alike numbers blocks.columns duties h.duties_are;
+  pub plans_alike : (asked : Asked) (blocks duties : SidePlan) → IsDayPlan one asked blocks duties → IsDayPlan other asked blocks duties
+  plans_alike asked blocks duties h = record {
+    ends = ends_alike asked (answered blocks duties) h.ends;
+    blocks_are = planned_blocks_alike asked blocks h.blocks_are;
+    duties_are = planned_duties_alike asked blocks.columns duties h.duties_are;
+    exact = exact_alike one other alike.trips alike.params alike.deads asked.flow blocks h.exact;
   }
 
   pub same_texts : HaveSameTexts one other
-  same_texts = λ numbers table bytes h. record {
+  same_texts = λ asked table bytes h. record {
     blocks = h.blocks;
     duties = h.duties;
-    plan = plans_alike numbers h.blocks h.duties h.plan;
+    plan = plans_alike asked h.blocks h.duties h.plan;
     written = h.written ∙ (ap text (tables_alike table (answer_of one h.blocks h.duties)) ∙ ap (λ answer. text (answer_tables other table answer)) (answers_alike h.blocks h.duties));
   }
 
@@ -169,38 +181,38 @@ module _ (one other : DayFacts) (alike : AreAlike one other) where
       ap (λ trips. tables trips (pieces_of_plan one blocks.columns)) alike.trips ∙ ap (λ pieces. tables other.trips (pieces blocks.columns)) same_pieces
 
   pub same_short_texts : HaveSameShortTexts one other
-  same_short_texts = λ numbers bytes h. record {
+  same_short_texts = λ asked bytes h. record {
     blocks = h.blocks;
     duties = h.duties;
-    plan = plans_alike numbers h.blocks h.duties h.plan;
+    plan = plans_alike asked h.blocks h.duties h.plan;
     written = h.written ∙ ap text (shorts_alike h.blocks h.duties);
   }
 
-  none_alike : (numbers : Numbers) (side : Side) → HasNoneOf one numbers side → HasNoneOf other numbers side
-  none_alike numbers Vehicles h = let P : (Bool → Problem) → Type 0 = λ problem. HasNone (problem false) in subst P same_blocks h
-  none_alike numbers Drivers h =
+  none_alike : (asked : Asked) (side : Side) → HasNoneOf one asked side → HasNoneOf other asked side
+  none_alike asked Vehicles h = let P : (Bool → Problem) → Type 0 = λ problem. HasNone (problem false) in subst P same_blocks h
+  none_alike asked Drivers h =
       let P : (List Column → Bool → Problem) → Type 0 = λ problem. HasNone (problem h.0.columns false) in
-      (h.0, planned_blocks_alike numbers h.0 h.1, subst P same_duties h.2)
+      (h.0, planned_blocks_alike asked h.0 h.1, subst P same_duties h.2)
 
-  left_alike : (numbers : Numbers) (side : Side) (item : ℕ) (name : ItemName) (partial : List Column) → IsLeftItem one numbers side item name partial → IsLeftItem other numbers side item name partial
-  left_alike numbers Vehicles item name partial h =
+  left_alike : (asked : Asked) (side : Side) (item : ℕ) (name : ItemName) (partial : List Column) → IsLeftItem one asked side item name partial → IsLeftItem other asked side item name partial
+  left_alike asked Vehicles item name partial h =
       let P : (Bool → Problem) → Type 0 = λ problem. IsLeft (problem false) item partial in
       let Q : List DayTrip → Type 0 = λ trips. IsSomeAnd (slice_get trips item) (λ (trip : DayTrip). name ≡ Trip trip.fid) in
       (subst P same_blocks h.0, subst Q alike.trips h.1)
-  left_alike numbers Drivers item name partial h =
+  left_alike asked Drivers item name partial h =
       let P : (List Column → Bool → Problem) → Type 0 = λ problem. IsLeft (problem h.blocks.columns false) item partial in
       let Q : (List Column → List WorkPiece) → Type 0 = λ pieces. IsSomeAnd (slice_get (pieces h.blocks.columns) item) (λ (piece : WorkPiece). name ≡ Piece piece.block piece.index) in
       record {
         blocks = h.blocks;
-        blocks_are = planned_blocks_alike numbers h.blocks h.blocks_are;
+        blocks_are = planned_blocks_alike asked h.blocks h.blocks_are;
         is_left = subst P same_duties h.is_left;
         named = subst Q same_pieces h.named;
       }
 
-  cause_alike : (numbers : Numbers) (fault : PlanFault) → IsPlanCauseOver one numbers fault → IsPlanCauseOver other numbers fault
-  cause_alike numbers (faults.NoPlan side bound places) h = (ends_alike numbers (refused side bound places) h.0, none_alike numbers side h.1)
-  cause_alike numbers (faults.NotPlaced side item name partial) h = (ends_alike numbers (left_out side item partial.columns) h.0, left_alike numbers side item name partial.columns h.1)
-  cause_alike numbers faults.Memory h = h
+  cause_alike : (asked : Asked) (fault : PlanFault) → IsPlanCauseOver one asked fault → IsPlanCauseOver other asked fault
+  cause_alike asked (faults.NoPlan side bound places) h = (ends_alike asked (refused side bound places) h.0, none_alike asked side h.1)
+  cause_alike asked (faults.NotPlaced side item name partial) h = (ends_alike asked (left_out side item partial.columns) h.0, left_alike asked side item name partial.columns h.1)
+  cause_alike asked faults.Memory h = h
 
   pub same_causes : HaveSameCauses one other
-  same_causes = λ numbers fault h. cause_alike numbers fault h
+  same_causes = λ asked fault h. cause_alike asked fault h

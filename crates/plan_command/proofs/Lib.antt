@@ -1,5 +1,10 @@
 pub mod Sides
+pub mod Known
+pub mod FlowBlocks
+pub mod Feasible
 pub mod Printing
 pub mod CountTable
 pub mod OneAnswer
+pub mod Ends
+pub mod AlikeFlows
 pub mod AlikeDays

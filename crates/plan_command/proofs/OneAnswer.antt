@@ -1,11 +1,12 @@
 -- A day that is planned by fixed rounds has one text, or one cause for a refusal.
-use Rattle.std.proofs.Common.{◌≡◌, ◌⊎◌, inl, inr, ℕ, true, false, List, Option, Some, None, IsSomeAnd, slice_get, refl, sym, ap, ◌∙◌, subst, arith}
+use Rattle.std.proofs.Common.{◌≡◌, ◌⊎◌, inl, inr, ℕ, Bool, true, false, List, Option, Some, None, IsSomeAnd, slice_get, refl, sym, ap, ◌∙◌, subst, arith}
 use Rattle.plan_core.specs.declared.types.Piece.{Piece as WorkPiece}
 use Rattle.vdv451_text.specs.Plain.{text}
 use Rattle.cover_core.specs.declared.Column.{Column}
 use Rattle.cover_core.specs.declared.Plan.{Plan}
 use Rattle.dual_bound.specs.declared.kept.Kept.{Kept}
-use Rattle.cover_plan.specs.Endings.{Numbers, Ending, EndsOnce}
+use Rattle.cover_plan.specs.declared.known.KnownPlan.{KnownPlan}
+use Rattle.cover_plan.specs.Endings.{Ending, EndsBy, EndsOnce}
 use Rattle.cover_plan.specs.Endings.{planned, no_plan, not_placed}
 use Rattle.day_method.specs.declared.side.Side.{Side}
 use Rattle.day_method.specs.declared.side.Side.TheVariants.{Vehicles, Drivers}
@@ -21,10 +22,11 @@ use Rattle.plan_command.specs.declared.fault.ItemName.{ItemName}
 use Rattle.plan_command.specs.declared.fault.ItemName.TheVariants.{Trip, Piece}
 use Rattle.plan_command.specs.declared.fault.PlanFault.{PlanFault}
 use Rattle.plan_command.specs.declared.fault.PlanFault.TheVariants as faults
-use Rattle.plan_command.specs.Planning.{day_problems, ArePlannedBlocks, IsLeftItem, IsPlanCauseOver}
+use Rattle.plan_command.specs.Flow.{AreKnownBlocks}
+use Rattle.plan_command.specs.Planning.{Asked, day_problems, ArePlannedBlocks, IsLeftItem, IsPlanCauseOver, PlanEndsAs}
 use Rattle.plan_command.specs.PlanText.{answer_of}
 use Rattle.plan_command.specs.ShortText.{short_tables}
-use Rattle.plan_command.specs.Once.{HasOneText, HasOneCause, HasOneShortText, HasShortTextOrCause, HasTextOrCause}
+use Rattle.plan_command.specs.Once.{HasOneText, HasOneCause, HasOneShortText, HasShortTextOrCause, HasTextOrCause, PlanEndsOnce}
 
 -- the parts of an ending
 blocks_in : SidePlan → DayEnding → SidePlan
@@ -120,74 +122,85 @@ piece_name : (o : Option WorkPiece) (name other : ItemName) →
 piece_name None name other h k = absurd h
 piece_name (Some piece) name other h k = h ∙ sym k
 
-module _ (facts : DayFacts) (numbers : Numbers) (fixed : numbers.climb ≡ false) (ends : EndsOnce (blocks_of facts true) (blocks_of facts false)) where
-  one_blocks : (a b : SidePlan) → ArePlannedBlocks facts numbers a → ArePlannedBlocks facts numbers b → a.columns ≡ b.columns
+-- a day has no two plans of blocks that are known, nor one and none
+abbrev pub HasOneKnown : DayFacts → Type 0
+HasOneKnown facts = (flow : Bool) (one other : Option KnownPlan) → AreKnownBlocks facts flow one → AreKnownBlocks facts flow other → one ≡ other
+
+pub plan_ends_once : (facts : DayFacts) → HasOneKnown facts → ((known : Option KnownPlan) → DayEndsOnce (day_problems facts known)) → PlanEndsOnce facts
+plan_ends_once facts known once asked fixed one other h k =
+    let P : Option KnownPlan → Type 0 = λ p. DayEndsAs (day_problems facts p) asked.numbers one in
+    once k.known asked.numbers fixed one other (subst P (known asked.flow h.known k.known h.known_is k.known_is) h.ends) k.ends
+
+module _ (facts : DayFacts) (known : HasOneKnown facts) (asked : Asked) (fixed : asked.numbers.climb ≡ false) (ends : EndsOnce (blocks_of facts true) (blocks_of facts false)) where
+  one_blocks : (a b : SidePlan) → ArePlannedBlocks facts asked a → ArePlannedBlocks facts asked b → a.columns ≡ b.columns
   one_blocks a b h k =
-      let same : planned a.count a.cost h.columns ≡ planned b.count b.cost k.columns = ends numbers fixed (planned a.count a.cost h.columns) (planned b.count b.cost k.columns) h.planned k.planned in
+      let P : Option KnownPlan → Type 0 = λ p. EndsBy (blocks_of facts true) (blocks_of facts false) asked.numbers p (planned a.count a.cost h.columns) in
+      let same : planned a.count a.cost h.columns ≡ planned b.count b.cost k.columns =
+      ends asked.numbers fixed k.known (planned a.count a.cost h.columns) (planned b.count b.cost k.columns) (subst P (known asked.flow h.known k.known h.known_is k.known_is) h.planned) k.planned in
       h.order ∙ (ap printed (same_planned a.count a.cost b.count b.cost h.columns k.columns same) ∙ sym k.order)
 
-  one_name : (side : Side) (item : ℕ) (name other : ItemName) (columns : List Column) → IsLeftItem facts numbers side item name columns → IsLeftItem facts numbers side item other columns → name ≡ other
+  one_name : (side : Side) (item : ℕ) (name other : ItemName) (columns : List Column) → IsLeftItem facts asked side item name columns → IsLeftItem facts asked side item other columns → name ≡ other
   one_name Vehicles item name other columns h k = trip_name (slice_get facts.trips item) name other h.1 k.1
   one_name Drivers item name other columns h k =
       let P : List Column → Type 0 = λ blocks. IsSomeAnd (slice_get (pieces_of_plan facts blocks) item) (λ (piece : WorkPiece). name ≡ Piece piece.block piece.index) in
       piece_name (slice_get (pieces_of_plan facts k.blocks.columns) item) name other (subst P (one_blocks h.blocks k.blocks h.blocks_are k.blocks_are) h.named) k.named
 
   one_left : (side other : Side) (i j : ℕ) (name other_name : ItemName) (a b : Plan) → left_out side i a.columns ≡ left_out other j b.columns →
-      IsLeftItem facts numbers side i name a.columns → IsLeftItem facts numbers other j other_name b.columns → faults.NotPlaced side i name a ≡ faults.NotPlaced other j other_name b
+      IsLeftItem facts asked side i name a.columns → IsLeftItem facts asked other j other_name b.columns → faults.NotPlaced side i name a ≡ faults.NotPlaced other j other_name b
   one_left side other i j name other_name a b same h k =
       let sides : side ≡ other = same_side side other i j a.columns b.columns same in
       let items : i ≡ j = same_item side other i j a.columns b.columns same in
       let columns : a.columns ≡ b.columns = same_columns side other i j a.columns b.columns same in
-      let P : Side → Type 0 = λ s. IsLeftItem facts numbers s i name a.columns in
-      let Q : ℕ → Type 0 = λ n. IsLeftItem facts numbers other n name a.columns in
-      let R : List Column → Type 0 = λ cs. IsLeftItem facts numbers other j name cs in
+      let P : Side → Type 0 = λ s. IsLeftItem facts asked s i name a.columns in
+      let Q : ℕ → Type 0 = λ n. IsLeftItem facts asked other n name a.columns in
+      let R : List Column → Type 0 = λ cs. IsLeftItem facts asked other j name cs in
       let names : name ≡ other_name = one_name other j name other_name b.columns (subst R columns (subst Q items (subst P sides h))) k in
       ap (λ (s : Side). faults.NotPlaced s i name a) sides
       ∙ (ap (λ (n : ℕ). faults.NotPlaced other n name a) items
       ∙ (ap (λ (n : ItemName). faults.NotPlaced other j n a) names ∙ ap (λ (cs : List Column). faults.NotPlaced other j other_name (record { columns = cs })) columns))
 
-module _ (facts : DayFacts) (once : DayEndsOnce (day_problems facts)) where
+module _ (facts : DayFacts) (once : PlanEndsOnce facts) where
   pub one_text : HasOneText facts
-  one_text = λ numbers fixed table one other h k.
-      let same : answered h.blocks h.duties ≡ answered k.blocks k.duties = once numbers fixed (answered h.blocks h.duties) (answered k.blocks k.duties) h.plan.ends k.plan.ends in
+  one_text = λ asked fixed table one other h k.
+      let same : answered h.blocks h.duties ≡ answered k.blocks k.duties = once asked fixed (answered h.blocks h.duties) (answered k.blocks k.duties) h.plan.ends k.plan.ends in
       h.written
       ∙ (ap (λ (s : SidePlan). text (answer_tables facts table (answer_of facts s h.duties))) (same_blocks h.blocks h.duties k.blocks k.duties same)
       ∙ (ap (λ (s : SidePlan). text (answer_tables facts table (answer_of facts k.blocks s))) (same_duties h.blocks h.duties k.blocks k.duties same) ∙ sym k.written))
 
   pub one_short_text : HasOneShortText facts
-  one_short_text = λ numbers fixed one other h k.
-      let same : answered h.blocks h.duties ≡ answered k.blocks k.duties = once numbers fixed (answered h.blocks h.duties) (answered k.blocks k.duties) h.plan.ends k.plan.ends in
+  one_short_text = λ asked fixed one other h k.
+      let same : answered h.blocks h.duties ≡ answered k.blocks k.duties = once asked fixed (answered h.blocks h.duties) (answered k.blocks k.duties) h.plan.ends k.plan.ends in
       h.written
       ∙ (ap (λ (s : SidePlan). text (short_tables facts s h.duties)) (same_blocks h.blocks h.duties k.blocks k.duties same)
       ∙ (ap (λ (s : SidePlan). text (short_tables facts k.blocks s)) (same_duties h.blocks h.duties k.blocks k.duties same) ∙ sym k.written))
 
   -- a day that is planned has no cause for a refusal
-  plan_or_cause : (numbers : Numbers) → numbers.climb ≡ false → (blocks duties : SidePlan) (fault : PlanFault) → DayEndsAs (day_problems facts) numbers (answered blocks duties) → IsPlanCauseOver facts numbers fault → fault ≡ faults.Memory
-  plan_or_cause numbers fixed blocks duties (faults.NoPlan side bound places) ends cause =
-      absurd (not_refused blocks duties side bound places (once numbers fixed (answered blocks duties) (refused side bound places) ends cause.0))
-  plan_or_cause numbers fixed blocks duties (faults.NotPlaced side item name partial) ends cause =
-      absurd (not_left blocks duties side item partial.columns (once numbers fixed (answered blocks duties) (left_out side item partial.columns) ends cause.0))
-  plan_or_cause numbers fixed blocks duties faults.Memory ends cause = refl
+  plan_or_cause : (asked : Asked) → asked.numbers.climb ≡ false → (blocks duties : SidePlan) (fault : PlanFault) → PlanEndsAs facts asked (answered blocks duties) → IsPlanCauseOver facts asked fault → fault ≡ faults.Memory
+  plan_or_cause asked fixed blocks duties (faults.NoPlan side bound places) ends cause =
+      absurd (not_refused blocks duties side bound places (once asked fixed (answered blocks duties) (refused side bound places) ends cause.0))
+  plan_or_cause asked fixed blocks duties (faults.NotPlaced side item name partial) ends cause =
+      absurd (not_left blocks duties side item partial.columns (once asked fixed (answered blocks duties) (left_out side item partial.columns) ends cause.0))
+  plan_or_cause asked fixed blocks duties faults.Memory ends cause = refl
 
   pub text_or_cause : HasTextOrCause facts
-  text_or_cause = λ numbers fixed table bytes fault h. plan_or_cause numbers fixed h.blocks h.duties fault h.plan.ends
+  text_or_cause = λ asked fixed table bytes fault h. plan_or_cause asked fixed h.blocks h.duties fault h.plan.ends
 
   pub short_text_or_cause : HasShortTextOrCause facts
-  short_text_or_cause = λ numbers fixed bytes fault h. plan_or_cause numbers fixed h.blocks h.duties fault h.plan.ends
+  short_text_or_cause = λ asked fixed bytes fault h. plan_or_cause asked fixed h.blocks h.duties fault h.plan.ends
 
-  module _ (ends : EndsOnce (blocks_of facts true) (blocks_of facts false)) where
+  module _ (known : HasOneKnown facts) (ends : EndsOnce (blocks_of facts true) (blocks_of facts false)) where
     pub one_cause : HasOneCause facts
-    one_cause = λ numbers fixed one other h k. go numbers fixed one other h k
+    one_cause = λ asked fixed one other h k. go asked fixed one other h k
       where
-        go : (numbers : Numbers) → numbers.climb ≡ false → (one other : PlanFault) → IsPlanCauseOver facts numbers one → IsPlanCauseOver facts numbers other → (one ≡ other) ⊎ ((one ≡ faults.Memory) ⊎ (other ≡ faults.Memory))
-        go numbers fixed faults.Memory other h k = inr (inl refl)
-        go numbers fixed (faults.NoPlan side bound places) faults.Memory h k = inr (inr refl)
-        go numbers fixed (faults.NotPlaced side item name partial) faults.Memory h k = inr (inr refl)
-        go numbers fixed (faults.NoPlan side bound places) (faults.NoPlan side' bound' places') h k =
-            inl (same_refusal side side' bound places bound' places' (once numbers fixed (refused side bound places) (refused side' bound' places') h.0 k.0))
-        go numbers fixed (faults.NoPlan side bound places) (faults.NotPlaced side' item name partial) h k =
-            absurd (not_both side side' bound places item partial.columns (once numbers fixed (refused side bound places) (left_out side' item partial.columns) h.0 k.0))
-        go numbers fixed (faults.NotPlaced side' item name partial) (faults.NoPlan side bound places) h k =
-            absurd (not_both side side' bound places item partial.columns (once numbers fixed (refused side bound places) (left_out side' item partial.columns) k.0 h.0))
-        go numbers fixed (faults.NotPlaced side i name a) (faults.NotPlaced other j other_name b) h k =
-            inl (one_left facts numbers fixed ends side other i j name other_name a b (once numbers fixed (left_out side i a.columns) (left_out other j b.columns) h.0 k.0) h.1 k.1)
+        go : (asked : Asked) → asked.numbers.climb ≡ false → (one other : PlanFault) → IsPlanCauseOver facts asked one → IsPlanCauseOver facts asked other → (one ≡ other) ⊎ ((one ≡ faults.Memory) ⊎ (other ≡ faults.Memory))
+        go asked fixed faults.Memory other h k = inr (inl refl)
+        go asked fixed (faults.NoPlan side bound places) faults.Memory h k = inr (inr refl)
+        go asked fixed (faults.NotPlaced side item name partial) faults.Memory h k = inr (inr refl)
+        go asked fixed (faults.NoPlan side bound places) (faults.NoPlan side' bound' places') h k =
+            inl (same_refusal side side' bound places bound' places' (once asked fixed (refused side bound places) (refused side' bound' places') h.0 k.0))
+        go asked fixed (faults.NoPlan side bound places) (faults.NotPlaced side' item name partial) h k =
+            absurd (not_both side side' bound places item partial.columns (once asked fixed (refused side bound places) (left_out side' item partial.columns) h.0 k.0))
+        go asked fixed (faults.NotPlaced side' item name partial) (faults.NoPlan side bound places) h k =
+            absurd (not_both side side' bound places item partial.columns (once asked fixed (refused side bound places) (left_out side' item partial.columns) k.0 h.0))
+        go asked fixed (faults.NotPlaced side i name a) (faults.NotPlaced other j other_name b) h k =
+            inl (one_left facts known asked fixed ends side other i j name other_name a b (once asked fixed (left_out side i a.columns) (left_out other j b.columns) h.0 k.0) h.1 k.1)

@@ -12,7 +12,6 @@ use Rattle.cover_core.specs.Plans.{AreColumns, HasListedColumns, IsPlan, cost}
 use Rattle.cover_core.specs.FirstLeast.{AreCheap}
 use Rattle.cover_core.proofs.Counts.{has_few_columns}
 use Rattle.cover_core.proofs.Values.{Rises-length}
-use Rattle.cover_plan.specs.Endings.{Numbers}
 use Rattle.day_method.specs.Method.{SidePlan}
 use Rattle.plan_params.specs.declared.rows.pool.Pool.{Pool}
 use Rattle.plan_params.specs.declared.rows.group.Group.{Group}
@@ -26,7 +25,7 @@ use Rattle.duty_network.specs.Duties.{DutyFacts, duties}
 use Rattle.duty_network.specs.Listed.{duties_listed}
 use Rattle.duty_network.specs.Ranges.{IsShift as IsDutyShift}
 use Rattle.umlauf_write.specs.Answers.{IsPiece}
-use Rattle.plan_command.specs.Planning.{duties_over, IsDayPlan}
+use Rattle.plan_command.specs.Planning.{Asked, duties_over, IsDayPlan}
 use Rattle.plan_command.specs.PlanText.{IsPrintable}
 
 -- pieces
@@ -101,9 +100,9 @@ cheap_cost : (columns : List Column) → AreCheap columns → cost columns ≤ 4
 cheap_cost [] cheap = omega arith
 cheap_cost (c ∷ cs) cheap = let first = cheap.0 in omega (arith, first, cheap_cost cs cheap.1)
 
-pub printable : (facts : DayFacts) (numbers : Numbers) (blocks duties : SidePlan) → IsDayPlan facts numbers blocks duties → length facts.trips ≤ 3000 → length (pieces_of_plan facts blocks.columns) ≤ 3000 →
+pub printable : (facts : DayFacts) (asked : Asked) (blocks duties : SidePlan) → IsDayPlan facts asked blocks duties → length facts.trips ≤ 3000 → length (pieces_of_plan facts blocks.columns) ≤ 3000 →
     AreCheap blocks.columns → AreCheap duties.columns → IsPrintable facts blocks duties
-printable facts numbers blocks duties plan few few_pieces cheap_blocks cheap_duties =
+printable facts asked blocks duties plan few few_pieces cheap_blocks cheap_duties =
     let some_blocks = few_blocks facts blocks.columns few plan.blocks_are.plan in
     let some_duties = few_duties facts blocks.columns duties.columns few_pieces plan.duties_are.plan in
     let vehicles = plan.blocks_are.count_bound blocks.columns plan.blocks_are.plan in

@@ -2,10 +2,9 @@
 use Rattle.std.specs.Prelude.{◌≡◌, ℕ, List}
 use Rattle.plan_core.specs.declared.types.Point.{Point}
 use Rattle.vdv451_text.specs.declared.table.Table.{Table}
-use Rattle.cover_plan.specs.Endings.{Numbers}
 use Rattle.day_model.specs.Facts.{DayFacts, dead}
 use Rattle.plan_command.specs.declared.fault.PlanFault.{PlanFault}
-use Rattle.plan_command.specs.Planning.{IsPlanCauseOver}
+use Rattle.plan_command.specs.Planning.{Asked, IsPlanCauseOver}
 use Rattle.plan_command.specs.PlanText.{IsPlanTextOver}
 use Rattle.plan_command.specs.ShortText.{IsShortTextOver}
 
@@ -20,12 +19,12 @@ pub record AreAlike (one other : DayFacts) : Type 0 where
 
 -- a text of the one day is one of the other
 abbrev pub HaveSameTexts : DayFacts → DayFacts → Type 0
-HaveSameTexts one other = (numbers : Numbers) (table : Table) (bytes : List ℕ) → IsPlanTextOver one numbers table bytes → IsPlanTextOver other numbers table bytes
+HaveSameTexts one other = (asked : Asked) (table : Table) (bytes : List ℕ) → IsPlanTextOver one asked table bytes → IsPlanTextOver other asked table bytes
 
 -- a short text of the one day is one of the other
 abbrev pub HaveSameShortTexts : DayFacts → DayFacts → Type 0
-HaveSameShortTexts one other = (numbers : Numbers) (bytes : List ℕ) → IsShortTextOver one numbers bytes → IsShortTextOver other numbers bytes
+HaveSameShortTexts one other = (asked : Asked) (bytes : List ℕ) → IsShortTextOver one asked bytes → IsShortTextOver other asked bytes
 
 -- a cause for a refusal of the one day is one of the other
 abbrev pub HaveSameCauses : DayFacts → DayFacts → Type 0
-HaveSameCauses one other = (numbers : Numbers) (fault : PlanFault) → IsPlanCauseOver one numbers fault → IsPlanCauseOver other numbers fault
+HaveSameCauses one other = (asked : Asked) (fault : PlanFault) → IsPlanCauseOver one asked fault → IsPlanCauseOver other asked fault

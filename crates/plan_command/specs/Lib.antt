@@ -1,3 +1,4 @@
+pub mod Flow
 pub mod Planning
 pub mod PlanText
 pub mod Steps

@@ -5,7 +5,6 @@ use Rattle.vdv451_text.specs.Plain.{text}
 use Rattle.trip_times.specs.declared.trip.Trip.{Trip}
 use Rattle.cover_core.specs.FirstLeast.{AreCheap}
 use Rattle.cover_core.specs.Plans.{IsPlan}
-use Rattle.cover_plan.specs.Endings.{Numbers}
 use Rattle.day_method.specs.Method.{SidePlan}
 use Rattle.day_model.specs.Facts.{DayFacts}
 use Rattle.depot_network.specs.Network.{blocks_of}
@@ -14,7 +13,7 @@ use Rattle.block_cut.specs.Legs.{block_legs}
 use Rattle.umlauf_write.specs.declared.answer.Answer.{Answer}
 use Rattle.umlauf_write.specs.Answers.{answer_tables}
 use Rattle.umlauf_write.specs.Trips.{HasOneRow}
-use Rattle.plan_command.specs.Planning.{IsDayPlan, duties_over}
+use Rattle.plan_command.specs.Planning.{Asked, IsDayPlan, duties_over}
 
 -- a table has exactly one row of the day's version for each trip of the day, and no number of a trip is above 10^18
 pub record HasTripRows (facts : DayFacts) (table : Table) : Type 0 where
@@ -37,10 +36,10 @@ answer_of facts blocks duties = record {
 
 -- The text of the plan of a day, from the table that its trips were read from: the seven tables of the blocks and duties that the method
 -- ends with. No worker occurs in it.
-pub record IsPlanTextOver (facts : DayFacts) (numbers : Numbers) (table : Table) (bytes : List ℕ) : Type 0 where
+pub record IsPlanTextOver (facts : DayFacts) (asked : Asked) (table : Table) (bytes : List ℕ) : Type 0 where
   pub blocks : SidePlan
   pub duties : SidePlan
-  pub plan : IsDayPlan facts numbers blocks duties
+  pub plan : IsDayPlan facts asked blocks duties
   pub written : bytes ≡ text (answer_tables facts table (answer_of facts blocks duties))
 
 -- the columns, worths and bounds of a plan are those of a day, so that it can be printed

@@ -3,12 +3,11 @@ use Rattle.std.specs.Prelude.{◌≡◌, ℕ, List, [], ◌∷◌, length, Optio
 use Rattle.vdv451_text.specs.declared.table.Table.{Table}
 use Rattle.vdv451_text.specs.Plain.{text}
 use Rattle.number_tables.specs.Numbers.{number_table}
-use Rattle.cover_plan.specs.Endings.{Numbers}
 use Rattle.day_method.specs.Method.{SidePlan}
 use Rattle.day_model.specs.Facts.{DayFacts}
 use Rattle.block_cut.specs.Cuts.{pieces_of_plan}
 use Rattle.umlauf_write.specs.Answers.{bound_table}
-use Rattle.plan_command.specs.Planning.{IsDayPlan}
+use Rattle.plan_command.specs.Planning.{Asked, IsDayPlan}
 use Rattle.plan_command.specs.PlanText.{four_bounds}
 
 -- X_KURZ.
@@ -30,8 +29,8 @@ short_tables facts blocks duties =
 
 -- The short text of the plan of a day: the counts and the bounds of the blocks and duties that the method ends with. No worker occurs in
 -- it, and no table that the trips were read from.
-pub record IsShortTextOver (facts : DayFacts) (numbers : Numbers) (bytes : List ℕ) : Type 0 where
+pub record IsShortTextOver (facts : DayFacts) (asked : Asked) (bytes : List ℕ) : Type 0 where
   pub blocks : SidePlan
   pub duties : SidePlan
-  pub plan : IsDayPlan facts numbers blocks duties
+  pub plan : IsDayPlan facts asked blocks duties
   pub written : bytes ≡ text (short_tables facts blocks duties)

@@ -2,24 +2,18 @@
 
 ghost use Rattle.day_model.specs.Facts.{DayFacts};
 ghost use Rattle.plan_command.specs.Alike.{AreAlike, HaveSameCauses, HaveSameShortTexts, HaveSameTexts};
-ghost use Rattle.plan_command.specs.Once.{HasOneCause, HasOneShortText, HasOneText, HasShortTextOrCause, HasTextOrCause};
+ghost use Rattle.plan_command.specs.Once.{HasOneCause, HasOneShortText, HasOneText, HasShortTextOrCause, HasTextOrCause, PlanEndsOnce};
 
-use cover_plan::ends_once;
-use day_method::day_ends_once;
-use depot_network::PoolNet;
-
-/// A day that is planned by fixed rounds has one text and one short text or one cause for a refusal, and not both: the definitions of both
+/// Planning of a day by fixed rounds ends in one way alone. So a day has one text and one short text or one cause for a refusal, and not both: the definitions of both
 /// admit one answer alone, whatever the number of workers. Of climbing this is not said.
 pub fn day_answers_once()
+    ensures ends { (facts : DayFacts) → PlanEndsOnce facts }
     ensures text { (facts : DayFacts) → HasOneText facts }
     ensures cause { (facts : DayFacts) → HasOneCause facts }
     ensures either { (facts : DayFacts) → HasTextOrCause facts }
     ensures short { (facts : DayFacts) → HasOneShortText facts }
     ensures short_either { (facts : DayFacts) → HasShortTextOrCause facts }
-{
-    day_ends_once();
-    ends_once::<PoolNet>();
-}
+{}
 
 /// Two days that agree in their version and kind, their trips, their settings and the times of their deadheads have the same texts, short
 /// texts and causes for a refusal, by either method. So nothing of a plan hangs on the order in which a network tells its deadheads, nor on

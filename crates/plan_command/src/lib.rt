@@ -11,7 +11,9 @@
 
 mod day_plan;
 mod fault;
+mod flow;
 mod laws;
+mod method;
 mod planning;
 mod short;
 mod writing;
@@ -19,6 +21,7 @@ mod writing;
 pub use day_plan::DayPlan;
 pub use fault::{ItemName, PlanFault};
 pub use laws::{day_answers_once, days_alike_answer_alike};
+pub use method::Method;
 pub use planning::plan_day;
 pub use short::short_text;
 pub use writing::plan_text;

@@ -1,30 +1,34 @@
 //! The blocks and duties of a day.
 
-ghost use Rattle.std.specs.Prelude.{◌≡◌, ◌<◌, ◌≤◌, ℕ, true, false, List, All, IfOk, IfErr, length};
+ghost use Rattle.std.specs.Prelude.{◌≡◌, ◌<◌, ◌≤◌, ℕ, true, false, List, Some, None, All, IfOk, IfErr, IfSome, length};
 ghost use Rattle.cover_core.specs.declared.Column.{Column as PlanColumn};
 ghost use Rattle.cover_core.specs.FirstLeast.{AreCheap};
 ghost use Rattle.cover_core.specs.Laws.{IsCountOf};
 ghost use Rattle.cover_core.specs.Plans.{IsPlan};
 ghost use Rattle.price_rounds.specs.Efforts.{IsEffort};
 ghost use Rattle.cover_plan.specs.Endings.{numbers_of};
-ghost use Rattle.cover_plan.specs.Ends.{IsCause};
+ghost use Rattle.cover_plan.specs.Ends.{IsCause, IsCountCause};
+ghost use Rattle.price_rounds.specs.Rounds.{IsBoundOf};
 ghost use Rattle.depot_network.specs.Network.{blocks_of};
 ghost use Rattle.block_cut.specs.Cuts.{IsShift, pieces_of_plan};
 ghost use Rattle.plan_params.specs.Limits.{HaveRanges};
 ghost use Rattle.duty_network.specs.Duties.{duties as duties_of, is_count};
-ghost use Rattle.plan_command.specs.Planning.{ArePlannedBlocks, IsDayPlan, IsPlanCauseOver, IsPlannedSide, side_of};
-ghost use Rattle.plan_command.specs.Steps.{IsBlocksFault, IsDutiesFault, IsItemBelow};
+ghost use Rattle.plan_command.specs.Planning.{ArePlannedBlocks, IsDayPlan, IsDualFeasible, IsPlanCauseOver, IsPlannedSide, IsThis, asked_of, side_of};
+ghost use Rattle.plan_command.specs.Steps.{IsBlocksFault, IsDutiesFault, IsItemBelow, IsSideCause};
 
 use crate::day_plan::DayPlan;
 use crate::fault::{ItemName, PlanFault};
+use crate::flow::known_blocks;
+use crate::method::Method;
 use block_cut::cut;
 use cover_core::{Plan, Pricer, Worth};
-use cover_plan::{PlanFault as CoverFault, Planned, plan_of};
+use cover_plan::{KnownPlan, PlanFault as CoverFault, Planned, count_of, plan_of};
 use day_method::Side;
 use day_model::Day;
 use depot_network::{PoolNet, counted_blocks};
 use duty_network::{DutyNet, counted_duties};
 use duty_pricing::DutyPricer;
+use one_pool_flow::flow_is_one;
 use path_pricing::PathPricer;
 use plan_core::{Gate, Memory, Piece, Seq};
 use plan_params::Params;
@@ -44,7 +48,7 @@ fn planned_side<R: Threads + Sync, P: Pricer + Sync, G: Gate + Sync>(
 ) -> Result<Planned, CoverFault>
     requires effort { IsEffort effort.now }
     requires counts { IsCountOf (P.problem costed.now) (P.problem counted.now) }
-    ensures side { IfOk result (λ planned. IsPlannedSide (P.problem counted.now) (P.problem costed.now) (numbers_of effort.now) (side_of planned)) }
+    ensures side { IfOk result (λ planned. IsPlannedSide (P.problem counted.now) (P.problem costed.now) (numbers_of effort.now) (IsThis None) (side_of planned)) }
     ensures cheap { IfOk result (λ planned. AreCheap planned.plan.columns) }
     ensures cause { IfErr result (IsCause (P.problem counted.now) (P.problem costed.now) (numbers_of effort.now)) }
 {
@@ -54,6 +58,62 @@ fn planned_side<R: Threads + Sync, P: Pricer + Sync, G: Gate + Sync>(
             Err(Memory) => Err(CoverFault::Memory),
             Ok(plan) => Ok(Planned { plan, count, cost }),
         },
+    }
+}
+
+/// One side of a day whose plan is known: the pass with each worth 1, and the known plan in printed order.
+fn known_side<R: Threads + Sync, P: Pricer + Sync, G: Gate + Sync>(
+    rt: &R,
+    alloc: Global,
+    counted: &P,
+    costed: &P,
+    known: KnownPlan,
+    effort: &Effort,
+    gate: &G,
+) -> Result<Planned, CoverFault>
+    requires effort { IsEffort effort.now }
+    requires counts { IsCountOf (P.problem costed.now) (P.problem counted.now) }
+    requires plan { IsPlan (P.problem costed.now) known.plan.columns }
+    requires cheap { AreCheap known.plan.columns }
+    requires feasible { IsDualFeasible (P.problem costed.now) known.cost }
+    requires bound { IsBoundOf (P.problem costed.now) known.cost.bound }
+    ensures side { IfOk result (λ planned. IsPlannedSide (P.problem counted.now) (P.problem costed.now) (numbers_of effort.now) (IsThis (Some known)) (side_of planned)) }
+    ensures cheap { IfOk result (λ planned. AreCheap planned.plan.columns) }
+    ensures cause { IfErr result (IsCountCause (P.problem counted.now) (P.problem costed.now) (numbers_of effort.now)) }
+{
+    let KnownPlan { plan, cost } = known;
+    match count_of(rt, alloc, counted, costed, effort, gate) {
+        Err(fault) => Err(fault),
+        Ok(count) => match in_printed_order(plan) {
+            Err(Memory) => Err(CoverFault::Memory),
+            Ok(plan) => Ok(Planned { plan, count, cost }),
+        },
+    }
+}
+
+/// One side of a day, of which a plan may be known.
+fn side_by<R: Threads + Sync, P: Pricer + Sync, G: Gate + Sync>(
+    rt: &R,
+    alloc: Global,
+    counted: &P,
+    costed: &P,
+    known: Option<KnownPlan>,
+    effort: &Effort,
+    gate: &G,
+) -> Result<Planned, CoverFault>
+    requires effort { IsEffort effort.now }
+    requires counts { IsCountOf (P.problem costed.now) (P.problem counted.now) }
+    requires plan { IfSome known (λ known. IsPlan (P.problem costed.now) known.plan.columns) }
+    requires cheap { IfSome known (λ known. AreCheap known.plan.columns) }
+    requires feasible { IfSome known (λ known. IsDualFeasible (P.problem costed.now) known.cost) }
+    requires bound { IfSome known (λ known. IsBoundOf (P.problem costed.now) known.cost.bound) }
+    ensures side { IfOk result (λ planned. IsPlannedSide (P.problem counted.now) (P.problem costed.now) (numbers_of effort.now) (IsThis known) (side_of planned)) }
+    ensures cheap { IfOk result (λ planned. AreCheap planned.plan.columns) }
+    ensures cause { IfErr result (IsSideCause (P.problem counted.now) (P.problem costed.now) (numbers_of effort.now) known) }
+{
+    match known {
+        Some(known) => known_side(rt, alloc, counted, costed, known, effort, gate),
+        None => planned_side(rt, alloc, counted, costed, effort, gate),
     }
 }
 
@@ -86,20 +146,24 @@ fn planned_blocks<R: Threads + Sync, G: Gate + Sync>(
     rt: &R,
     alloc: Global,
     model: &Day,
-    effort: &Effort,
+    method: &Method,
     gate: &G,
 ) -> Result<Planned, PlanFault>
-    requires effort { IsEffort effort.now }
-    ensures blocks { IfOk result (λ blocks. ArePlannedBlocks model.now (numbers_of effort.now) (side_of blocks)) }
+    requires effort { IsEffort method.now.effort }
+    ensures blocks { IfOk result (λ blocks. ArePlannedBlocks model.now (asked_of method.now) (side_of blocks)) }
     ensures cheap { IfOk result (λ blocks. AreCheap blocks.plan.columns) }
-    ensures cause { IfErr result (IsPlanCauseOver model.now (numbers_of effort.now)) }
+    ensures cause { IfErr result (IsPlanCauseOver model.now (asked_of method.now)) }
 {
     counted_blocks();
+    let known = match known_blocks(alloc, model, method.flow) {
+        Ok(known) => known,
+        Err(Memory) => return Err(PlanFault::Memory),
+    };
     let count_net = PoolNet::new(model, Worth::Count);
     let cost_net = PoolNet::new(model, Worth::Cost);
     let counted = PathPricer::new(&count_net);
     let costed = PathPricer::new(&cost_net);
-    match planned_side(rt, alloc, &counted, &costed, effort, gate) {
+    match side_by(rt, alloc, &counted, &costed, known, &method.effort, gate) {
         Ok(blocks) => Ok(blocks),
         Err(fault) => Err(blocks_fault(model, fault)),
     }
@@ -134,7 +198,7 @@ fn planned_duties<R: Threads + Sync, G: Gate + Sync>(
     requires few { length pieces.now ≤ 3000 }
     requires shifts { All IsShift pieces.now }
     requires params { HaveRanges params.now }
-    ensures duties { IfOk result (λ duties. IsPlannedSide (duties_of (record { pieces = pieces.now; params = params.now; counts = true })) (duties_of (record { pieces = pieces.now; params = params.now; counts = false })) (numbers_of effort.now) (side_of duties)) }
+    ensures duties { IfOk result (λ duties. IsPlannedSide (duties_of (record { pieces = pieces.now; params = params.now; counts = true })) (duties_of (record { pieces = pieces.now; params = params.now; counts = false })) (numbers_of effort.now) (IsThis None) (side_of duties)) }
     ensures cheap { IfOk result (λ duties. AreCheap duties.plan.columns) }
     ensures cause { IfErr result (IsCause (duties_of (record { pieces = pieces.now; params = params.now; counts = true })) (duties_of (record { pieces = pieces.now; params = params.now; counts = false })) (numbers_of effort.now)) }
 {
@@ -198,25 +262,26 @@ fn with_duties<R: Threads + Sync, G: Gate + Sync>(
     alloc: Global,
     model: &Day,
     blocks: Planned,
-    effort: &Effort,
+    method: &Method,
     gate: &G,
 ) -> Result<DayPlan, PlanFault>
-    requires effort { IsEffort effort.now }
-    requires blocks { ArePlannedBlocks model.now (numbers_of effort.now) (side_of blocks) }
+    requires effort { IsEffort method.now.effort }
+    requires blocks { ArePlannedBlocks model.now (asked_of method.now) (side_of blocks) }
     requires cheap { AreCheap blocks.plan.columns }
-    ensures plan { IfOk result (λ plan. IsDayPlan model.now (numbers_of effort.now) (side_of plan.blocks) (side_of plan.duties)) }
+    ensures plan { IfOk result (λ plan. IsDayPlan model.now (asked_of method.now) (side_of plan.blocks) (side_of plan.duties)) }
     ensures pieces { IfOk result (λ plan. plan.pieces ≡ pieces_of_plan model.now plan.blocks.plan.columns) }
     ensures few { IfOk result (λ plan. length plan.pieces ≤ 3000) }
     ensures shifts { IfOk result (λ plan. All IsShift plan.pieces) }
     ensures cheap_blocks { IfOk result (λ plan. AreCheap plan.blocks.plan.columns) }
     ensures cheap_duties { IfOk result (λ plan. AreCheap plan.duties.plan.columns) }
-    ensures cause { IfErr result (IsPlanCauseOver model.now (numbers_of effort.now)) }
+    ensures cause { IfErr result (IsPlanCauseOver model.now (asked_of method.now)) }
 {
+    flow_is_one();
     let pieces = match block_pieces(alloc, model, &blocks.plan) {
         Ok(pieces) => pieces,
         Err(Memory) => return Err(PlanFault::Memory),
     };
-    match planned_duties(rt, alloc, &pieces, model.params(), effort, gate) {
+    match planned_duties(rt, alloc, &pieces, model.params(), &method.effort, gate) {
         Ok(duties) => Ok(DayPlan {
             blocks,
             pieces,
@@ -230,8 +295,9 @@ fn with_duties<R: Threads + Sync, G: Gate + Sync>(
 ///
 /// For each side there is a pass with each worth 1, which bounds the number of columns of every plan; a pass with costs, which bounds
 /// their costs; rounding and exchange. What is given is defined without workers and gates, and the definition admits one plan or one
-/// refusal alone, unless the effort is to climb: then both sides are planned by climbing, and the promises are the same but for that. The
-/// effort is in its ranges.
+/// refusal alone, unless the effort is to climb: then both sides are planned by climbing, and the promises are the same but for that. Where
+/// the flow is asked for, the day has one pool, and each path of its flow plan is a block, these paths are the blocks, and the bound of their
+/// cost is their cost: no pass with costs is made for them. The effort is in its ranges.
 ///
 /// # Errors
 ///
@@ -242,20 +308,20 @@ pub fn plan_day<R: Threads + Sync, G: Gate + Sync>(
     rt: &R,
     alloc: Global,
     model: &Day,
-    effort: &Effort,
+    method: &Method,
     gate: &G,
 ) -> Result<DayPlan, PlanFault>
-    requires effort { IsEffort effort.now }
-    ensures plan { IfOk result (λ plan. IsDayPlan model.now (numbers_of effort.now) (side_of plan.blocks) (side_of plan.duties)) }
+    requires effort { IsEffort method.now.effort }
+    ensures plan { IfOk result (λ plan. IsDayPlan model.now (asked_of method.now) (side_of plan.blocks) (side_of plan.duties)) }
     ensures pieces { IfOk result (λ plan. plan.pieces ≡ pieces_of_plan model.now plan.blocks.plan.columns) }
     ensures few { IfOk result (λ plan. length plan.pieces ≤ 3000) }
     ensures shifts { IfOk result (λ plan. All IsShift plan.pieces) }
     ensures cheap_blocks { IfOk result (λ plan. AreCheap plan.blocks.plan.columns) }
     ensures cheap_duties { IfOk result (λ plan. AreCheap plan.duties.plan.columns) }
-    ensures cause { IfErr result (IsPlanCauseOver model.now (numbers_of effort.now)) }
+    ensures cause { IfErr result (IsPlanCauseOver model.now (asked_of method.now)) }
 {
-    match planned_blocks(rt, alloc, model, effort, gate) {
-        Ok(blocks) => with_duties(rt, alloc, model, blocks, effort, gate),
+    match planned_blocks(rt, alloc, model, method, gate) {
+        Ok(blocks) => with_duties(rt, alloc, model, blocks, method, gate),
         Err(fault) => Err(fault),
     }
 }

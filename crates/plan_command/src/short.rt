@@ -3,21 +3,20 @@
 ghost use Rattle.std.specs.Prelude.{◌≡◌, ◌<◌, ◌≤◌, All, IsTrue, IfOk, IfErr, length, slice_index_or, true};
 ghost use Rattle.vdv451_text.specs.Plain.{are_plain, is_plain_table, text};
 ghost use Rattle.price_rounds.specs.Efforts.{IsEffort};
-ghost use Rattle.cover_plan.specs.Endings.{numbers_of};
 ghost use Rattle.block_cut.specs.Cuts.{IsShift, pieces_of_plan};
 ghost use Rattle.umlauf_write.specs.Answers.{bound_table as bound_table_of};
-ghost use Rattle.plan_command.specs.Planning.{IsPlanCauseOver, side_of};
+ghost use Rattle.plan_command.specs.Planning.{IsPlanCauseOver, asked_of, side_of};
 ghost use Rattle.plan_command.specs.PlanText.{HasTripRows, IsPrintable, four_bounds};
 ghost use Rattle.plan_command.specs.ShortText.{IsShortTextOver, count_table as count_table_of, short_tables};
 
 use crate::day_plan::DayPlan;
 use crate::fault::PlanFault;
+use crate::method::Method;
 use crate::planning::plan_day;
 use crate::writing::tables_of;
 use day_model::Day;
 use number_tables::{number_row, number_table};
 use plan_core::{Bytes, Gate, Memory, Seq};
-use price_rounds::Effort;
 use std::alloc::Global;
 use std::thread::Threads;
 use vdv451_text::{Table, write_tables};
@@ -110,16 +109,16 @@ pub fn short_text<R: Threads + Sync, G: Gate + Sync>(
     alloc: Global,
     model: &Day,
     rec_frt: &Table,
-    effort: &Effort,
+    method: &Method,
     gate: &G,
 ) -> Result<Bytes, PlanFault>
     requires plain { IsTrue (is_plain_table rec_frt.now) }
     requires trips { HasTripRows model.now rec_frt.now }
-    requires effort { IsEffort effort.now }
-    ensures written { IfOk result (IsShortTextOver model.now (numbers_of effort.now)) }
-    ensures cause { IfErr result (IsPlanCauseOver model.now (numbers_of effort.now)) }
+    requires effort { IsEffort method.now.effort }
+    ensures written { IfOk result (IsShortTextOver model.now (asked_of method.now)) }
+    ensures cause { IfErr result (IsPlanCauseOver model.now (asked_of method.now)) }
 {
-    let plan = match plan_day(rt, alloc, model, effort, gate) {
+    let plan = match plan_day(rt, alloc, model, method, gate) {
         Ok(plan) => plan,
         Err(fault) => return Err(fault),
     };

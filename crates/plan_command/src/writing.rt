@@ -4,22 +4,21 @@ ghost use Rattle.std.specs.Prelude.{◌≡◌, false, map, All, IsTrue, IfOk, If
 ghost use Rattle.cover_core.specs.FirstLeast.{AreCheap};
 ghost use Rattle.vdv451_text.specs.Plain.{are_plain, is_plain_table, text};
 ghost use Rattle.price_rounds.specs.Efforts.{IsEffort};
-ghost use Rattle.cover_plan.specs.Endings.{Numbers, numbers_of};
 ghost use Rattle.block_cut.specs.Cuts.{IsShift, pieces_of_plan};
 ghost use Rattle.block_cut.specs.Legs.{HasWorth, block_legs as legs_of_block};
 ghost use Rattle.umlauf_write.specs.Answers.{answer_tables};
-ghost use Rattle.plan_command.specs.Planning.{IsDayPlan, IsPlanCauseOver, side_of};
+ghost use Rattle.plan_command.specs.Planning.{IsDayPlan, IsPlanCauseOver, asked_of, side_of};
 ghost use Rattle.plan_command.specs.PlanText.{HasTripRows, IsPlanTextOver, IsPrintable, answer_of as answer_of_plan, four_bounds};
 
 use crate::day_plan::DayPlan;
 use crate::fault::PlanFault;
+use crate::method::Method;
 use crate::planning::plan_day;
 use block_cut::legs;
 use cover_core::Column;
 use cover_plan::Planned;
 use day_model::Day;
 use plan_core::{Bytes, Gate, Leg, Memory, Seq};
-use price_rounds::Effort;
 use std::alloc::Global;
 use std::thread::Threads;
 use umlauf_write::{Answer, plan_tables};
@@ -118,16 +117,16 @@ pub fn plan_text<R: Threads + Sync, G: Gate + Sync>(
     alloc: Global,
     model: &Day,
     rec_frt: &Table,
-    effort: &Effort,
+    method: &Method,
     gate: &G,
 ) -> Result<Bytes, PlanFault>
     requires plain { IsTrue (is_plain_table rec_frt.now) }
     requires trips { HasTripRows model.now rec_frt.now }
-    requires effort { IsEffort effort.now }
-    ensures written { IfOk result (IsPlanTextOver model.now (numbers_of effort.now) rec_frt.now) }
-    ensures cause { IfErr result (IsPlanCauseOver model.now (numbers_of effort.now)) }
+    requires effort { IsEffort method.now.effort }
+    ensures written { IfOk result (IsPlanTextOver model.now (asked_of method.now) rec_frt.now) }
+    ensures cause { IfErr result (IsPlanCauseOver model.now (asked_of method.now)) }
 {
-    let plan = match plan_day(rt, alloc, model, effort, gate) {
+    let plan = match plan_day(rt, alloc, model, method, gate) {
         Ok(plan) => plan,
         Err(fault) => return Err(fault),
     };

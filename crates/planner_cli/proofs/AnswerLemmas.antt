@@ -4,6 +4,7 @@ use Rattle.std.specs.Prelude.{IfOk, IfErr}
 use Rattle.vdv451_text.specs.declared.table.Table.{Table}
 use Rattle.vdv451_text.specs.declared.fault.TextFault.{TextFault}
 use Rattle.vdv451_text.specs.declared.fault.TextKind.{TextKind}
+use Rattle.plan_command.specs.Planning.{Asked}
 use Rattle.planner_cli.specs.Tasks.{Task, climbs}
 use Rattle.planner_cli.specs.Tasks.{Certify, Check, Day, Make, MakeRun, Plan, Trips, Week}
 use Rattle.planner_cli.specs.declared.status.Status.{Status}
@@ -17,7 +18,6 @@ use Rattle.planner_cli.specs.declared.outcome.Outcome.{Outcome}
 use Rattle.planner_cli.specs.Run.{IsAnswer, IsAnswerCause, IsCause, IsRefusal, IsRefused, IsTablesRefusal, IsUnread, IsWhole, file_status, is_of_planning, is_open, names_for, stage_of, tables_in, told_for}
 use Rattle.input_files.proofs.InputLemmas.{if_told, of_told}
 use Rattle.planner_cli.specs.Model.{IsModelCause}
-use Rattle.cover_plan.specs.Endings.{Numbers}
 use Rattle.day_maker.specs.Made.{made_tables}
 use Rattle.plan_command.specs.declared.fault.PlanFault.{PlanFault}
 use Rattle.plan_command.specs.declared.fault.PlanFault.TheVariants as faults
@@ -35,24 +35,24 @@ use Rattle.planner_cli.proofs.PlanOutcomes.{one_plan_cause, plan_text_no_cause, 
 same_cause : (task : Task) (tables : List Table) (day : ℕ) (s t : Status) → is_open task t ≡ false → IsCause task tables day s → IsCause task tables day t → s ≡ t
 same_cause Trips tables day s t settled p q = one_cause tables day s t p q
 same_cause Day tables day s t settled p q = one_model_cause tables day s t p q
-same_cause (Plan numbers) tables day s t settled p q = one_plan_cause numbers tables day s t settled p q
-same_cause (Certify numbers) tables day s t settled p q = one_plan_cause numbers tables day s t settled p q
+same_cause (Plan asked) tables day s t settled p q = one_plan_cause asked tables day s t settled p q
+same_cause (Certify asked) tables day s t settled p q = one_plan_cause asked tables day s t settled p q
 same_cause (Check count) tables day s t settled p q = one_model_cause tables day s t p q
 same_cause (Make seed trips) tables day s t settled p q = absurd p
 same_cause Week tables day s t settled p q = one_week_cause tables s t p q
-same_cause (MakeRun seed trips numbers) tables day s t settled p q = one_plan_cause numbers (made_tables seed trips) day s t settled p q
+same_cause (MakeRun seed trips asked) tables day s t settled p q = one_plan_cause asked (made_tables seed trips) day s t settled p q
 
 -- tables with a text are not refused
 no_cause : (task : Task) (parts : List (List Table)) (day : ℕ) (ending : Status) (bytes : List ℕ) (s : Status) → is_open task s ≡ false → IsWhole task parts day ending bytes
     → IsCause task (tables_in task parts) day s → ⊥
 no_cause Trips parts day ending bytes s settled p q = text_no_cause (joined parts) day bytes s p.0 q
 no_cause Day parts day ending bytes s settled p q = day_text_no_cause (joined parts) day bytes s p.0 q
-no_cause (Plan numbers) parts day ending bytes s settled p q = plan_text_no_cause numbers (joined parts) day bytes s settled p.0 q
-no_cause (Certify numbers) parts day ending bytes s settled p q = cert_text_no_cause numbers (joined parts) day bytes s settled p.0 q
+no_cause (Plan asked) parts day ending bytes s settled p q = plan_text_no_cause asked (joined parts) day bytes s settled p.0 q
+no_cause (Certify asked) parts day ending bytes s settled p q = cert_text_no_cause asked (joined parts) day bytes s settled p.0 q
 no_cause (Check count) parts day ending bytes s settled p q = model_no_cause (tables_in (Check count) parts) day p.facts s p.model q
 no_cause (Make seed trips) parts day ending bytes s settled p q = q
 no_cause Week parts day ending bytes s settled p q = week_text_no_cause (joined parts) bytes s p.0 q
-no_cause (MakeRun seed trips numbers) parts day ending bytes s settled p q = short_text_no_cause numbers (made_tables seed trips) day bytes s settled p.0 q
+no_cause (MakeRun seed trips asked) parts day ending bytes s settled p q = short_text_no_cause asked (made_tables seed trips) day bytes s settled p.0 q
 
 -- nothing is left open where nothing climbs
 never_open : (task : Task) (s : Status) → climbs task ≡ false → is_open task s ≡ false
@@ -136,9 +136,9 @@ unplanned_is_of_tables (faults.NoPlan side bound places) told = tt
 unplanned_is_of_tables (faults.NotPlaced side item name partial) told = tt
 unplanned_is_of_tables faults.Memory told = absurd (told refl)
 
-plan_is_of_tables : (numbers : Numbers) (tables : List Table) (day : ℕ) (status : Status) → IsPlanCause numbers tables day status → IsTableStatus status
-plan_is_of_tables numbers tables day status (inl c) = model_is_of_tables tables day status c
-plan_is_of_tables numbers tables day status (inr c) = subst IsTableStatus (sym c.is) (unplanned_is_of_tables c.fault c.told)
+plan_is_of_tables : (asked : Asked) (tables : List Table) (day : ℕ) (status : Status) → IsPlanCause asked tables day status → IsTableStatus status
+plan_is_of_tables asked tables day status (inl c) = model_is_of_tables tables day status c
+plan_is_of_tables asked tables day status (inr c) = subst IsTableStatus (sym c.is) (unplanned_is_of_tables c.fault c.told)
 
 roster_is_of_tables : (fault : RosterFault) → fault ≢ rosters.Memory → IsTableStatus (roster_status fault)
 roster_is_of_tables (rosters.Table wrong) told = tt
@@ -162,12 +162,12 @@ is_of_tables Trips tables day (statuses.ReadFault file) c = c
 is_of_tables Trips tables day statuses.WriteFault c = c
 is_of_tables Trips tables day (statuses.CheckNo reason) c = c
 is_of_tables Day tables day status c = model_is_of_tables tables day status c
-is_of_tables (Plan numbers) tables day status c = plan_is_of_tables numbers tables day status c
-is_of_tables (Certify numbers) tables day status c = plan_is_of_tables numbers tables day status c
+is_of_tables (Plan asked) tables day status c = plan_is_of_tables asked tables day status c
+is_of_tables (Certify asked) tables day status c = plan_is_of_tables asked tables day status c
 is_of_tables (Check count) tables day status c = model_is_of_tables tables day status c
 is_of_tables (Make seed trips) tables day status c = absurd c
 is_of_tables Week tables day status c = subst IsTableStatus (sym c.is) (roster_is_of_tables c.fault c.told)
-is_of_tables (MakeRun seed trips numbers) tables day status c = plan_is_of_tables numbers (made_tables seed trips) day status c
+is_of_tables (MakeRun seed trips asked) tables day status c = plan_is_of_tables asked (made_tables seed trips) day status c
 
 -- a cause in the tables is a refusal of them
 tables_cause : (task : Task) (held : List ℕ → Option (List ℕ)) (names : List (List ℕ)) (parts : List (List Table)) (day : ℕ) (status : Status)

@@ -2,7 +2,6 @@
 use Rattle.std.proofs.Common.{◌≡◌, ℕ, zero, suc, ◌+◌, ◌-◌, ◌≤◌, ◌⊎◌, inl, inr, Bool, true, false, List, [], ◌∷◌, ◌++◌, length, take, Result, Ok, Err, IfOk, IfErr, refl, sym, ap, ◌∙◌, subst, arith, slice_index_or}
 use Rattle.vdv451_text.specs.declared.table.Table.{Table}
 use Rattle.price_rounds.specs.declared.effort.Effort.{Effort}
-use Rattle.cover_plan.specs.Endings.{Numbers, numbers_of}
 use Rattle.cert_check.specs.declared.reason.Answered.{Answered}
 use Rattle.cert_check.specs.declared.reason.Answered.TheVariants.{Yes, No}
 use Rattle.command_words.specs.declared.command.Command.{Command}
@@ -13,6 +12,7 @@ use Rattle.input_files.specs.Parts.{joined}
 use Rattle.input_files.specs.Stages.{most_bytes}
 use Rattle.input_files.specs.declared.stage.Stage.{Stage}
 use Rattle.input_files.specs.declared.stage.Stage.TheVariants as stages
+use Rattle.plan_command.specs.Planning.{Asked}
 use Rattle.planner_cli.specs.declared.outcome.Outcome.{Outcome}
 use Rattle.planner_cli.specs.declared.status.Status.{Status}
 use Rattle.planner_cli.specs.declared.status.Status.TheVariants as statuses
@@ -20,7 +20,7 @@ use Rattle.planner_cli.specs.CheckText.{IsCheckText, ending_of}
 use Rattle.planner_cli.specs.Endings.{is_done}
 use Rattle.planner_cli.specs.Model.{IsModelRefused}
 use Rattle.planner_cli.specs.Run.{HasParts, IsEndingOf, IsRefused, IsText, IsWhole, stage_of, tables_in}
-use Rattle.planner_cli.specs.Tasks.{Task, is_check, make_task, task_for}
+use Rattle.planner_cli.specs.Tasks.{Task, asked_by, is_check, make_task, task_for}
 use Rattle.planner_cli.specs.Tasks.{Certify, Check, Day, Make, MakeRun, Plan, Trips, Week}
 
 -- the parts of planning files, of a plan and of a certificate are found again by how many planning files there are
@@ -93,74 +93,74 @@ check_refused_at count parts planning plan cert tables day (Err s) are number sa
     let R : ℕ → Type 0 = λ n. IsRefused (Check n) (tables_in (Check n) parts) day s in
     subst R count_same (subst Q (sym are) there)
 
-pub check_whole : (command : Command) (effort : Effort) (n : ℕ) → is_check command ≡ true → (parts planning : List (List Table)) (plan cert tables : List Table) (day : ℕ) (r : Result Outcome Status)
-    → AreParts parts planning plan cert → HasParts (task_for command effort n) (length parts) → tables ≡ joined planning → IfOk r (λ o. IsCheckText tables plan cert day o.ending o.text)
-    → IfOk r (λ o. IsWhole (task_for command effort n) parts day o.ending o.text)
-check_whole commands.Check effort n is parts planning plan cert tables day r are number same h = check_at (n - 2) parts planning plan cert tables day r are number same h
-check_whole commands.Trips effort n is parts planning plan cert tables day r are number same h = absurd (let bad = is in cc)
-check_whole commands.Day effort n is parts planning plan cert tables day r are number same h = absurd (let bad = is in cc)
-check_whole commands.Plan effort n is parts planning plan cert tables day r are number same h = absurd (let bad = is in cc)
-check_whole commands.Certify effort n is parts planning plan cert tables day r are number same h = absurd (let bad = is in cc)
-check_whole (commands.Make making) effort n is parts planning plan cert tables day r are number same h = absurd (let bad = is in cc)
-check_whole commands.Week effort n is parts planning plan cert tables day r are number same h = absurd (let bad = is in cc)
+pub check_whole : (command : Command) (effort : Effort) (flow : Bool) (n : ℕ) → is_check command ≡ true → (parts planning : List (List Table)) (plan cert tables : List Table) (day : ℕ) (r : Result Outcome Status)
+    → AreParts parts planning plan cert → HasParts (task_for command effort flow n) (length parts) → tables ≡ joined planning → IfOk r (λ o. IsCheckText tables plan cert day o.ending o.text)
+    → IfOk r (λ o. IsWhole (task_for command effort flow n) parts day o.ending o.text)
+check_whole commands.Check effort flow n is parts planning plan cert tables day r are number same h = check_at (n - 2) parts planning plan cert tables day r are number same h
+check_whole commands.Trips effort flow n is parts planning plan cert tables day r are number same h = absurd (let bad = is in cc)
+check_whole commands.Day effort flow n is parts planning plan cert tables day r are number same h = absurd (let bad = is in cc)
+check_whole commands.Plan effort flow n is parts planning plan cert tables day r are number same h = absurd (let bad = is in cc)
+check_whole commands.Certify effort flow n is parts planning plan cert tables day r are number same h = absurd (let bad = is in cc)
+check_whole (commands.Make making) effort flow n is parts planning plan cert tables day r are number same h = absurd (let bad = is in cc)
+check_whole commands.Week effort flow n is parts planning plan cert tables day r are number same h = absurd (let bad = is in cc)
 
-pub check_refused : (command : Command) (effort : Effort) (n : ℕ) → is_check command ≡ true → (parts planning : List (List Table)) (plan cert tables : List Table) (day : ℕ) (r : Result Outcome Status)
-    → AreParts parts planning plan cert → HasParts (task_for command effort n) (length parts) → tables ≡ joined planning → IfErr r (IsModelRefused tables day)
-    → IfErr r (IsRefused (task_for command effort n) (tables_in (task_for command effort n) parts) day)
-check_refused commands.Check effort n is parts planning plan cert tables day r are number same h = check_refused_at (n - 2) parts planning plan cert tables day r are number same h
-check_refused commands.Trips effort n is parts planning plan cert tables day r are number same h = absurd (let bad = is in cc)
-check_refused commands.Day effort n is parts planning plan cert tables day r are number same h = absurd (let bad = is in cc)
-check_refused commands.Plan effort n is parts planning plan cert tables day r are number same h = absurd (let bad = is in cc)
-check_refused commands.Certify effort n is parts planning plan cert tables day r are number same h = absurd (let bad = is in cc)
-check_refused (commands.Make making) effort n is parts planning plan cert tables day r are number same h = absurd (let bad = is in cc)
-check_refused commands.Week effort n is parts planning plan cert tables day r are number same h = absurd (let bad = is in cc)
+pub check_refused : (command : Command) (effort : Effort) (flow : Bool) (n : ℕ) → is_check command ≡ true → (parts planning : List (List Table)) (plan cert tables : List Table) (day : ℕ) (r : Result Outcome Status)
+    → AreParts parts planning plan cert → HasParts (task_for command effort flow n) (length parts) → tables ≡ joined planning → IfErr r (IsModelRefused tables day)
+    → IfErr r (IsRefused (task_for command effort flow n) (tables_in (task_for command effort flow n) parts) day)
+check_refused commands.Check effort flow n is parts planning plan cert tables day r are number same h = check_refused_at (n - 2) parts planning plan cert tables day r are number same h
+check_refused commands.Trips effort flow n is parts planning plan cert tables day r are number same h = absurd (let bad = is in cc)
+check_refused commands.Day effort flow n is parts planning plan cert tables day r are number same h = absurd (let bad = is in cc)
+check_refused commands.Plan effort flow n is parts planning plan cert tables day r are number same h = absurd (let bad = is in cc)
+check_refused commands.Certify effort flow n is parts planning plan cert tables day r are number same h = absurd (let bad = is in cc)
+check_refused (commands.Make making) effort flow n is parts planning plan cert tables day r are number same h = absurd (let bad = is in cc)
+check_refused commands.Week effort flow n is parts planning plan cert tables day r are number same h = absurd (let bad = is in cc)
 
 -- a text from planning tables alone is the task's whole answer, and ends with Ok
-made_whole : (run : Bool) (seed trips : ℕ) (numbers : Numbers) (parts : List (List Table)) (day : ℕ) (bytes : List ℕ) → IsText (make_task run seed trips numbers) (joined parts) day bytes
-    → IsWhole (make_task run seed trips numbers) parts day statuses.Ok bytes
-made_whole true seed trips numbers parts day bytes h = (h, refl)
-made_whole false seed trips numbers parts day bytes h = (h, refl)
+made_whole : (run : Bool) (seed trips : ℕ) (asked : Asked) (parts : List (List Table)) (day : ℕ) (bytes : List ℕ) → IsText (make_task run seed trips asked) (joined parts) day bytes
+    → IsWhole (make_task run seed trips asked) parts day statuses.Ok bytes
+made_whole true seed trips asked parts day bytes h = (h, refl)
+made_whole false seed trips asked parts day bytes h = (h, refl)
 
-text_whole : (command : Command) (effort : Effort) (n : ℕ) → is_check command ≡ false → (parts : List (List Table)) (tables : List Table) (day : ℕ) (bytes : List ℕ) → tables ≡ joined parts
-    → IsText (task_for command effort n) tables day bytes → IsWhole (task_for command effort n) parts day statuses.Ok bytes
-text_whole commands.Trips effort n is parts tables day bytes same h = (subst (λ ts. IsText Trips ts day bytes) same h, refl)
-text_whole commands.Day effort n is parts tables day bytes same h = (subst (λ ts. IsText Day ts day bytes) same h, refl)
-text_whole commands.Plan effort n is parts tables day bytes same h = (subst (λ ts. IsText (Plan (numbers_of effort)) ts day bytes) same h, refl)
-text_whole commands.Certify effort n is parts tables day bytes same h = (subst (λ ts. IsText (Certify (numbers_of effort)) ts day bytes) same h, refl)
-text_whole commands.Check effort n is parts tables day bytes same h = absurd (let bad = is in cc)
-text_whole (commands.Make making) effort n is parts tables day bytes same h =
-    let P : List Table → Type 0 = λ ts. IsText (make_task making.run making.seed making.trips (numbers_of effort)) ts day bytes in
-    made_whole making.run making.seed making.trips (numbers_of effort) parts day bytes (subst P same h)
-text_whole commands.Week effort n is parts tables day bytes same h = (subst (λ ts. IsText Week ts day bytes) same h, refl)
+text_whole : (command : Command) (effort : Effort) (flow : Bool) (n : ℕ) → is_check command ≡ false → (parts : List (List Table)) (tables : List Table) (day : ℕ) (bytes : List ℕ) → tables ≡ joined parts
+    → IsText (task_for command effort flow n) tables day bytes → IsWhole (task_for command effort flow n) parts day statuses.Ok bytes
+text_whole commands.Trips effort flow n is parts tables day bytes same h = (subst (λ ts. IsText Trips ts day bytes) same h, refl)
+text_whole commands.Day effort flow n is parts tables day bytes same h = (subst (λ ts. IsText Day ts day bytes) same h, refl)
+text_whole commands.Plan effort flow n is parts tables day bytes same h = (subst (λ ts. IsText (Plan (asked_by effort flow)) ts day bytes) same h, refl)
+text_whole commands.Certify effort flow n is parts tables day bytes same h = (subst (λ ts. IsText (Certify (asked_by effort flow)) ts day bytes) same h, refl)
+text_whole commands.Check effort flow n is parts tables day bytes same h = absurd (let bad = is in cc)
+text_whole (commands.Make making) effort flow n is parts tables day bytes same h =
+    let P : List Table → Type 0 = λ ts. IsText (make_task making.run making.seed making.trips (asked_by effort false)) ts day bytes in
+    made_whole making.run making.seed making.trips (asked_by effort false) parts day bytes (subst P same h)
+text_whole commands.Week effort flow n is parts tables day bytes same h = (subst (λ ts. IsText Week ts day bytes) same h, refl)
 
-pub texts_whole : (command : Command) (effort : Effort) (n : ℕ) → is_check command ≡ false → (parts : List (List Table)) (tables : List Table) (day : ℕ) (r : Result Outcome Status) → tables ≡ joined parts
-    → IfOk r (λ o. IsText (task_for command effort n) tables day o.text × (o.ending ≡ statuses.Ok)) → IfOk r (λ o. IsWhole (task_for command effort n) parts day o.ending o.text)
-texts_whole command effort n is parts tables day (Ok o) same h =
-    let P : Status → Type 0 = λ s. IsWhole (task_for command effort n) parts day s o.text in subst P (sym h.1) (text_whole command effort n is parts tables day o.text same h.0)
-texts_whole command effort n is parts tables day (Err s) same h = tt
+pub texts_whole : (command : Command) (effort : Effort) (flow : Bool) (n : ℕ) → is_check command ≡ false → (parts : List (List Table)) (tables : List Table) (day : ℕ) (r : Result Outcome Status) → tables ≡ joined parts
+    → IfOk r (λ o. IsText (task_for command effort flow n) tables day o.text × (o.ending ≡ statuses.Ok)) → IfOk r (λ o. IsWhole (task_for command effort flow n) parts day o.ending o.text)
+texts_whole command effort flow n is parts tables day (Ok o) same h =
+    let P : Status → Type 0 = λ s. IsWhole (task_for command effort flow n) parts day s o.text in subst P (sym h.1) (text_whole command effort flow n is parts tables day o.text same h.0)
+texts_whole command effort flow n is parts tables day (Err s) same h = tt
 
-made_tables_all : (run : Bool) (seed trips : ℕ) (numbers : Numbers) (parts : List (List Table)) → joined parts ≡ tables_in (make_task run seed trips numbers) parts
-made_tables_all true seed trips numbers parts = refl
-made_tables_all false seed trips numbers parts = refl
+made_tables_all : (run : Bool) (seed trips : ℕ) (asked : Asked) (parts : List (List Table)) → joined parts ≡ tables_in (make_task run seed trips asked) parts
+made_tables_all true seed trips asked parts = refl
+made_tables_all false seed trips asked parts = refl
 
-tables_all : (command : Command) (effort : Effort) (n : ℕ) → is_check command ≡ false → (parts : List (List Table)) → joined parts ≡ tables_in (task_for command effort n) parts
-tables_all commands.Trips effort n is parts = refl
-tables_all commands.Day effort n is parts = refl
-tables_all commands.Plan effort n is parts = refl
-tables_all commands.Certify effort n is parts = refl
-tables_all commands.Check effort n is parts = absurd (let bad = is in cc)
-tables_all (commands.Make making) effort n is parts = made_tables_all making.run making.seed making.trips (numbers_of effort) parts
-tables_all commands.Week effort n is parts = refl
+tables_all : (command : Command) (effort : Effort) (flow : Bool) (n : ℕ) → is_check command ≡ false → (parts : List (List Table)) → joined parts ≡ tables_in (task_for command effort flow n) parts
+tables_all commands.Trips effort flow n is parts = refl
+tables_all commands.Day effort flow n is parts = refl
+tables_all commands.Plan effort flow n is parts = refl
+tables_all commands.Certify effort flow n is parts = refl
+tables_all commands.Check effort flow n is parts = absurd (let bad = is in cc)
+tables_all (commands.Make making) effort flow n is parts = made_tables_all making.run making.seed making.trips (asked_by effort false) parts
+tables_all commands.Week effort flow n is parts = refl
 
-text_refused : (command : Command) (effort : Effort) (n : ℕ) → is_check command ≡ false → (parts : List (List Table)) (tables : List Table) (day : ℕ) (status : Status) → tables ≡ joined parts
-    → IsRefused (task_for command effort n) tables day status → IsRefused (task_for command effort n) (tables_in (task_for command effort n) parts) day status
-text_refused command effort n is parts tables day status same h =
-    let P : List Table → Type 0 = λ ts. IsRefused (task_for command effort n) ts day status in subst P (same ∙ tables_all command effort n is parts) h
+text_refused : (command : Command) (effort : Effort) (flow : Bool) (n : ℕ) → is_check command ≡ false → (parts : List (List Table)) (tables : List Table) (day : ℕ) (status : Status) → tables ≡ joined parts
+    → IsRefused (task_for command effort flow n) tables day status → IsRefused (task_for command effort flow n) (tables_in (task_for command effort flow n) parts) day status
+text_refused command effort flow n is parts tables day status same h =
+    let P : List Table → Type 0 = λ ts. IsRefused (task_for command effort flow n) ts day status in subst P (same ∙ tables_all command effort flow n is parts) h
 
-pub texts_refused : (command : Command) (effort : Effort) (n : ℕ) → is_check command ≡ false → (parts : List (List Table)) (tables : List Table) (day : ℕ) (r : Result Outcome Status) → tables ≡ joined parts
-    → IfErr r (IsRefused (task_for command effort n) tables day) → IfErr r (IsRefused (task_for command effort n) (tables_in (task_for command effort n) parts) day)
-texts_refused command effort n is parts tables day (Ok o) same h = tt
-texts_refused command effort n is parts tables day (Err s) same h = text_refused command effort n is parts tables day s same h
+pub texts_refused : (command : Command) (effort : Effort) (flow : Bool) (n : ℕ) → is_check command ≡ false → (parts : List (List Table)) (tables : List Table) (day : ℕ) (r : Result Outcome Status) → tables ≡ joined parts
+    → IfErr r (IsRefused (task_for command effort flow n) tables day) → IfErr r (IsRefused (task_for command effort flow n) (tables_in (task_for command effort flow n) parts) day)
+texts_refused command effort flow n is parts tables day (Ok o) same h = tt
+texts_refused command effort flow n is parts tables day (Err s) same h = text_refused command effort flow n is parts tables day s same h
 
 -- an answer ends with Ok, and a check may end with a no
 done_of : (answer : Answered) → is_done (ending_of answer) ≡ true
@@ -171,10 +171,10 @@ ends_so : (task : Task) (parts : List (List Table)) (day : ℕ) (ending : Status
 ends_so (Check count) parts day ending bytes h = let P : Status → Type 0 = λ s. is_done s ≡ true in subst P (sym h.check.ends) (done_of h.check.answer)
 ends_so Trips parts day ending bytes h = h.1
 ends_so Day parts day ending bytes h = h.1
-ends_so (Plan numbers) parts day ending bytes h = h.1
-ends_so (Certify numbers) parts day ending bytes h = h.1
+ends_so (Plan asked) parts day ending bytes h = h.1
+ends_so (Certify asked) parts day ending bytes h = h.1
 ends_so (Make seed trips) parts day ending bytes h = h.1
-ends_so (MakeRun seed trips numbers) parts day ending bytes h = h.1
+ends_so (MakeRun seed trips asked) parts day ending bytes h = h.1
 ends_so Week parts day ending bytes h = h.1
 
 pub ends_well : (task : Task) (parts : List (List Table)) (day : ℕ) (r : Result Outcome Status) → IfOk r (λ o. IsWhole task parts day o.ending o.text) → IfOk r (λ o. IsEndingOf task o.ending)
@@ -188,25 +188,25 @@ pub is_done_so : (task : Task) (status : Status) → IsEndingOf task status → 
 is_done_so (Check count) status h = h
 is_done_so Trips status h = ok_is_done status h
 is_done_so Day status h = ok_is_done status h
-is_done_so (Plan numbers) status h = ok_is_done status h
-is_done_so (Certify numbers) status h = ok_is_done status h
+is_done_so (Plan asked) status h = ok_is_done status h
+is_done_so (Certify asked) status h = ok_is_done status h
 is_done_so (Make seed trips) status h = ok_is_done status h
-is_done_so (MakeRun seed trips numbers) status h = ok_is_done status h
+is_done_so (MakeRun seed trips asked) status h = ok_is_done status h
 is_done_so Week status h = ok_is_done status h
 
 -- as many files are named as are read
-made_parts : (run : Bool) (seed trips : ℕ) (numbers : Numbers) (n : ℕ) → HasParts (make_task run seed trips numbers) n
-made_parts true seed trips numbers n = tt
-made_parts false seed trips numbers n = tt
+made_parts : (run : Bool) (seed trips : ℕ) (asked : Asked) (n : ℕ) → HasParts (make_task run seed trips asked) n
+made_parts true seed trips asked n = tt
+made_parts false seed trips asked n = tt
 
-pub has_parts : (command : Command) (effort : Effort) (n : ℕ) → HasNames command n → HasParts (task_for command effort n) n
-has_parts commands.Trips effort n names = tt
-has_parts commands.Day effort n names = tt
-has_parts commands.Plan effort n names = tt
-has_parts commands.Certify effort n names = tt
-has_parts commands.Check effort n names = let least = names.0 in omega (arith, least)
-has_parts (commands.Make making) effort n names = made_parts making.run making.seed making.trips (numbers_of effort) n
-has_parts commands.Week effort n names = tt
+pub has_parts : (command : Command) (effort : Effort) (flow : Bool) (n : ℕ) → HasNames command n → HasParts (task_for command effort flow n) n
+has_parts commands.Trips effort flow n names = tt
+has_parts commands.Day effort flow n names = tt
+has_parts commands.Plan effort flow n names = tt
+has_parts commands.Certify effort flow n names = tt
+has_parts commands.Check effort flow n names = let least = names.0 in omega (arith, least)
+has_parts (commands.Make making) effort flow n names = made_parts making.run making.seed making.trips (asked_by effort false) n
+has_parts commands.Week effort flow n names = tt
 
 pub are_few : (command : Command) (n : ℕ) → HasNames command n → n ≤ 66
 are_few commands.Trips n names = let most = names.1 in omega (arith, most)
@@ -230,24 +230,24 @@ least_of_check commands.Week n is names = absurd (let bad = is in cc)
 one_less : (n : ℕ) → 3 ≤ n → n - 3 ≡ n - 2 - 1
 one_less n least = omega (arith, least)
 
-pub check_stage : (command : Command) (effort : Effort) (n : ℕ) → is_check command ≡ true → HasNames command n → stages.Planning (n - 3) most_bytes ≡ stage_of (task_for command effort n)
-check_stage commands.Check effort n is names = ap (λ m. stages.Planning m most_bytes) (one_less n names.0)
-check_stage commands.Trips effort n is names = absurd (let bad = is in cc)
-check_stage commands.Day effort n is names = absurd (let bad = is in cc)
-check_stage commands.Plan effort n is names = absurd (let bad = is in cc)
-check_stage commands.Certify effort n is names = absurd (let bad = is in cc)
-check_stage (commands.Make making) effort n is names = absurd (let bad = is in cc)
-check_stage commands.Week effort n is names = absurd (let bad = is in cc)
+pub check_stage : (command : Command) (effort : Effort) (flow : Bool) (n : ℕ) → is_check command ≡ true → HasNames command n → stages.Planning (n - 3) most_bytes ≡ stage_of (task_for command effort flow n)
+check_stage commands.Check effort flow n is names = ap (λ m. stages.Planning m most_bytes) (one_less n names.0)
+check_stage commands.Trips effort flow n is names = absurd (let bad = is in cc)
+check_stage commands.Day effort flow n is names = absurd (let bad = is in cc)
+check_stage commands.Plan effort flow n is names = absurd (let bad = is in cc)
+check_stage commands.Certify effort flow n is names = absurd (let bad = is in cc)
+check_stage (commands.Make making) effort flow n is names = absurd (let bad = is in cc)
+check_stage commands.Week effort flow n is names = absurd (let bad = is in cc)
 
-made_stage : (run : Bool) (seed trips : ℕ) (numbers : Numbers) → stages.Planning 63 most_bytes ≡ stage_of (make_task run seed trips numbers)
-made_stage true seed trips numbers = refl
-made_stage false seed trips numbers = refl
+made_stage : (run : Bool) (seed trips : ℕ) (asked : Asked) → stages.Planning 63 most_bytes ≡ stage_of (make_task run seed trips asked)
+made_stage true seed trips asked = refl
+made_stage false seed trips asked = refl
 
-pub text_stage : (command : Command) (effort : Effort) (n : ℕ) → is_check command ≡ false → stages.Planning 63 most_bytes ≡ stage_of (task_for command effort n)
-text_stage commands.Trips effort n is = refl
-text_stage commands.Day effort n is = refl
-text_stage commands.Plan effort n is = refl
-text_stage commands.Certify effort n is = refl
-text_stage commands.Check effort n is = absurd (let bad = is in cc)
-text_stage (commands.Make making) effort n is = made_stage making.run making.seed making.trips (numbers_of effort)
-text_stage commands.Week effort n is = refl
+pub text_stage : (command : Command) (effort : Effort) (flow : Bool) (n : ℕ) → is_check command ≡ false → stages.Planning 63 most_bytes ≡ stage_of (task_for command effort flow n)
+text_stage commands.Trips effort flow n is = refl
+text_stage commands.Day effort flow n is = refl
+text_stage commands.Plan effort flow n is = refl
+text_stage commands.Certify effort flow n is = refl
+text_stage commands.Check effort flow n is = absurd (let bad = is in cc)
+text_stage (commands.Make making) effort flow n is = made_stage making.run making.seed making.trips (asked_by effort false)
+text_stage commands.Week effort flow n is = refl

@@ -13,10 +13,10 @@ use Rattle.day_calendar.specs.Days.{HasWeekday}
 use Rattle.day_model.specs.Facts.{DayFacts}
 use Rattle.day_maker.specs.Made.{made_tables}
 use Rattle.day_tables.specs.DayTables.{day_tables_of}
-use Rattle.cover_plan.specs.Endings.{Numbers}
 use Rattle.plan_command.specs.PlanText.{IsPlanTextOver}
 use Rattle.plan_command.proofs.AlikeDays.{same_short_texts, same_texts}
 use Rattle.trip_times.specs.declared.trip.Trip.{Trip}
+use Rattle.plan_command.specs.Planning.{Asked}
 use Rattle.planner_cli.specs.Tasks.{Task, checks, climbs}
 use Rattle.planner_cli.specs.Tasks.{Certify, Check, Day, Make, MakeRun, Plan, Trips, Week}
 use Rattle.planner_cli.specs.declared.status.Status.{Status}
@@ -93,26 +93,26 @@ one_day_text tables day xs ys p q =
     ∙ sym q.written
 
 -- one text of a plan: two days of the tables plan alike, and a day has one text
-one_plan_text : (numbers : Numbers) → numbers.climb ≡ false → (tables : List Table) (day : ℕ) (xs ys : List ℕ) → IsPlanText numbers tables day xs → IsPlanText numbers tables day ys → xs ≡ ys
-one_plan_text numbers fixed tables day xs ys p q =
+one_plan_text : (asked : Asked) → asked.numbers.climb ≡ false → (tables : List Table) (day : ℕ) (xs ys : List ℕ) → IsPlanText asked tables day xs → IsPlanText asked tables day ys → xs ≡ ys
+one_plan_text asked fixed tables day xs ys p q =
     let table : p.table ≡ q.table = some_same (table_of schema.trips tables) p.table q.table p.found q.found in
-    let P : Table → Type 0 = λ t. IsPlanTextOver p.facts numbers t xs in
-    days_text q.facts numbers fixed q.table xs ys (same_texts p.facts q.facts (days_alike tables day p.facts q.facts p.model q.model) numbers q.table xs (subst P table p.plan)) q.plan
+    let P : Table → Type 0 = λ t. IsPlanTextOver p.facts asked t xs in
+    days_text q.facts asked fixed q.table xs ys (same_texts p.facts q.facts (days_alike tables day p.facts q.facts p.model q.model) asked q.table xs (subst P table p.plan)) q.plan
 
 -- and one short text
-one_short_text : (numbers : Numbers) → numbers.climb ≡ false → (tables : List Table) (day : ℕ) (xs ys : List ℕ) → IsShortText numbers tables day xs → IsShortText numbers tables day ys → xs ≡ ys
-one_short_text numbers fixed tables day xs ys p q =
-    days_short q.facts numbers fixed xs ys (same_short_texts p.facts q.facts (days_alike tables day p.facts q.facts p.model q.model) numbers xs p.plan) q.plan
+one_short_text : (asked : Asked) → asked.numbers.climb ≡ false → (tables : List Table) (day : ℕ) (xs ys : List ℕ) → IsShortText asked tables day xs → IsShortText asked tables day ys → xs ≡ ys
+one_short_text asked fixed tables day xs ys p q =
+    days_short q.facts asked fixed xs ys (same_short_texts p.facts q.facts (days_alike tables day p.facts q.facts p.model q.model) asked xs p.plan) q.plan
 
 one_text : (task : Task) → climbs task ≡ false → checks task ≡ false → (parts : List (List Table)) (day : ℕ) (s t : Status) (xs ys : List ℕ) → IsWhole task parts day s xs → IsWhole task parts day t ys → xs ≡ ys
 one_text Trips fixed text parts day s t xs ys p q = one_trips_text (joined parts) day xs ys p.0 q.0
 one_text Day fixed text parts day s t xs ys p q = one_day_text (joined parts) day xs ys p.0 q.0
-one_text (Plan numbers) fixed text parts day s t xs ys p q = one_plan_text numbers fixed (joined parts) day xs ys p.0 q.0
-one_text (Certify numbers) fixed text parts day s t xs ys p q = one_certificate numbers fixed (joined parts) day xs ys p.0 q.0
+one_text (Plan asked) fixed text parts day s t xs ys p q = one_plan_text asked fixed (joined parts) day xs ys p.0 q.0
+one_text (Certify asked) fixed text parts day s t xs ys p q = one_certificate asked fixed (joined parts) day xs ys p.0 q.0
 one_text (Check count) fixed text parts day s t xs ys p q = absurd cc
 one_text (Make seed trips) fixed text parts day s t xs ys p q = p.0 ∙ sym q.0
 one_text Week fixed text parts day s t xs ys p q = one_week_text (joined parts) xs ys p.0 q.0
-one_text (MakeRun seed trips numbers) fixed text parts day s t xs ys p q = one_short_text numbers fixed (made_tables seed trips) day xs ys p.0 q.0
+one_text (MakeRun seed trips asked) fixed text parts day s t xs ys p q = one_short_text asked fixed (made_tables seed trips) day xs ys p.0 q.0
 
 pub one_answer : (task : Task) → climbs task ≡ false → checks task ≡ false → (contents : List (List ℕ)) (day : ℕ) (s t : Status) (xs ys : List ℕ) → IsAnswer task contents day s xs → IsAnswer task contents day t ys → xs ≡ ys
 one_answer task fixed text contents day s t xs ys p q =

@@ -8,13 +8,12 @@ use Rattle.vdv452_tables.specs.declared.rows.TripRow.{TripRow}
 use Rattle.vdv452_tables.specs.declared.reading.Needs.TheVariants as needs
 use Rattle.vdv452_tables.specs.Calendar.{net_of, schemas_of}
 use Rattle.vdv452_tables.specs.Rows.{first_fault, table_of}
-use Rattle.cover_plan.specs.Endings.{Numbers}
 use Rattle.day_model.specs.Building.{IsDayOf}
 use Rattle.day_model.specs.Facts.{DayFacts}
 use Rattle.day_tables.specs.DayTables.{day_tables_of}
 use Rattle.plan_command.specs.declared.fault.PlanFault.{PlanFault}
 use Rattle.plan_command.specs.declared.fault.PlanFault.TheVariants as faults
-use Rattle.plan_command.specs.Planning.{IsPlanCauseOver}
+use Rattle.plan_command.specs.Planning.{Asked, IsPlanCauseOver}
 use Rattle.plan_command.specs.PlanText.{HasTripRows, IsPlanTextOver}
 use Rattle.planner_cli.specs.declared.status.Status.{Status}
 use Rattle.plan_command.specs.ShortText.{IsShortTextOver}
@@ -26,15 +25,15 @@ use Rattle.planner_cli.proofs.ModelLemmas.{day_refused}
 use Rattle.planner_cli.proofs.TripRows.{trip_fids, trip_rows_once}
 
 -- refusals of a plan
-pub model_to_plan : (numbers : Numbers) (tables : List Table) (day : ℕ) (status : Status) → IsModelRefused tables day status → IsPlanRefused numbers tables day status
-model_to_plan numbers tables day status (inl memory) = inl memory
-model_to_plan numbers tables day status (inr cause) = inr (inl cause)
+pub model_to_plan : (asked : Asked) (tables : List Table) (day : ℕ) (status : Status) → IsModelRefused tables day status → IsPlanRefused asked tables day status
+model_to_plan asked tables day status (inl memory) = inl memory
+model_to_plan asked tables day status (inr cause) = inr (inl cause)
 
-unplanned : (numbers : Numbers) (tables : List Table) (day : ℕ) (facts : DayFacts) (status : Status) → IsModelOf tables day facts → (fault : PlanFault) → IsPlanCauseOver facts numbers fault → status ≡ plan_status_of fault → IsPlanRefused numbers tables day status
-unplanned numbers tables day facts status model faults.Memory cause is = inl is
-unplanned numbers tables day facts status model (faults.NoPlan side bound places) cause is =
+unplanned : (asked : Asked) (tables : List Table) (day : ℕ) (facts : DayFacts) (status : Status) → IsModelOf tables day facts → (fault : PlanFault) → IsPlanCauseOver facts asked fault → status ≡ plan_status_of fault → IsPlanRefused asked tables day status
+unplanned asked tables day facts status model faults.Memory cause is = inl is
+unplanned asked tables day facts status model (faults.NoPlan side bound places) cause is =
     inr (inr (record { facts = facts; model = model; fault = faults.NoPlan side bound places; cause = cause; told = λ e. cc; is = is }))
-unplanned numbers tables day facts status model (faults.NotPlaced side item name partial) cause is =
+unplanned asked tables day facts status model (faults.NotPlaced side item name partial) cause is =
     inr (inr (record { facts = facts; model = model; fault = faults.NotPlaced side item name partial; cause = cause; told = λ e. cc; is = is }))
 
 -- a text of tables that are the ones meant
@@ -43,17 +42,17 @@ text_of_tables (Ok bytes) tables meant spelled same = spelled ∙ ap text same
 text_of_tables (Err e) tables meant spelled same = tt
 
 -- the text of a plan, of the day that the tables tell
-pub plan_written : (numbers : Numbers) (tables : List Table) (day : ℕ) (facts : DayFacts) (table : Table) (r : Result (List ℕ) Status) → IsModelOf tables day facts → table_of schema.trips tables ≡ Some table → IfOk r (IsPlanTextOver facts numbers table) → IfOk r (IsPlanText numbers tables day)
-plan_written numbers tables day facts table (Ok bytes) model found written = record { facts = facts; model = model; table = table; found = found; plan = written }
-plan_written numbers tables day facts table (Err status) model found written = tt
+pub plan_written : (asked : Asked) (tables : List Table) (day : ℕ) (facts : DayFacts) (table : Table) (r : Result (List ℕ) Status) → IsModelOf tables day facts → table_of schema.trips tables ≡ Some table → IfOk r (IsPlanTextOver facts asked table) → IfOk r (IsPlanText asked tables day)
+plan_written asked tables day facts table (Ok bytes) model found written = record { facts = facts; model = model; table = table; found = found; plan = written }
+plan_written asked tables day facts table (Err status) model found written = tt
 
-pub short_written : (numbers : Numbers) (tables : List Table) (day : ℕ) (facts : DayFacts) (r : Result (List ℕ) Status) → IsModelOf tables day facts → IfOk r (IsShortTextOver facts numbers) → IfOk r (IsShortText numbers tables day)
-short_written numbers tables day facts (Ok bytes) model written = record { facts = facts; model = model; plan = written }
-short_written numbers tables day facts (Err status) model written = tt
+pub short_written : (asked : Asked) (tables : List Table) (day : ℕ) (facts : DayFacts) (r : Result (List ℕ) Status) → IsModelOf tables day facts → IfOk r (IsShortTextOver facts asked) → IfOk r (IsShortText asked tables day)
+short_written asked tables day facts (Ok bytes) model written = record { facts = facts; model = model; plan = written }
+short_written asked tables day facts (Err status) model written = tt
 
-pub plan_left : (numbers : Numbers) (tables : List Table) (day : ℕ) (facts : DayFacts) (r : Result (List ℕ) Status) → IsModelOf tables day facts → IfErr r (IsPlanStatus facts numbers) → IfErr r (IsPlanRefused numbers tables day)
-plan_left numbers tables day facts (Ok bytes) model cause = tt
-plan_left numbers tables day facts (Err status) model cause = unplanned numbers tables day facts status model cause.fault cause.cause cause.is
+pub plan_left : (asked : Asked) (tables : List Table) (day : ℕ) (facts : DayFacts) (r : Result (List ℕ) Status) → IsModelOf tables day facts → IfErr r (IsPlanStatus facts asked) → IfErr r (IsPlanRefused asked tables day)
+plan_left asked tables day facts (Ok bytes) model cause = tt
+plan_left asked tables day facts (Err status) model cause = unplanned asked tables day facts status model cause.fault cause.cause cause.is
 
 -- the text of a day, of the tables that tell it
 pub day_written : (tables : List Table) (net : Net) (day : ℕ) (r : Result (List ℕ) Status) → first_fault (schemas_of needs.All) tables ≡ None → net ≡ net_of needs.All tables → IfOk r (IsDayTextIn net day) → IfOk r (IsDayText tables day)

@@ -1,16 +1,13 @@
 -- A day has one plan, or one cause why it has none, unless it is planned by climbing.
 use Rattle.std.proofs.Common.{◌≡◌, ℕ, ◌⊎◌, inl, inr, true, false, ◌&&◌, List, refl, sym, ◌∙◌, ap, subst}
 use Rattle.vdv451_text.specs.declared.table.Table.{Table}
-use Rattle.cover_plan.specs.Endings.{Numbers}
-use Rattle.cover_plan.proofs.Once.{one_ending}
-use Rattle.day_method.proofs.Days.{one_day}
 use Rattle.day_model.specs.Facts.{DayFacts}
-use Rattle.depot_network.specs.Network.{blocks_of}
 use Rattle.plan_command.specs.declared.fault.PlanFault.{PlanFault}
 use Rattle.plan_command.specs.declared.fault.PlanFault.TheVariants as faults
 use Rattle.plan_command.specs.Once.{HasOneCause, HasOneShortText, HasOneText, HasShortTextOrCause, HasTextOrCause}
-use Rattle.plan_command.specs.Planning.{day_problems}
+use Rattle.plan_command.specs.Planning.{Asked}
 use Rattle.plan_command.proofs.AlikeDays.{same_causes, same_short_texts, same_texts}
+use Rattle.plan_command.proofs.Ends.{blocks_end_once, known_once, planning_ends_once}
 use Rattle.plan_command.proofs.OneAnswer.{one_cause as one_cause_of, one_short_text as one_short_text_of, one_text as one_text_of, short_text_or_cause as short_or_cause_of, text_or_cause as text_or_cause_of}
 use Rattle.planner_cli.specs.declared.status.Status.{Status}
 use Rattle.planner_cli.specs.MadeText.{IsShortText}
@@ -20,21 +17,20 @@ use Rattle.planner_cli.proofs.ModelOutcomes.{days_alike, model_no_cause, one_mod
 
 -- a day has one text, one cause, and not both
 pub days_text : (facts : DayFacts) → HasOneText facts
-days_text facts = one_text_of facts (λ numbers fixed one other h k. one_day (day_problems facts) numbers fixed one other h k)
+days_text facts = one_text_of facts (planning_ends_once facts)
 
 pub days_short : (facts : DayFacts) → HasOneShortText facts
-days_short facts = one_short_text_of facts (λ numbers fixed one other h k. one_day (day_problems facts) numbers fixed one other h k)
+days_short facts = one_short_text_of facts (planning_ends_once facts)
 
 days_cause : (facts : DayFacts) → HasOneCause facts
 days_cause facts =
-    one_cause_of facts (λ numbers fixed one other h k. one_day (day_problems facts) numbers fixed one other h k)
-    (λ numbers fixed one other h k. one_ending (blocks_of facts true) (blocks_of facts false) numbers fixed one other h k)
+    one_cause_of facts (planning_ends_once facts) (known_once facts) (blocks_end_once facts)
 
 days_either : (facts : DayFacts) → HasTextOrCause facts
-days_either facts = text_or_cause_of facts (λ numbers fixed one other h k. one_day (day_problems facts) numbers fixed one other h k)
+days_either facts = text_or_cause_of facts (planning_ends_once facts)
 
 short_either : (facts : DayFacts) → HasShortTextOrCause facts
-short_either facts = short_or_cause_of facts (λ numbers fixed one other h k. one_day (day_problems facts) numbers fixed one other h k)
+short_either facts = short_or_cause_of facts (planning_ends_once facts)
 
 -- two causes, neither of which is want of memory, are one
 same_fault : (one other : PlanFault) → (one ≡ faults.Memory → ⊥) → (other ≡ faults.Memory → ⊥) → (one ≡ other) ⊎ ((one ≡ faults.Memory) ⊎ (other ≡ faults.Memory)) → one ≡ other
@@ -43,31 +39,31 @@ same_fault one other p q (inr (inl memory)) = absurd (p memory)
 same_fault one other p q (inr (inr memory)) = absurd (q memory)
 
 -- a refusal of planning that is not left open is one of fixed rounds
-pub in_rounds : (numbers : Numbers) (fault : PlanFault) (s : Status) → (fault ≡ faults.Memory → ⊥) → s ≡ plan_status_of fault → (is_of_planning s && numbers.climb) ≡ false → numbers.climb ≡ false
-in_rounds numbers (faults.NoPlan side bound places) s told is settled = let P : Status → Type 0 = λ s. (is_of_planning s && numbers.climb) ≡ false in subst P is settled
-in_rounds numbers (faults.NotPlaced side item name partial) s told is settled = let P : Status → Type 0 = λ s. (is_of_planning s && numbers.climb) ≡ false in subst P is settled
-in_rounds numbers faults.Memory s told is settled = absurd (told refl)
+pub in_rounds : (asked : Asked) (fault : PlanFault) (s : Status) → (fault ≡ faults.Memory → ⊥) → s ≡ plan_status_of fault → (is_of_planning s && asked.numbers.climb) ≡ false → asked.numbers.climb ≡ false
+in_rounds asked (faults.NoPlan side bound places) s told is settled = let P : Status → Type 0 = λ s. (is_of_planning s && asked.numbers.climb) ≡ false in subst P is settled
+in_rounds asked (faults.NotPlaced side item name partial) s told is settled = let P : Status → Type 0 = λ s. (is_of_planning s && asked.numbers.climb) ≡ false in subst P is settled
+in_rounds asked faults.Memory s told is settled = absurd (told refl)
 
-one_unplanned : (numbers : Numbers) → numbers.climb ≡ false → (tables : List Table) (day : ℕ) (s t : Status) → IsUnplanned numbers tables day s → IsUnplanned numbers tables day t → s ≡ t
-one_unplanned numbers fixed tables day s t p q =
-    let cause = same_causes p.facts q.facts (days_alike tables day p.facts q.facts p.model q.model) numbers p.fault p.cause in
-    p.is ∙ ap plan_status_of (same_fault p.fault q.fault p.told q.told (days_cause q.facts numbers fixed p.fault q.fault cause q.cause)) ∙ sym q.is
+one_unplanned : (asked : Asked) → asked.numbers.climb ≡ false → (tables : List Table) (day : ℕ) (s t : Status) → IsUnplanned asked tables day s → IsUnplanned asked tables day t → s ≡ t
+one_unplanned asked fixed tables day s t p q =
+    let cause = same_causes p.facts q.facts (days_alike tables day p.facts q.facts p.model q.model) asked p.fault p.cause in
+    p.is ∙ ap plan_status_of (same_fault p.fault q.fault p.told q.told (days_cause q.facts asked fixed p.fault q.fault cause q.cause)) ∙ sym q.is
 
-pub one_plan_cause : (numbers : Numbers) (tables : List Table) (day : ℕ) (s t : Status) → (is_of_planning t && numbers.climb) ≡ false → IsPlanCause numbers tables day s → IsPlanCause numbers tables day t → s ≡ t
-one_plan_cause numbers tables day s t settled (inl p) (inl q) = one_model_cause tables day s t p q
-one_plan_cause numbers tables day s t settled (inl p) (inr q) = model_no_cause tables day q.facts s q.model p
-one_plan_cause numbers tables day s t settled (inr p) (inl q) = model_no_cause tables day p.facts t p.model q
-one_plan_cause numbers tables day s t settled (inr p) (inr q) = one_unplanned numbers (in_rounds numbers q.fault t q.told q.is settled) tables day s t p q
+pub one_plan_cause : (asked : Asked) (tables : List Table) (day : ℕ) (s t : Status) → (is_of_planning t && asked.numbers.climb) ≡ false → IsPlanCause asked tables day s → IsPlanCause asked tables day t → s ≡ t
+one_plan_cause asked tables day s t settled (inl p) (inl q) = one_model_cause tables day s t p q
+one_plan_cause asked tables day s t settled (inl p) (inr q) = model_no_cause tables day q.facts s q.model p
+one_plan_cause asked tables day s t settled (inr p) (inl q) = model_no_cause tables day p.facts t p.model q
+one_plan_cause asked tables day s t settled (inr p) (inr q) = one_unplanned asked (in_rounds asked q.fault t q.told q.is settled) tables day s t p q
 
 -- a day with a plan is not refused
-pub plan_text_no_cause : (numbers : Numbers) (tables : List Table) (day : ℕ) (bytes : List ℕ) (s : Status) → (is_of_planning s && numbers.climb) ≡ false → IsPlanText numbers tables day bytes → IsPlanCause numbers tables day s → ⊥
-plan_text_no_cause numbers tables day bytes s settled p (inl q) = model_no_cause tables day p.facts s p.model q
-plan_text_no_cause numbers tables day bytes s settled p (inr q) =
-    let written = same_texts p.facts q.facts (days_alike tables day p.facts q.facts p.model q.model) numbers p.table bytes p.plan in
-    q.told (days_either q.facts numbers (in_rounds numbers q.fault s q.told q.is settled) p.table bytes q.fault written q.cause)
+pub plan_text_no_cause : (asked : Asked) (tables : List Table) (day : ℕ) (bytes : List ℕ) (s : Status) → (is_of_planning s && asked.numbers.climb) ≡ false → IsPlanText asked tables day bytes → IsPlanCause asked tables day s → ⊥
+plan_text_no_cause asked tables day bytes s settled p (inl q) = model_no_cause tables day p.facts s p.model q
+plan_text_no_cause asked tables day bytes s settled p (inr q) =
+    let written = same_texts p.facts q.facts (days_alike tables day p.facts q.facts p.model q.model) asked p.table bytes p.plan in
+    q.told (days_either q.facts asked (in_rounds asked q.fault s q.told q.is settled) p.table bytes q.fault written q.cause)
 
-pub short_text_no_cause : (numbers : Numbers) (tables : List Table) (day : ℕ) (bytes : List ℕ) (s : Status) → (is_of_planning s && numbers.climb) ≡ false → IsShortText numbers tables day bytes → IsPlanCause numbers tables day s → ⊥
-short_text_no_cause numbers tables day bytes s settled p (inl q) = model_no_cause tables day p.facts s p.model q
-short_text_no_cause numbers tables day bytes s settled p (inr q) =
-    let written = same_short_texts p.facts q.facts (days_alike tables day p.facts q.facts p.model q.model) numbers bytes p.plan in
-    q.told (short_either q.facts numbers (in_rounds numbers q.fault s q.told q.is settled) bytes q.fault written q.cause)
+pub short_text_no_cause : (asked : Asked) (tables : List Table) (day : ℕ) (bytes : List ℕ) (s : Status) → (is_of_planning s && asked.numbers.climb) ≡ false → IsShortText asked tables day bytes → IsPlanCause asked tables day s → ⊥
+short_text_no_cause asked tables day bytes s settled p (inl q) = model_no_cause tables day p.facts s p.model q
+short_text_no_cause asked tables day bytes s settled p (inr q) =
+    let written = same_short_texts p.facts q.facts (days_alike tables day p.facts q.facts p.model q.model) asked bytes p.plan in
+    q.told (short_either q.facts asked (in_rounds asked q.fault s q.told q.is settled) bytes q.fault written q.cause)

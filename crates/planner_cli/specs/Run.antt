@@ -32,10 +32,10 @@ abbrev pub stage_of : Task → Stage
 stage_of (Check count) = stages.Planning (count - 1) most_bytes
 stage_of Trips = stages.Planning 63 most_bytes
 stage_of Day = stages.Planning 63 most_bytes
-stage_of (Plan numbers) = stages.Planning 63 most_bytes
-stage_of (Certify numbers) = stages.Planning 63 most_bytes
+stage_of (Plan asked) = stages.Planning 63 most_bytes
+stage_of (Certify asked) = stages.Planning 63 most_bytes
 stage_of (Make seed trips) = stages.Planning 63 most_bytes
-stage_of (MakeRun seed trips numbers) = stages.Planning 63 most_bytes
+stage_of (MakeRun seed trips asked) = stages.Planning 63 most_bytes
 stage_of Week = stages.Planning 63 most_bytes
 
 -- the planning tables of all files, from those of each file
@@ -43,22 +43,22 @@ abbrev pub tables_in : Task → List (List Table) → List Table
 tables_in (Check count) parts = joined (take count parts)
 tables_in Trips parts = joined parts
 tables_in Day parts = joined parts
-tables_in (Plan numbers) parts = joined parts
-tables_in (Certify numbers) parts = joined parts
+tables_in (Plan asked) parts = joined parts
+tables_in (Certify asked) parts = joined parts
 tables_in (Make seed trips) parts = joined parts
-tables_in (MakeRun seed trips numbers) parts = joined parts
+tables_in (MakeRun seed trips asked) parts = joined parts
 tables_in Week parts = joined parts
 
 -- the text that a command writes of the planning tables, for a day; a day that is made is its own tables
 abbrev pub IsText : Task → List Table → ℕ → List ℕ → Type 0
 IsText Trips tables day bytes = IsTripsText tables day bytes
 IsText Day tables day bytes = IsDayText tables day bytes
-IsText (Plan numbers) tables day bytes = IsPlanText numbers tables day bytes
-IsText (Certify numbers) tables day bytes = IsCertText numbers tables day bytes
+IsText (Plan asked) tables day bytes = IsPlanText asked tables day bytes
+IsText (Certify asked) tables day bytes = IsCertText asked tables day bytes
 IsText (Check count) tables day bytes = ⊥
 IsText (Make seed trips) tables day bytes = IsMadeText seed trips bytes
 IsText Week tables day bytes = IsWeekText tables bytes
-IsText (MakeRun seed trips numbers) tables day bytes = IsShortText numbers (made_tables seed trips) day bytes
+IsText (MakeRun seed trips asked) tables day bytes = IsShortText asked (made_tables seed trips) day bytes
 
 -- The text of a command from the tables of each file, and the status that it ends with: a check has a text from a plan and a certificate
 -- besides, which may be a no, and each other command ends with Ok.
@@ -67,10 +67,10 @@ IsWhole (Check count) parts day ending bytes =
     IsCheckText (joined (take count parts)) (slice_index_or parts count []) (slice_index_or parts (count + 1) []) day ending bytes
 IsWhole Trips parts day ending bytes = IsText Trips (joined parts) day bytes × (ending ≡ statuses.Ok)
 IsWhole Day parts day ending bytes = IsText Day (joined parts) day bytes × (ending ≡ statuses.Ok)
-IsWhole (Plan numbers) parts day ending bytes = IsText (Plan numbers) (joined parts) day bytes × (ending ≡ statuses.Ok)
-IsWhole (Certify numbers) parts day ending bytes = IsText (Certify numbers) (joined parts) day bytes × (ending ≡ statuses.Ok)
+IsWhole (Plan asked) parts day ending bytes = IsText (Plan asked) (joined parts) day bytes × (ending ≡ statuses.Ok)
+IsWhole (Certify asked) parts day ending bytes = IsText (Certify asked) (joined parts) day bytes × (ending ≡ statuses.Ok)
 IsWhole (Make seed trips) parts day ending bytes = IsText (Make seed trips) (joined parts) day bytes × (ending ≡ statuses.Ok)
-IsWhole (MakeRun seed trips numbers) parts day ending bytes = IsText (MakeRun seed trips numbers) (joined parts) day bytes × (ending ≡ statuses.Ok)
+IsWhole (MakeRun seed trips asked) parts day ending bytes = IsText (MakeRun seed trips asked) (joined parts) day bytes × (ending ≡ statuses.Ok)
 IsWhole Week parts day ending bytes = IsText Week (joined parts) day bytes × (ending ≡ statuses.Ok)
 
 -- so many files were read: planning files, and for a check a plan and a certificate
@@ -78,22 +78,22 @@ abbrev pub HasParts : Task → ℕ → Type 0
 HasParts (Check count) files = files ≡ count + 2
 HasParts Trips files = Unit {0}
 HasParts Day files = Unit {0}
-HasParts (Plan numbers) files = Unit {0}
-HasParts (Certify numbers) files = Unit {0}
+HasParts (Plan asked) files = Unit {0}
+HasParts (Certify asked) files = Unit {0}
 HasParts (Make seed trips) files = Unit {0}
-HasParts (MakeRun seed trips numbers) files = Unit {0}
+HasParts (MakeRun seed trips asked) files = Unit {0}
 HasParts Week files = Unit {0}
 
 -- why a command refuses the planning tables, for a day
 abbrev pub IsCause : Task → List Table → ℕ → Status → Type 0
 IsCause Trips tables day status = IsDayCause tables day status
 IsCause Day tables day status = IsModelCause tables day status
-IsCause (Plan numbers) tables day status = IsPlanCause numbers tables day status
-IsCause (Certify numbers) tables day status = IsPlanCause numbers tables day status
+IsCause (Plan asked) tables day status = IsPlanCause asked tables day status
+IsCause (Certify asked) tables day status = IsPlanCause asked tables day status
 IsCause (Check count) tables day status = IsModelCause tables day status
 IsCause (Make seed trips) tables day status = ⊥
 IsCause Week tables day status = IsWeekCause tables status
-IsCause (MakeRun seed trips numbers) tables day status = IsPlanCause numbers (made_tables seed trips) day status
+IsCause (MakeRun seed trips asked) tables day status = IsPlanCause asked (made_tables seed trips) day status
 
 -- memory ran out, or the command refuses the tables for the day
 abbrev pub IsRefused : Task → List Table → ℕ → Status → Type 0
@@ -228,8 +228,8 @@ abbrev pub IsEndingOf : Task → Status → Type 0
 IsEndingOf (Check count) status = is_done status ≡ true
 IsEndingOf Trips status = status ≡ statuses.Ok
 IsEndingOf Day status = status ≡ statuses.Ok
-IsEndingOf (Plan numbers) status = status ≡ statuses.Ok
-IsEndingOf (Certify numbers) status = status ≡ statuses.Ok
+IsEndingOf (Plan asked) status = status ≡ statuses.Ok
+IsEndingOf (Certify asked) status = status ≡ statuses.Ok
 IsEndingOf (Make seed trips) status = status ≡ statuses.Ok
-IsEndingOf (MakeRun seed trips numbers) status = status ≡ statuses.Ok
+IsEndingOf (MakeRun seed trips asked) status = status ≡ statuses.Ok
 IsEndingOf Week status = status ≡ statuses.Ok

@@ -1,10 +1,11 @@
 -- What a request asks for.
 use Rattle.std.specs.Prelude.{ℕ, ◌-◌, Bool, true, false, ◌&&◌, List, length}
 use Rattle.price_rounds.specs.declared.effort.Effort.{Effort}
-use Rattle.cover_plan.specs.Endings.{Numbers, numbers_of}
+use Rattle.cover_plan.specs.Endings.{numbers_of}
 use Rattle.command_words.specs.declared.command.Command.{Command}
 use Rattle.command_words.specs.declared.command.Command.TheVariants as commands
 use Rattle.command_words.specs.declared.request.Request.{Request}
+use Rattle.plan_command.specs.Planning.{Asked}
 
 -- A command; for a day that is made its seed and its number of trips; for a plan and its certificate the numbers of rounds, lowering rounds
 -- and exchange steps, and the method; and for a check how many planning files there are, before a plan and a certificate. No worker occurs
@@ -12,51 +13,55 @@ use Rattle.command_words.specs.declared.request.Request.{Request}
 pub data Task : Type 0 where
   Trips : Task
   Day : Task
-  Plan : Numbers → Task
-  Certify : Numbers → Task
+  Plan : Asked → Task
+  Certify : Asked → Task
   Check : ℕ → Task
   Make : ℕ → ℕ → Task
-  MakeRun : ℕ → ℕ → Numbers → Task
+  MakeRun : ℕ → ℕ → Asked → Task
   Week : Task
 
 -- a day is made, and it is planned where that is said
-abbrev pub make_task : Bool → ℕ → ℕ → Numbers → Task
-make_task false seed trips numbers = Make seed trips
-make_task true seed trips numbers = MakeRun seed trips numbers
+abbrev pub make_task : Bool → ℕ → ℕ → Asked → Task
+make_task false seed trips asked = Make seed trips
+make_task true seed trips asked = MakeRun seed trips asked
 
--- by the command, the effort and how many files are named
-abbrev pub task_for : Command → Effort → ℕ → Task
-task_for commands.Trips effort files = Trips
-task_for commands.Day effort files = Day
-task_for commands.Plan effort files = Plan (numbers_of effort)
-task_for commands.Certify effort files = Certify (numbers_of effort)
-task_for commands.Check effort files = Check (files - 2)
-task_for commands.Week effort files = Week
-task_for (commands.Make making) effort files = make_task making.run making.seed making.trips (numbers_of effort)
+-- what is asked of a plan: the numbers and the method of an effort, and whether the flow is asked for
+abbrev pub asked_by : Effort → Bool → Asked
+asked_by effort flow = record { numbers = numbers_of effort; flow = flow }
+
+-- by the command, the effort, whether the flow is asked for, and how many files are named; a day that is made is planned without the flow
+abbrev pub task_for : Command → Effort → Bool → ℕ → Task
+task_for commands.Trips effort flow files = Trips
+task_for commands.Day effort flow files = Day
+task_for commands.Plan effort flow files = Plan (asked_by effort flow)
+task_for commands.Certify effort flow files = Certify (asked_by effort flow)
+task_for commands.Check effort flow files = Check (files - 2)
+task_for commands.Week effort flow files = Week
+task_for (commands.Make making) effort flow files = make_task making.run making.seed making.trips (asked_by effort false)
 
 abbrev pub task_of : Request → Task
-task_of request = task_for request.command request.effort (length request.names)
+task_of request = task_for request.command request.effort request.flow (length request.names)
 
 -- whether a plan is found by climbing
 abbrev pub climbs : Task → Bool
 climbs Trips = false
 climbs Day = false
-climbs (Plan numbers) = numbers.climb
-climbs (Certify numbers) = numbers.climb
+climbs (Plan asked) = asked.numbers.climb
+climbs (Certify asked) = asked.numbers.climb
 climbs (Check files) = false
 climbs (Make seed trips) = false
-climbs (MakeRun seed trips numbers) = numbers.climb
+climbs (MakeRun seed trips asked) = asked.numbers.climb
 climbs Week = false
 
 -- whether a plan and a certificate are checked
 abbrev pub checks : Task → Bool
 checks Trips = false
 checks Day = false
-checks (Plan numbers) = false
-checks (Certify numbers) = false
+checks (Plan asked) = false
+checks (Certify asked) = false
 checks (Check files) = true
 checks (Make seed trips) = false
-checks (MakeRun seed trips numbers) = false
+checks (MakeRun seed trips asked) = false
 checks Week = false
 
 abbrev pub is_check : Command → Bool

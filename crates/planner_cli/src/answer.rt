@@ -29,6 +29,7 @@ use command_words::{Command, Request};
 use input_files::{
     CheckParts, FileFault, MOST_BYTES, Stage, join_tables, read_files, split_plan, write_whole,
 };
+use plan_command::Method;
 use plan_core::{Bytes, Files, Gate, Memory, Seq, Sink};
 use std::alloc::Global;
 use std::thread::Threads;
@@ -39,6 +40,16 @@ fn is_check(command: Command) -> bool
     ensures { result ≡ is_check_of command }
 {
     matches!(command, Command::Check)
+}
+
+/// How a day is planned by a request.
+fn method_of(request: &Request) -> Method
+    ensures { result ≡ record { effort = request.now.effort; flow = request.now.flow } }
+{
+    Method {
+        effort: request.effort,
+        flow: request.flow,
+    }
 }
 
 /// The text of a command for a day, from the tables of all files.
@@ -57,13 +68,12 @@ fn text_of<R: Threads + Sync, G: Gate + Sync>(
     ensures written { IfOk result (IsText (task_of request.now) tables.now request.now.day) }
     ensures cause { IfErr result (IsRefused (task_of request.now) tables.now request.now.day) }
 {
+    let method = method_of(request);
     match request.command {
         Command::Trips => trips_text(alloc, tables, request.day),
         Command::Day => day_text(alloc, tables, request.day),
-        Command::Plan => plan_text(rt, alloc, tables, request.day, &request.effort, gate),
-        Command::Certify => {
-            certificate_text(rt, alloc, tables, request.day, &request.effort, gate)
-        }
+        Command::Plan => plan_text(rt, alloc, tables, request.day, &method, gate),
+        Command::Certify => certificate_text(rt, alloc, tables, request.day, &method, gate),
         Command::Check => unreachable!(),
         Command::Week => week_text(alloc, tables),
         Command::Make(making) => {

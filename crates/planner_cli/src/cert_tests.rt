@@ -82,14 +82,14 @@ fn status_numbers(status: &Status) -> [u64; 5] {
 
 /// What is checked: planning files, a plan and a certificate.
 #[derive(Drop)]
-struct Sets {
-    planning: Bytes,
-    plan: Bytes,
-    cert: Bytes,
+pub(crate) struct Sets {
+    pub(crate) planning: Bytes,
+    pub(crate) plan: Bytes,
+    pub(crate) cert: Bytes,
 }
 
 /// Whether a check writes this line, says this on standard error, and ends so.
-fn is_checked<R: Threads + Sync>(
+pub(crate) fn is_checked<R: Threads + Sync>(
     rt: &R,
     alloc: Global,
     sets: Sets,

@@ -2,9 +2,9 @@
 
 ghost use Rattle.std.specs.Prelude.{◌<◌, ◌^◌, All, IsTrue, IfOk, IfErr, length};
 ghost use Rattle.vdv451_text.specs.Plain.{are_plain};
-ghost use Rattle.cover_plan.specs.Endings.{numbers_of};
 ghost use Rattle.price_rounds.specs.Efforts.{IsEffort};
 ghost use Rattle.plan_certify.specs.Certificate.{IsCertTextOver};
+ghost use Rattle.plan_command.specs.Planning.{asked_of};
 ghost use Rattle.planner_cli.specs.CertText.{IsCertText};
 ghost use Rattle.planner_cli.specs.PlanText.{IsPlanRefused, IsPlanStatus};
 
@@ -13,8 +13,8 @@ use crate::ready::ready_day;
 use crate::status::Status;
 use day_model::Day;
 use plan_certify::certificate_text as certificate_day_text;
+use plan_command::Method;
 use plan_core::{Bytes, Gate};
-use price_rounds::Effort;
 use std::alloc::Global;
 use std::thread::Threads;
 use vdv451_text::Table;
@@ -24,14 +24,14 @@ fn text_over<R: Threads + Sync, G: Gate + Sync>(
     rt: &R,
     alloc: Global,
     model: &Day,
-    effort: &Effort,
+    method: &Method,
     gate: &G,
 ) -> Result<Bytes, Status>
-    requires effort { IsEffort effort.now }
-    ensures written { IfOk result (IsCertTextOver model.now (numbers_of effort.now)) }
-    ensures cause { IfErr result (IsPlanStatus model.now (numbers_of effort.now)) }
+    requires effort { IsEffort method.now.effort }
+    ensures written { IfOk result (IsCertTextOver model.now (asked_of method.now)) }
+    ensures cause { IfErr result (IsPlanStatus model.now (asked_of method.now)) }
 {
-    match certificate_day_text(rt, alloc, model, effort, gate) {
+    match certificate_day_text(rt, alloc, model, method, gate) {
         Ok(bytes) => Ok(bytes),
         Err(fault) => Err(plan_status(fault)),
     }
@@ -48,17 +48,17 @@ pub fn certificate_text<R: Threads + Sync, G: Gate + Sync>(
     alloc: Global,
     tables: &[Table],
     day: u32,
-    effort: &Effort,
+    method: &Method,
     gate: &G,
 ) -> Result<Bytes, Status>
     requires plain { IsTrue (are_plain tables.now) }
     requires sized { All (λ table. length table.rows < 2 ^ 32) tables.now }
-    requires effort { IsEffort effort.now }
-    ensures written { IfOk result (IsCertText (numbers_of effort.now) tables.now day) }
-    ensures cause { IfErr result (IsPlanRefused (numbers_of effort.now) tables.now day) }
+    requires effort { IsEffort method.now.effort }
+    ensures written { IfOk result (IsCertText (asked_of method.now) tables.now day) }
+    ensures cause { IfErr result (IsPlanRefused (asked_of method.now) tables.now day) }
 {
     match ready_day(alloc, tables, day) {
-        Ok(ready) => text_over(rt, alloc, &ready.model, effort, gate),
+        Ok(ready) => text_over(rt, alloc, &ready.model, method, gate),
         Err(status) => Err(status),
     }
 }

@@ -1,19 +1,19 @@
 //! The command `make`: a day that is made from a seed, as the tables of its planning files, or planned.
 
-ghost use Rattle.std.specs.Prelude.{◌≡◌, ◌≤◌, List, IfOk, IfErr};
+ghost use Rattle.std.specs.Prelude.{◌≤◌, List, IfOk, IfErr, false};
 ghost use Rattle.vdv451_text.specs.declared.table.Table.{Table as TextTable};
 ghost use Rattle.day_maker.specs.Made.{made_tables};
-ghost use Rattle.cover_plan.specs.Endings.{numbers_of};
 ghost use Rattle.price_rounds.specs.Efforts.{IsEffort};
 ghost use Rattle.planner_cli.specs.MadeText.{IsMadeText, IsShortText};
 ghost use Rattle.planner_cli.specs.PlanText.{IsPlanRefused};
 ghost use Rattle.planner_cli.specs.Run.{IsRefused, IsText};
-ghost use Rattle.planner_cli.specs.Tasks.{make_task};
+ghost use Rattle.planner_cli.specs.Tasks.{asked_by, make_task};
 
 use crate::plan::short_text;
 use crate::status::Status;
 use command_words::Making;
 use day_maker::make_tables;
+use plan_command::Method;
 use plan_core::{Bytes, Gate, Memory};
 use price_rounds::Effort;
 use std::alloc::Global;
@@ -40,11 +40,15 @@ fn planned_text<R: Threads + Sync, G: Gate + Sync>(
 ) -> Result<Bytes, Status>
     requires trips { making.trips ≤ 3000 }
     requires effort { IsEffort effort.now }
-    ensures written { IfOk result (IsShortText (numbers_of effort.now) (made_tables making.seed making.trips) day) }
-    ensures cause { IfErr result (IsPlanRefused (numbers_of effort.now) (made_tables making.seed making.trips) day) }
+    ensures written { IfOk result (IsShortText (asked_by effort.now false) (made_tables making.seed making.trips) day) }
+    ensures cause { IfErr result (IsPlanRefused (asked_by effort.now false) (made_tables making.seed making.trips) day) }
 {
+    let method = Method {
+        effort: *effort,
+        flow: false,
+    };
     match make_tables(alloc, making.seed, making.trips) {
-        Ok(tables) => short_text(rt, alloc, tables.as_slice(), day, effort, gate),
+        Ok(tables) => short_text(rt, alloc, tables.as_slice(), day, &method, gate),
         Err(Memory) => Err(Status::Memory),
     }
 }
@@ -65,8 +69,8 @@ pub fn made_text<R: Threads + Sync, G: Gate + Sync>(
 ) -> Result<Bytes, Status>
     requires trips { making.trips ≤ 3000 }
     requires effort { IsEffort effort.now }
-    ensures written { (tables : List TextTable) → IfOk result (IsText (make_task making.run making.seed making.trips (numbers_of effort.now)) tables day) }
-    ensures cause { (tables : List TextTable) → IfErr result (IsRefused (make_task making.run making.seed making.trips (numbers_of effort.now)) tables day) }
+    ensures written { (tables : List TextTable) → IfOk result (IsText (make_task making.run making.seed making.trips (asked_by effort.now false)) tables day) }
+    ensures cause { (tables : List TextTable) → IfErr result (IsRefused (make_task making.run making.seed making.trips (asked_by effort.now false)) tables day) }
 {
     if making.run {
         return planned_text(rt, alloc, making, day, effort, gate);

@@ -8,6 +8,10 @@ mod cert_tests;
 mod certify;
 mod check;
 mod day;
+#[cfg(test)]
+mod flow_tests;
+#[cfg(test)]
+mod hostile_tests;
 mod lines;
 mod made;
 #[cfg(test)]

@@ -2,15 +2,17 @@
 
 ghost use Rattle.std.specs.Prelude.{◌≤◌, None, IfOk, length};
 
-use crate::adapters::{copy_front, words_of};
+use crate::adapters::{DiskFiles, copy_front, words_of};
 use crate::program::run_program;
 use crate::run::run;
 use crate::tests::{
     BOTH, BOTH_WRITTEN, CALENDAR, DAY, FIRST, SECOND, TRIPS_HEAD, joined, listed, sink,
 };
+use input_files::{ReadRefusal, read_whole};
 use plan_core::{Bytes, Failed, Files, MemSink, NoGate, Sink};
 use std::alloc::Global;
 use std::env::{Env, FillError};
+use std::fs;
 use std::process::ExitCode;
 use std::rt::Files as Disk;
 use std::test::Fail;
@@ -268,5 +270,39 @@ fn the_program_ends_with_the_code_of_its_status(rt: HostRuntime) -> Result<(), F
         assert_eq!(rt; end, ExitCode::from(code), "{line}");
         assert!(rt; err.taken() == line.as_bytes(), "{line}");
     }
+    Ok(())
+}
+
+/// A file that is written here is read whole, in pieces, and gives what is said of it; a name that is not there is a fault of its read.
+#[test]
+fn the_files_of_the_operating_system_are_read(rt: HostRuntime) -> Result<(), Fail> {
+    let alloc = rt.alloc();
+    let text = long_text(alloc)?;
+    fs::write(&rt, "written.x10", text.as_slice())?;
+    let mut files = DiskFiles::new(&rt, alloc, 11).map_err(|_| "memory")?;
+    let read = read_whole(alloc, &mut files, b"written.x10", 1_000_000);
+    let bytes = read.map_err(|_| "refused")?;
+    assert!(rt; bytes.as_slice() == text.as_slice());
+    let missing = read_whole(alloc, &mut files, b"missing.x10", 1_000_000);
+    assert!(rt; missing.err() == Some(ReadRefusal::Fault));
+    let mut err = sink(alloc, 10_000, &[])?;
+    let rows: [(&str, u8); 2] = [("written.x10", 0), ("missing.x10", 7)];
+    for (name, code) in rows {
+        let words = listed(alloc, &["trips", "20260302", name])?;
+        let mut out = sink(alloc, 10_000, &[])?;
+        let status = run(
+            &rt,
+            alloc,
+            words.as_slice(),
+            &mut files,
+            &mut out,
+            &mut err,
+            &NoGate,
+        );
+        assert_eq!(rt; status.code(), code, "{name}");
+        let want = joined(alloc, &BOTH_WRITTEN, b"\r\n")?;
+        assert!(rt; (out.taken() == want.as_slice()) == (code == 0), "{name}");
+    }
+    fs::remove_file(&rt, "written.x10")?;
     Ok(())
 }

@@ -2,19 +2,18 @@
 
 ghost use Rattle.std.specs.Prelude.{◌≡◌, ◌<◌, ◌^◌, All, IsTrue, IfOk, IfErr, length};
 ghost use Rattle.vdv451_text.specs.Plain.{are_plain, is_plain_table};
-ghost use Rattle.cover_plan.specs.Endings.{numbers_of};
 ghost use Rattle.price_rounds.specs.Efforts.{IsEffort};
 ghost use Rattle.plan_command.specs.PlanText.{HasTripRows, IsPlanTextOver};
 ghost use Rattle.plan_command.specs.ShortText.{IsShortTextOver};
+ghost use Rattle.plan_command.specs.Planning.{asked_of};
 ghost use Rattle.planner_cli.specs.MadeText.{IsShortText};
 ghost use Rattle.planner_cli.specs.PlanText.{IsPlanRefused, IsPlanStatus, IsPlanText, plan_status_of};
 
 use crate::ready::ready_day;
 use crate::status::Status;
 use day_model::Day;
-use plan_command::{PlanFault, plan_text as plan_day_text, short_text as short_day_text};
+use plan_command::{Method, PlanFault, plan_text as plan_day_text, short_text as short_day_text};
 use plan_core::{Bytes, Gate};
-use price_rounds::Effort;
 use std::alloc::Global;
 use std::thread::Threads;
 use vdv451_text::Table;
@@ -54,16 +53,16 @@ fn text_over<R: Threads + Sync, G: Gate + Sync>(
     alloc: Global,
     model: &Day,
     rec_frt: &Table,
-    effort: &Effort,
+    method: &Method,
     gate: &G,
 ) -> Result<Bytes, Status>
     requires plain { IsTrue (is_plain_table rec_frt.now) }
     requires trips { HasTripRows model.now rec_frt.now }
-    requires effort { IsEffort effort.now }
-    ensures written { IfOk result (IsPlanTextOver model.now (numbers_of effort.now) rec_frt.now) }
-    ensures cause { IfErr result (IsPlanStatus model.now (numbers_of effort.now)) }
+    requires effort { IsEffort method.now.effort }
+    ensures written { IfOk result (IsPlanTextOver model.now (asked_of method.now) rec_frt.now) }
+    ensures cause { IfErr result (IsPlanStatus model.now (asked_of method.now)) }
 {
-    match plan_day_text(rt, alloc, model, rec_frt, effort, gate) {
+    match plan_day_text(rt, alloc, model, rec_frt, method, gate) {
         Ok(bytes) => Ok(bytes),
         Err(fault) => Err(plan_status(fault)),
     }
@@ -75,16 +74,16 @@ fn short_over<R: Threads + Sync, G: Gate + Sync>(
     alloc: Global,
     model: &Day,
     rec_frt: &Table,
-    effort: &Effort,
+    method: &Method,
     gate: &G,
 ) -> Result<Bytes, Status>
     requires plain { IsTrue (is_plain_table rec_frt.now) }
     requires trips { HasTripRows model.now rec_frt.now }
-    requires effort { IsEffort effort.now }
-    ensures written { IfOk result (IsShortTextOver model.now (numbers_of effort.now)) }
-    ensures cause { IfErr result (IsPlanStatus model.now (numbers_of effort.now)) }
+    requires effort { IsEffort method.now.effort }
+    ensures written { IfOk result (IsShortTextOver model.now (asked_of method.now)) }
+    ensures cause { IfErr result (IsPlanStatus model.now (asked_of method.now)) }
 {
-    match short_day_text(rt, alloc, model, rec_frt, effort, gate) {
+    match short_day_text(rt, alloc, model, rec_frt, method, gate) {
         Ok(bytes) => Ok(bytes),
         Err(fault) => Err(plan_status(fault)),
     }
@@ -104,17 +103,17 @@ pub fn plan_text<R: Threads + Sync, G: Gate + Sync>(
     alloc: Global,
     tables: &[Table],
     day: u32,
-    effort: &Effort,
+    method: &Method,
     gate: &G,
 ) -> Result<Bytes, Status>
     requires plain { IsTrue (are_plain tables.now) }
     requires sized { All (λ table. length table.rows < 2 ^ 32) tables.now }
-    requires effort { IsEffort effort.now }
-    ensures written { IfOk result (IsPlanText (numbers_of effort.now) tables.now day) }
-    ensures cause { IfErr result (IsPlanRefused (numbers_of effort.now) tables.now day) }
+    requires effort { IsEffort method.now.effort }
+    ensures written { IfOk result (IsPlanText (asked_of method.now) tables.now day) }
+    ensures cause { IfErr result (IsPlanRefused (asked_of method.now) tables.now day) }
 {
     match ready_day(alloc, tables, day) {
-        Ok(ready) => text_over(rt, alloc, &ready.model, ready.rec_frt, effort, gate),
+        Ok(ready) => text_over(rt, alloc, &ready.model, ready.rec_frt, method, gate),
         Err(status) => Err(status),
     }
 }
@@ -129,17 +128,17 @@ pub fn short_text<R: Threads + Sync, G: Gate + Sync>(
     alloc: Global,
     tables: &[Table],
     day: u32,
-    effort: &Effort,
+    method: &Method,
     gate: &G,
 ) -> Result<Bytes, Status>
     requires plain { IsTrue (are_plain tables.now) }
     requires sized { All (λ table. length table.rows < 2 ^ 32) tables.now }
-    requires effort { IsEffort effort.now }
-    ensures written { IfOk result (IsShortText (numbers_of effort.now) tables.now day) }
-    ensures cause { IfErr result (IsPlanRefused (numbers_of effort.now) tables.now day) }
+    requires effort { IsEffort method.now.effort }
+    ensures written { IfOk result (IsShortText (asked_of method.now) tables.now day) }
+    ensures cause { IfErr result (IsPlanRefused (asked_of method.now) tables.now day) }
 {
     match ready_day(alloc, tables, day) {
-        Ok(ready) => short_over(rt, alloc, &ready.model, ready.rec_frt, effort, gate),
+        Ok(ready) => short_over(rt, alloc, &ready.model, ready.rec_frt, method, gate),
         Err(status) => Err(status),
     }
 }

@@ -63,7 +63,7 @@ const FULL: &[Change] = &[
 ];
 
 /// With its pull-out the first trip drives for more than four and a half hours.
-const TOO_LONG: &[Change] = &[
+pub(crate) const TOO_LONG: &[Change] = &[
     (RUN_TIME, "rec; 1; 1; 1; 1; 1; 2; 1; 15601"),
     (SECOND, "rec; 1; 2; 45001; 1; 1; 1; 1; \"R\"; NULL"),
     (
@@ -173,7 +173,7 @@ const MANY_POOLS: &[Change] = &[(
 const VERSION: &str = "rec; 20260101; 1\n";
 
 /// The text lacks its last line.
-const UNENDED: &[Change] = &[("eof; 15\n", "")];
+pub(crate) const UNENDED: &[Change] = &[("eof; 15\n", "")];
 
 /// The last line counts one table less.
 const FEWER_TABLES: &[Change] = &[("eof; 15\n", "eof; 14\n")];
@@ -196,21 +196,23 @@ const DAY_WRITTEN: &str =
 pub(crate) const PLAN_WRITTEN: &str =
     "tbl; REC_UMLAUF\natr; BASIS_VERSION; TAGESART_NR; UM_UID; ANF_ORT; ANF_ONR_TYP; END_ORT; END_ONR_TYP; FZG_TYP_NR\nfrm; num[19.0]; num[19.0]; num[19.0]; num[19.0]; num[19.0]; num[19.0]; num[19.0]; num[19.0]\nrec; 1; 1; 1; 9; 2; 9; 2; 1\nend; 1\ntbl; REC_FRT\natr; BASIS_VERSION; FRT_FID; FRT_START; LI_NR; TAGESART_NR; FAHRTART_NR; FGR_NR; STR_LI_VAR; UM_UID\nfrm; num[10.0]; num[10.0]; num[10.0]; num[10.0]; num[10.0]; num[10.0]; num[10.0]; char[6]; num[10.0]\nrec; 1; 1; 28800; 1; 1; 1; 1; \"H\"; 1\nrec; 1; 2; 33000; 1; 1; 1; 1; \"R\"; 1\nend; 2\ntbl; X_UMLAUF\natr; UM_UID; HOF_NR; KOSTEN\nfrm; num[19.0]; num[19.0]; num[19.0]\nrec; 1; 1; 2200\nend; 1\ntbl; X_UMLAUF_TEIL\natr; UM_UID; TEIL_NR; ART; FRT_FID; VON_TYP; VON_NR; BEGINN; NACH_TYP; NACH_NR; ENDE\nfrm; num[19.0]; num[19.0]; num[19.0]; num[19.0]; num[19.0]; num[19.0]; num[19.0]; num[19.0]; num[19.0]; num[19.0]\nrec; 1; 1; 1; NULL; 2; 9; 28200; 1; 1; 28800\nrec; 1; 2; 2; 1; 1; 1; 28800; 1; 2; 32400\nrec; 1; 3; 4; NULL; 1; 2; 32400; 1; 2; 33000\nrec; 1; 4; 2; 2; 1; 2; 33000; 1; 1; 36600\nrec; 1; 5; 5; NULL; 1; 1; 36600; 2; 9; 37200\nend; 5\ntbl; X_DIENST\natr; DIENST_NR; GRUPPE_NR; BEGINN; ENDE; LENKZEIT; KOSTEN\nfrm; num[19.0]; num[19.0]; num[19.0]; num[19.0]; num[19.0]; num[19.0]\nrec; 1; 1; 27600; 37500; 8400; 10400\nend; 1\ntbl; X_DIENST_STUECK\natr; DIENST_NR; LFD_NR; UM_UID; STUECK_NR; VON_TYP; VON_NR; BEGINN; NACH_TYP; NACH_NR; ENDE; LENKZEIT\nfrm; num[19.0]; num[19.0]; num[19.0]; num[19.0]; num[19.0]; num[19.0]; num[19.0]; num[19.0]; num[19.0]; num[19.0]; num[19.0]\nrec; 1; 1; 1; 1; 2; 9; 28200; 1; 2; 32400; 4200\nrec; 1; 2; 1; 2; 1; 2; 33000; 2; 9; 37200; 4200\nend; 2\ntbl; X_SCHRANKE\natr; ART; WERT; SCHRANKE\nfrm; num[19.0]; num[19.0]; num[19.0]\nrec; 1; 1; 1\nrec; 2; 2200; 2200\nrec; 3; 1; 1\nrec; 4; 10400; 10400\nend; 4\neof; 7\n";
 
-/// The text with the first place of a part changed.
-pub(crate) fn changed(alloc: Global, text: Bytes, change: Change) -> Result<Bytes, Fail> {
-    let (old, new) = change;
+/// The text with other bytes in the first place of some of its own.
+pub(crate) fn replaced(alloc: Global, text: Bytes, old: &[u8], new: &[u8]) -> Result<Bytes, Fail> {
     let bytes = text.as_slice();
-    let Some(place) = bytes
-        .windows(old.len().max(1))
-        .position(|part| part == old.as_bytes())
-    else {
+    let Some(place) = bytes.windows(old.len().max(1)).position(|part| part == old) else {
         return Ok(text);
     };
     let mut made = Vec::from_slice(alloc, &bytes[..place])?;
-    made.extend_from_slice(new.as_bytes())?;
+    made.extend_from_slice(new)?;
     let behind = (place + old.len()).min(bytes.len());
     made.extend_from_slice(&bytes[behind..])?;
     Ok(Bytes::from_vec(made))
+}
+
+/// The text with the first place of a part changed.
+pub(crate) fn changed(alloc: Global, text: Bytes, change: Change) -> Result<Bytes, Fail> {
+    let (old, new) = change;
+    replaced(alloc, text, old.as_bytes(), new.as_bytes())
 }
 
 pub(crate) fn demo(alloc: Global, changes: &[Change]) -> Result<Bytes, Fail> {
@@ -222,7 +224,7 @@ pub(crate) fn demo(alloc: Global, changes: &[Change]) -> Result<Bytes, Fail> {
 }
 
 /// Runs the words over the network with some changes.
-fn answer<R: Threads + Sync>(
+pub(crate) fn answer<R: Threads + Sync>(
     rt: &R,
     alloc: Global,
     words: &[&str],
@@ -235,7 +237,7 @@ fn answer<R: Threads + Sync>(
 }
 
 /// Whether the words write this text and say nothing.
-fn is_written<R: Threads + Sync>(
+pub(crate) fn is_written<R: Threads + Sync>(
     rt: &R,
     alloc: Global,
     words: &[&str],
@@ -264,7 +266,7 @@ fn is_planned<R: Threads + Sync>(
 }
 
 /// Whether the words are refused with this status number and line, and nothing is written.
-fn is_refused<R: Threads + Sync>(
+pub(crate) fn is_refused<R: Threads + Sync>(
     rt: &R,
     alloc: Global,
     words: &[&str],
@@ -381,7 +383,7 @@ fn plans_have_their_costs_and_bounds(rt: HostRuntime) -> Result<(), Fail> {
 #[test]
 fn refusals_have_their_lines(rt: HostRuntime) -> Result<(), Fail> {
     let alloc = rt.alloc();
-    let rows: [(&[&str], &[Change], u8, &str); 24] = [
+    let rows: [(&[&str], &[Change], u8, &str); 27] = [
         (PLAN, UNENDED, 3, "file 1 line 96: Unended\n"),
         (PLAN, FEWER_TABLES, 3, "file 1 line 96: EofCount\n"),
         (PLAN, UNNAMED, 3, "file 1 line 8: Order\n"),
@@ -398,6 +400,9 @@ fn refusals_have_their_lines(rt: HostRuntime) -> Result<(), Fail> {
         (DAY, PAST_END, 3, "trip 1: PastEnd\n"),
         (DAY, SHORT, 3, "trip 1: ShortRoute\n"),
         (DAY, NO_ROUTE, 3, "trip 1: NoRoute\n"),
+        (PLAN, PAST_END, 3, "trip 1: PastEnd\n"),
+        (PLAN, SHORT, 3, "trip 1: ShortRoute\n"),
+        (PLAN, NO_ROUTE, 3, "trip 1: NoRoute\n"),
         (DAY, TWO_PLANS, 3, "table X_PLAN row 0: NotOne\n"),
         (PLAN, UNKNOWN_DEPOT, 3, "table X_HOF row 1: UnknownPoint\n"),
         (PLAN, UNKNOWN_TYPE, 3, "table X_HOF row 1: UnknownType\n"),

@@ -3,12 +3,11 @@
 ghost use Rattle.std.specs.Prelude.{◌≡◌, IfOk};
 
 use crate::run::run;
-use crate::status::{InputFault, Status};
+use crate::status::Status;
 use plan_core::{Bytes, MemFile, MemFiles, MemSink, NoGate, Seq};
 use std::alloc::Global;
 use std::test::Fail;
 use std::thread::Threads;
-use vdv451_text::TextKind;
 
 pub(crate) const CALENDAR: &str =
     "mod; DD.MM.YYYY; HH:MM:SS; free\nsrc; \"demo\"; \"01.01.2000\"; \"00:00:00\"\nchs; \"ISO8859-1\"\nver; \"1.4\"\nifv; \"1.4\"\ndve; \"1.4\"\nfft; \"\"\ntbl; BASIS_VER_GUELTIGKEIT\natr; VER_GUELTIGKEIT; BASIS_VERSION\nfrm; num[10.0]; num[10.0]\nrec; 20260101; 1\nend; 1\ntbl; FIRMENKALENDER\natr; BASIS_VERSION; BETRIEBSTAG; TAGESART_NR\nfrm; num[10.0]; num[10.0]; num[10.0]\nrec; 1; 20260302; 1\nend; 1\n";
@@ -347,91 +346,5 @@ fn the_first_wrong_file_is_named(rt: HostRuntime) -> Result<(), Fail> {
             "{line}"
         );
     }
-    Ok(())
-}
-
-/// The digits of a number below 10,000.
-fn digits(number: u32) -> [u8; 4] {
-    let place = |unit: u32| b'0' + (number / unit % 10) as u8;
-    [place(1_000), place(100), place(10), place(1)]
-}
-
-#[test]
-fn a_day_has_at_most_3000_trips(rt: HostRuntime) -> Result<(), Fail> {
-    let alloc = rt.alloc();
-    let mut text = joined(alloc, &[CALENDAR, TRIPS_HEAD], b"\n")?.into_vec();
-    for number in 1..3_002u32 {
-        text.extend_from_slice(b"rec; 1; ")?;
-        text.extend_from_slice(&digits(number))?;
-        text.extend_from_slice(b"; 28800; 1; 1; 1; 1; \"H\"; NULL\n")?;
-    }
-    text.extend_from_slice(b"end; 3001\neof; 3\n")?;
-    let mut out = sink(alloc, 10_000, &[])?;
-    let mut err = sink(alloc, 10_000, &[])?;
-    let status = run_on(
-        &rt,
-        alloc,
-        &DAY,
-        Bytes::from_vec(text),
-        &[],
-        &mut out,
-        &mut err,
-    )?;
-    assert_eq!(rt; status.code(), 3);
-    assert!(rt; err.taken() == b"trips: 3001\n".as_slice());
-    assert!(rt; out.taken().is_empty());
-    Ok(())
-}
-
-#[test]
-fn reads_that_fail_are_answered(rt: HostRuntime) -> Result<(), Fail> {
-    let alloc = rt.alloc();
-    let rows: [(&[u64], u8); 3] = [(&[1], 7), (&[2], 7), (&[3], 0)];
-    for (fails, code) in rows {
-        let mut out = sink(alloc, 10_000, &[])?;
-        let mut err = sink(alloc, 10_000, &[])?;
-        let bytes = joined(alloc, &BOTH, b"\n")?;
-        let status = run_on(&rt, alloc, &DAY, bytes, fails, &mut out, &mut err)?;
-        assert_eq!(rt; status.code(), code);
-        assert!(rt; out.taken().is_empty() == (code == 7));
-    }
-    Ok(())
-}
-
-#[test]
-fn a_write_that_fails_leaves_a_front(rt: HostRuntime) -> Result<(), Fail> {
-    let alloc = rt.alloc();
-    let whole = joined(alloc, &BOTH_WRITTEN, b"\r\n")?;
-    let calls = whole.len().div_ceil(100);
-    for call in 1..(calls + 1) as u64 {
-        let mut out = sink(alloc, 100, &[call])?;
-        let mut err = sink(alloc, 10_000, &[])?;
-        let bytes = joined(alloc, &BOTH, b"\n")?;
-        let status = run_on(&rt, alloc, &DAY, bytes, &[], &mut out, &mut err)?;
-        assert_eq!(rt; status.code(), 8);
-        assert!(rt; out.taken().len() as u64 + 100 == 100 * call);
-        assert!(rt; whole.as_slice().starts_with(out.taken()));
-        assert!(rt; err.taken() == b"write fault\n".as_slice());
-    }
-    Ok(())
-}
-
-#[test]
-fn a_line_that_fails_changes_no_status(rt: HostRuntime) -> Result<(), Fail> {
-    let alloc = rt.alloc();
-    let mut out = sink(alloc, 10_000, &[])?;
-    let mut err = sink(alloc, 10_000, &[1])?;
-    let unended = [CALENDAR, TRIPS_HEAD, FIRST, SECOND, "end; 2\n"];
-    let bytes = joined(alloc, &unended, b"\n")?;
-    let status = run_on(&rt, alloc, &DAY, bytes, &[], &mut out, &mut err)?;
-    match status {
-        Status::Input(InputFault::Text { file, fault }) => {
-            assert_eq!(rt; file, 1);
-            assert_eq!(rt; fault.line, 24);
-            assert_eq!(rt; fault.kind, TextKind::Unended);
-        }
-        _ => panic!(rt; "another status"),
-    }
-    assert!(rt; err.taken().is_empty());
     Ok(())
 }

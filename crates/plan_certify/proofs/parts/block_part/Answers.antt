@@ -1,10 +1,10 @@
 use Rattle.depot_network.specs.Network.{blocks as net_blocks, blocks_of, is_count}
-use Rattle.plan_certify.proofs.Paid.{moderate, net-problem, never-refused}
+use Rattle.plan_certify.proofs.Paid.{net-problem, never-refused}
 use Rattle.plan_certify.proofs.PartsMade.{block-part-made}
 use Rattle.plan_certify.proofs.parts.block_part.Goals as goal
 
 pub make_block_cover-requires : goal.make_block_cover-requires
-make_block_cover-requires c = moderate c.args.kept.prices.items c.requires.prices.1
+make_block_cover-requires c = c.requires.prices.1
 
 pub unreachable-requires : goal.unreachable-requires
 unreachable-requires c =

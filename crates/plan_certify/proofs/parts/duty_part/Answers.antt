@@ -1,5 +1,5 @@
 use Rattle.std.proofs.Common.{IfOk, sym, subst}
-use Rattle.cover_plan.specs.Ends.{IsPaidOffer}
+use Rattle.plan_command.specs.Planning.{IsDualFeasible}
 use Rattle.duty_network.specs.Duties.{DutyFacts, duties as duties_of, is_count as is_counted}
 use Rattle.plan_certify.proofs.PartsMade.{duty-shifts, same-over}
 use Rattle.plan_certify.specs.Certificate.{IsDutyPartOf}
@@ -11,7 +11,7 @@ new-requires-clause-shifts c = duty-shifts c.in_ok-pieces.pieces c.as_slice.resu
 
 pub net_part-requires : goal.net_part-requires
 net_part-requires c =
-    let P : DutyFacts → Type 0 = λ over. IsPaidOffer (duties_of over) c.args.kept in
+    let P : DutyFacts → Type 0 = λ over. IsDualFeasible (duties_of over) c.args.kept in
     let same =
     same-over c.in_ok-net.net c.in_ok-pieces.pieces c.as_slice.result.now c.args.pieces.now c.params.result.now c.args.model.now.params
     (is_counted c.args.worth) c.in_ok-net.ensures

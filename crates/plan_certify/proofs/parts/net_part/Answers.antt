@@ -1,11 +1,11 @@
 use Rattle.std.proofs.Common.{refl}
 use Rattle.duty_network.specs.Duties.{duties as duties_of}
-use Rattle.plan_certify.proofs.Paid.{moderate, never-refused}
+use Rattle.plan_certify.proofs.Paid.{never-refused}
 use Rattle.plan_certify.proofs.PartsMade.{duty-part-made}
 use Rattle.plan_certify.proofs.parts.net_part.Goals as goal
 
 pub make_cover-requires : goal.make_cover-requires
-make_cover-requires c = moderate c.args.kept.prices.items c.requires.prices.1
+make_cover-requires c = c.requires.prices.1
 
 pub unreachable-requires : goal.unreachable-requires
 unreachable-requires c =

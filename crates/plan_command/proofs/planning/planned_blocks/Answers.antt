@@ -1,30 +1,18 @@
-use Rattle.std.proofs.Common.{true, false}
-use Rattle.cover_plan.specs.Endings.{numbers_of}
+use Rattle.std.proofs.Common.{true, false, Option}
+use Rattle.cover_plan.specs.declared.known.KnownPlan.{KnownPlan}
 use Rattle.depot_network.specs.Network.{blocks as net_blocks, blocks_of}
-use Rattle.plan_command.specs.Planning.{side_of}
-use Rattle.plan_command.proofs.Sides.{blocks_cause, cause_at, count_at, same_net, side_at}
+use Rattle.plan_command.specs.Flow.{AreKnownBlocks}
+use Rattle.plan_command.specs.Planning.{asked_of, side_of}
+use Rattle.plan_command.proofs.Sides.{blocks_cause, cause_at, count_at, same_net, side_at, side_known}
 use Rattle.plan_command.proofs.planning.planned_blocks.Goals as goal
 
-pub planned_side-requires-clause-counts : goal.planned_side-requires-clause-counts
-planned_side-requires-clause-counts g c κs within =
+pub returns-in-Err-side_by-clause-cause : goal.returns-in-Err-side_by-clause-cause
+returns-in-Err-side_by-clause-cause g c =
     let facts = c.args.model.now in
+    let asked = asked_of c.args.method.now in
     let counted = same_net c.new-counted.result c.new-count_net.result facts true c.new-counted.ensures c.new-count_net.ensures.day c.new-count_net.ensures.counts in
     let costed = same_net c.new-costed.result c.new-cost_net.result facts false c.new-costed.ensures c.new-cost_net.ensures.day c.new-cost_net.ensures.counts in
-    count_at (net_blocks c.new-counted.result) (net_blocks c.new-costed.result) (blocks_of facts true) (blocks_of facts false) (numbers_of c.args.effort.now) counted costed (c.counted_blocks.ensures facts)
-
-pub returns-in-Ok-clause-blocks : goal.returns-in-Ok-clause-blocks
-returns-in-Ok-clause-blocks g c =
-    let facts = c.args.model.now in
-    let counted = same_net c.new-counted.result c.new-count_net.result facts true c.new-counted.ensures c.new-count_net.ensures.day c.new-count_net.ensures.counts in
-    let costed = same_net c.new-costed.result c.new-cost_net.result facts false c.new-costed.ensures c.new-cost_net.ensures.day c.new-cost_net.ensures.counts in
-    side_at (net_blocks c.new-counted.result) (net_blocks c.new-costed.result) (blocks_of facts true) (blocks_of facts false) (numbers_of c.args.effort.now) counted costed (side_of c.in-Ok.blocks) c.in-Ok.ensures.side
-
-pub returns-in-Err-clause-cause : goal.returns-in-Err-clause-cause
-returns-in-Err-clause-cause g c =
-    let facts = c.args.model.now in
-    let numbers = numbers_of c.args.effort.now in
-    let counted = same_net c.new-counted.result c.new-count_net.result facts true c.new-counted.ensures c.new-count_net.ensures.day c.new-count_net.ensures.counts in
-    let costed = same_net c.new-costed.result c.new-cost_net.result facts false c.new-costed.ensures c.new-cost_net.ensures.day c.new-cost_net.ensures.counts in
-    blocks_cause facts numbers c.in-Err.fault c.blocks_fault.result
-    (cause_at (net_blocks c.new-counted.result) (net_blocks c.new-costed.result) (blocks_of facts true) (blocks_of facts false) numbers counted costed c.in-Err.fault c.in-Err.ensures.cause)
+    blocks_cause facts asked c.in-Ok.known c.in-Err-side_by.fault c.blocks_fault.result c.in-Ok.ensures.known
+    (cause_at (net_blocks c.new-counted.result) (net_blocks c.new-costed.result) (blocks_of facts true) (blocks_of facts false) counted costed asked.numbers c.in-Ok.known c.in-Err-side_by.fault
+    c.in-Err-side_by.ensures.cause)
     c.blocks_fault.ensures

@@ -1,9 +1,9 @@
-use Rattle.std.proofs.Common.{◌∙◌, ◌<◌, ◌^◌, All, List, IfOk, IfErr, length, sym, subst, true, ◌≡◌}
+use Rattle.std.proofs.Common.{◌∙◌, ◌<◌, ◌^◌, All, List, IfOk, IfErr, length, sym, subst, true, false, ◌≡◌}
 use Rattle.vdv451_text.specs.declared.table.Table.{Table}
 use Rattle.vdv451_text.specs.Plain.{are_plain}
-use Rattle.cover_plan.specs.Endings.{numbers_of}
 use Rattle.planner_cli.specs.MadeText.{IsShortText}
 use Rattle.planner_cli.specs.PlanText.{IsPlanRefused}
+use Rattle.planner_cli.specs.Tasks.{asked_by}
 use Rattle.planner_cli.proofs.MadeLemmas.{made_few, made_plain}
 use Rattle.planner_cli.proofs.made.planned_text.Goals as goal
 
@@ -19,10 +19,10 @@ short_text-requires-clause-sized g c = λ lifetimes within.
 
 pub returns-in-Ok-clause-written : goal.returns-in-Ok-clause-written
 returns-in-Ok-clause-written g c =
-    let P : List Table → Type 0 = λ ts. IfOk c.short_text.result (IsShortText (numbers_of c.args.effort.now) ts c.args.day) in
+    let P : List Table → Type 0 = λ ts. IfOk c.short_text.result (IsShortText (asked_by c.args.effort.now false) ts c.args.day) in
     subst P (c.as_slice.ensures ∙ c.in-Ok.ensures) c.short_text.ensures.written
 
 pub returns-in-Ok-clause-cause : goal.returns-in-Ok-clause-cause
 returns-in-Ok-clause-cause g c =
-    let P : List Table → Type 0 = λ ts. IfErr c.short_text.result (IsPlanRefused (numbers_of c.args.effort.now) ts c.args.day) in
+    let P : List Table → Type 0 = λ ts. IfErr c.short_text.result (IsPlanRefused (asked_by c.args.effort.now false) ts c.args.day) in
     subst P (c.as_slice.ensures ∙ c.in-Ok.ensures) c.short_text.ensures.cause
