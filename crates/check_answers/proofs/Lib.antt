@@ -1,0 +1,15 @@
+pub mod Accepted
+pub mod Apart
+pub mod Cert
+pub mod Checkable
+pub mod DayRead
+pub mod FirstTrips
+pub mod InRange
+pub mod OwnNumbers
+pub mod OwnRows
+pub mod PieceNumbers
+pub mod SameTables
+pub mod Shifts
+pub mod Tables
+pub mod Text
+pub mod Texts

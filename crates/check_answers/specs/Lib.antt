@@ -1,0 +1,4 @@
+pub mod Checkable
+pub mod Accepted
+pub mod DayRead
+pub mod Texts

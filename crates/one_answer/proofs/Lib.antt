@@ -1,0 +1,5 @@
+pub mod Firsts
+pub mod Verdicts
+pub mod Parts
+pub mod Steps
+pub mod Once
