@@ -228,4 +228,5 @@ def main():
     print(f"measure: {page}")
 
 
-main()
+if __name__ == "__main__":
+    main()
