@@ -57,25 +57,25 @@ fn text_of<R: Threads + Sync, G: Gate + Sync>(
     rt: &R,
     alloc: Global,
     request: &Request,
-    tables: &[Table],
+    tables: Seq<Table>,
     gate: &G,
 ) -> Result<Bytes, Status>
-    requires plain { IsTrue (are_plain tables.now) }
-    requires sized { All (λ table. length table.rows < 2 ^ 32) tables.now }
+    requires plain { IsTrue (are_plain tables) }
+    requires sized { All (λ table. length table.rows < 2 ^ 32) tables }
     requires effort { IsEffort request.now.effort }
     requires trips { HasFewTrips request.now.command }
     requires text { is_check_of request.now.command ≡ false }
-    ensures written { IfOk result (IsText (task_of request.now) tables.now request.now.day) }
-    ensures cause { IfErr result (IsRefused (task_of request.now) tables.now request.now.day) }
+    ensures written { IfOk result (IsText (task_of request.now) tables request.now.day) }
+    ensures cause { IfErr result (IsRefused (task_of request.now) tables request.now.day) }
 {
     let method = method_of(request);
     match request.command {
-        Command::Trips => trips_text(alloc, tables, request.day),
-        Command::Day => day_text(alloc, tables, request.day),
+        Command::Trips => trips_text(alloc, tables.as_slice(), request.day),
+        Command::Day => day_text(alloc, tables.as_slice(), request.day),
         Command::Plan => plan_text(rt, alloc, tables, request.day, &method, gate),
         Command::Certify => certificate_text(rt, alloc, tables, request.day, &method, gate),
         Command::Check => unreachable!(),
-        Command::Week => week_text(alloc, tables),
+        Command::Week => week_text(alloc, tables.as_slice()),
         Command::Make(making) => {
             made_text(rt, alloc, making, request.day, &request.effort, gate)
         }
@@ -87,16 +87,16 @@ fn ended_text<R: Threads + Sync, G: Gate + Sync>(
     rt: &R,
     alloc: Global,
     request: &Request,
-    tables: &[Table],
+    tables: Seq<Table>,
     gate: &G,
 ) -> Result<Outcome, Status>
-    requires plain { IsTrue (are_plain tables.now) }
-    requires sized { All (λ table. length table.rows < 2 ^ 32) tables.now }
+    requires plain { IsTrue (are_plain tables) }
+    requires sized { All (λ table. length table.rows < 2 ^ 32) tables }
     requires effort { IsEffort request.now.effort }
     requires trips { HasFewTrips request.now.command }
     requires text { is_check_of request.now.command ≡ false }
-    ensures written { IfOk result (λ outcome. IsText (task_of request.now) tables.now request.now.day outcome.text × (outcome.ending ≡ Status.Ok)) }
-    ensures cause { IfErr result (IsRefused (task_of request.now) tables.now request.now.day) }
+    ensures written { IfOk result (λ outcome. IsText (task_of request.now) tables request.now.day outcome.text × (outcome.ending ≡ Status.Ok)) }
+    ensures cause { IfErr result (IsRefused (task_of request.now) tables request.now.day) }
 {
     match text_of(rt, alloc, request, tables, gate) {
         Ok(text) => Ok(Outcome {
@@ -128,7 +128,7 @@ fn checked_outcome(
     match join_tables(alloc, planning) {
         Ok(tables) => check_text(
             alloc,
-            tables.as_slice(),
+            Seq::from_vec(tables),
             plan.as_slice(),
             cert.as_slice(),
             request.day,
@@ -154,7 +154,7 @@ fn text_outcome<R: Threads + Sync, G: Gate + Sync>(
     ensures cause { IfErr result (IsRefused (task_of request.now) (tables_in (task_of request.now) parts) request.now.day) }
 {
     match join_tables(alloc, parts) {
-        Ok(tables) => ended_text(rt, alloc, request, tables.as_slice(), gate),
+        Ok(tables) => ended_text(rt, alloc, request, Seq::from_vec(tables), gate),
         Err(Memory) => Err(Status::Memory),
     }
 }

@@ -14,7 +14,7 @@ use crate::status::Status;
 use day_model::Day;
 use plan_certify::certificate_text as certificate_day_text;
 use plan_command::Method;
-use plan_core::{Bytes, Gate};
+use plan_core::{Bytes, Gate, Seq};
 use std::alloc::Global;
 use std::thread::Threads;
 use vdv451_text::Table;
@@ -46,16 +46,16 @@ fn text_over<R: Threads + Sync, G: Gate + Sync>(
 pub fn certificate_text<R: Threads + Sync, G: Gate + Sync>(
     rt: &R,
     alloc: Global,
-    tables: &[Table],
+    tables: Seq<Table>,
     day: u32,
     method: &Method,
     gate: &G,
 ) -> Result<Bytes, Status>
-    requires plain { IsTrue (are_plain tables.now) }
-    requires sized { All (λ table. length table.rows < 2 ^ 32) tables.now }
+    requires plain { IsTrue (are_plain tables) }
+    requires sized { All (λ table. length table.rows < 2 ^ 32) tables }
     requires effort { IsEffort method.now.effort }
-    ensures written { IfOk result (IsCertText (asked_of method.now) tables.now day) }
-    ensures cause { IfErr result (IsPlanRefused (asked_of method.now) tables.now day) }
+    ensures written { IfOk result (IsCertText (asked_of method.now) tables day) }
+    ensures cause { IfErr result (IsPlanRefused (asked_of method.now) tables day) }
 {
     match ready_day(alloc, tables, day) {
         Ok(ready) => text_over(rt, alloc, &ready.model, method, gate),

@@ -11,7 +11,7 @@ use crate::ready::{Ready, ready_day};
 use crate::status::Status;
 use cert_check::{Answered, Case, Reason, check};
 use itoa::Buffer;
-use plan_core::{Bytes, Memory};
+use plan_core::{Bytes, Memory, Seq};
 use std::alloc::Global;
 use vdv451_text::Table;
 
@@ -89,21 +89,16 @@ fn ending(answer: Answered) -> Status
 }
 
 /// What the checker says of a plan and a certificate.
-fn checked(
-    alloc: Global,
-    ready: &Ready<'_>,
-    plan: &[Table],
-    cert: &[Table],
-) -> Result<Outcome, Memory>
-    requires plain { IsTrue (is_plain_table ready.now.rec_frt.now) }
-    requires rows { HasTripRows ready.now.model ready.now.rec_frt.now }
+fn checked(alloc: Global, ready: &Ready, plan: &[Table], cert: &[Table]) -> Result<Outcome, Memory>
+    requires plain { IsTrue (is_plain_table ready.now.rec_frt) }
+    requires rows { HasTripRows ready.now.model ready.now.rec_frt }
     requires plan { All (λ table. length table.rows < 2 ^ 32) plan.now }
     requires cert { All (λ table. length table.rows < 2 ^ 32) cert.now }
-    ensures { IfOk result (λ outcome. IsCheckTextOver ready.now.model ready.now.rec_frt.now plan.now cert.now outcome.ending outcome.text) }
+    ensures { IfOk result (λ outcome. IsCheckTextOver ready.now.model ready.now.rec_frt plan.now cert.now outcome.ending outcome.text) }
 {
     let case = Case {
         day: &ready.model,
-        rec_frt: ready.rec_frt,
+        rec_frt: &ready.rec_frt,
         plan,
         cert,
     };
@@ -123,17 +118,17 @@ fn checked(
 /// Those of [`ready_day`](crate::ready::ready_day).
 pub fn check_text(
     alloc: Global,
-    tables: &[Table],
+    tables: Seq<Table>,
     plan: &[Table],
     cert: &[Table],
     day: u32,
 ) -> Result<Outcome, Status>
-    requires plain { IsTrue (are_plain tables.now) }
-    requires sized { All (λ table. length table.rows < 2 ^ 32) tables.now }
+    requires plain { IsTrue (are_plain tables) }
+    requires sized { All (λ table. length table.rows < 2 ^ 32) tables }
     requires plan { All (λ table. length table.rows < 2 ^ 32) plan.now }
     requires cert { All (λ table. length table.rows < 2 ^ 32) cert.now }
-    ensures written { IfOk result (λ outcome. IsCheckText tables.now plan.now cert.now day outcome.ending outcome.text) }
-    ensures cause { IfErr result (IsModelRefused tables.now day) }
+    ensures written { IfOk result (λ outcome. IsCheckText tables plan.now cert.now day outcome.ending outcome.text) }
+    ensures cause { IfErr result (IsModelRefused tables day) }
 {
     match ready_day(alloc, tables, day) {
         Ok(ready) => match checked(alloc, &ready, plan, cert) {

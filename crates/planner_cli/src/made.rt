@@ -48,7 +48,7 @@ fn planned_text<R: Threads + Sync, G: Gate + Sync>(
         flow: false,
     };
     match make_tables(alloc, making.seed, making.trips) {
-        Ok(tables) => short_text(rt, alloc, tables.as_slice(), day, &method, gate),
+        Ok(tables) => short_text(rt, alloc, tables, day, &method, gate),
         Err(Memory) => Err(Status::Memory),
     }
 }

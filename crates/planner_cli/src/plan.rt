@@ -13,7 +13,7 @@ use crate::ready::ready_day;
 use crate::status::Status;
 use day_model::Day;
 use plan_command::{Method, PlanFault, plan_text as plan_day_text, short_text as short_day_text};
-use plan_core::{Bytes, Gate};
+use plan_core::{Bytes, Gate, Seq};
 use std::alloc::Global;
 use std::thread::Threads;
 use vdv451_text::Table;
@@ -101,19 +101,19 @@ fn short_over<R: Threads + Sync, G: Gate + Sync>(
 pub fn plan_text<R: Threads + Sync, G: Gate + Sync>(
     rt: &R,
     alloc: Global,
-    tables: &[Table],
+    tables: Seq<Table>,
     day: u32,
     method: &Method,
     gate: &G,
 ) -> Result<Bytes, Status>
-    requires plain { IsTrue (are_plain tables.now) }
-    requires sized { All (λ table. length table.rows < 2 ^ 32) tables.now }
+    requires plain { IsTrue (are_plain tables) }
+    requires sized { All (λ table. length table.rows < 2 ^ 32) tables }
     requires effort { IsEffort method.now.effort }
-    ensures written { IfOk result (IsPlanText (asked_of method.now) tables.now day) }
-    ensures cause { IfErr result (IsPlanRefused (asked_of method.now) tables.now day) }
+    ensures written { IfOk result (IsPlanText (asked_of method.now) tables day) }
+    ensures cause { IfErr result (IsPlanRefused (asked_of method.now) tables day) }
 {
     match ready_day(alloc, tables, day) {
-        Ok(ready) => text_over(rt, alloc, &ready.model, ready.rec_frt, method, gate),
+        Ok(ready) => text_over(rt, alloc, &ready.model, &ready.rec_frt, method, gate),
         Err(status) => Err(status),
     }
 }
@@ -126,19 +126,19 @@ pub fn plan_text<R: Threads + Sync, G: Gate + Sync>(
 pub fn short_text<R: Threads + Sync, G: Gate + Sync>(
     rt: &R,
     alloc: Global,
-    tables: &[Table],
+    tables: Seq<Table>,
     day: u32,
     method: &Method,
     gate: &G,
 ) -> Result<Bytes, Status>
-    requires plain { IsTrue (are_plain tables.now) }
-    requires sized { All (λ table. length table.rows < 2 ^ 32) tables.now }
+    requires plain { IsTrue (are_plain tables) }
+    requires sized { All (λ table. length table.rows < 2 ^ 32) tables }
     requires effort { IsEffort method.now.effort }
-    ensures written { IfOk result (IsShortText (asked_of method.now) tables.now day) }
-    ensures cause { IfErr result (IsPlanRefused (asked_of method.now) tables.now day) }
+    ensures written { IfOk result (IsShortText (asked_of method.now) tables day) }
+    ensures cause { IfErr result (IsPlanRefused (asked_of method.now) tables day) }
 {
     match ready_day(alloc, tables, day) {
-        Ok(ready) => short_over(rt, alloc, &ready.model, ready.rec_frt, method, gate),
+        Ok(ready) => short_over(rt, alloc, &ready.model, &ready.rec_frt, method, gate),
         Err(status) => Err(status),
     }
 }

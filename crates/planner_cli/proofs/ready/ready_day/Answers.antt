@@ -1,5 +1,10 @@
-use Rattle.planner_cli.proofs.ModelLemmas.{tables_refused}
+use Rattle.std.proofs.Common.{◌≡◌}
+use Rattle.vdv452_tables.specs.Schema as schema
+use Rattle.planner_cli.proofs.TripRows.{found_plain}
 use Rattle.planner_cli.proofs.ready.ready_day.Goals as goal
 
-pub returns-in-Err-clause-cause : goal.returns-in-Err-clause-cause
-returns-in-Err-clause-cause c = tables_refused c.args.tables.now c.args.day c.in-Err.status c.in-Err.ensures.cause
+pub returns-in-Ok-clause-plain : goal.returns-in-Ok-clause-plain
+returns-in-Ok-clause-plain c =
+    let table = c.only_table.result in
+    let found = c.in-Ok.ensures.found table (rw c.as_slice.ensures c.only_table.ensures) in
+    found_plain schema.trips.name c.as_slice.result.now table found (rw c.as_slice.ensures c.requires.plain)
