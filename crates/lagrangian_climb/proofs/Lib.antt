@@ -1,4 +1,5 @@
 mod Orders
+mod InPlay
 mod Gains
 mod Walks
 mod Keeps

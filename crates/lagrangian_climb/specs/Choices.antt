@@ -1,5 +1,5 @@
 -- Which columns of a pool are chosen at some prices, and what a class asks for a place.
-use Rattle.std.specs.Prelude.{◌≡◌, ◌&&◌, ◌==◌, ℕ, ℤ, pos, neg_ℤ, ◌+ℤ◌, ◌≤ℤ◌, ◌<ℤ◌, int_lt, nat_lt, ◌+◌, ◌<◌, ◌≤◌, Bool, true, false, cond, suc, ◌*◌, List, [], ◌∷◌, length, slice_index, slice_index_or, slice_set, not}
+use Rattle.std.specs.Prelude.{◌≡◌, ◌&&◌, ◌==◌, ℕ, ℤ, pos, neg_ℤ, ◌+ℤ◌, ◌≤ℤ◌, ◌<ℤ◌, int_lt, nat_lt, ◌+◌, ◌<◌, ◌≤◌, Bool, true, false, cond, suc, ◌*◌, List, [], ◌∷◌, length, Option, Some, None, slice_get, slice_index, slice_index_or, slice_set, not}
 use Rattle.std.specs.Ordering.{nat_cmp, int_cmp, then_cmp, on, is_lt}
 use Rattle.std.specs.List.Sorted.{IsPermutation, IsSortedBy}
 use Rattle.std.specs.declared.cmp.Ordering.{Ordering}
@@ -29,6 +29,26 @@ gains_from fixed caps prices place (c ∷ cs) =
 
 abbrev pub gains_of : List Bool → List ℕ → List Price → List Column → List Key
 gains_of fixed caps prices pool = gains_from fixed caps prices 0 pool
+
+-- the places of the columns in play, from a place on
+abbrev pub playing_from : List Bool → List ℕ → ℕ → List Column → List ℕ
+playing_from fixed caps place [] = []
+playing_from fixed caps place (c ∷ cs) =
+    let rest = playing_from fixed caps (suc place) cs in
+    cond (is_in_play fixed caps c) (place ∷ rest) rest
+
+abbrev pub playing_of : List Bool → List ℕ → List Column → List ℕ
+playing_of fixed caps pool = playing_from fixed caps 0 pool
+
+-- before others the column of a place, where its value is below 0
+abbrev pub gain_before : List Price → ℕ → List Key → Option Column → List Key
+gain_before prices place rest None = rest
+gain_before prices place rest (Some c) = cond (int_lt (value prices c) (pos 0)) (record { class = c.class; value = value prices c; place = place } ∷ rest) rest
+
+-- of the columns at some places those whose values are below 0
+abbrev pub gains_at : List Price → List Column → List ℕ → List Key
+gains_at prices pool [] = []
+gains_at prices pool (p ∷ ps) = gain_before prices p (gains_at prices pool ps) (slice_get pool p)
 
 -- by class, value and place
 abbrev pub key_cmp : Key → Key → Ordering
@@ -85,11 +105,11 @@ AreAsked (z ∷ zs) = (pos 0 ≤ℤ z) × (z ≤ℤ pos 30000000000000000) × Ar
 abbrev pub AreZeroNumbers : ℕ → List ℤ → Type 0
 AreZeroNumbers n prices = (length prices ≡ n) × ((i : ℕ) → number_at prices i ≡ pos 0)
 
--- what is chosen of a pool at some prices: of each class in play the first columns by value and place, as many as it has places, of
--- those with a value below 0; and a class asks minus the value of the next one
-pub record IsChoice (fixed : List Bool) (caps : List ℕ) (prices : List Price) (pool : List Column) (choice : Choice) : Type 0 where
+-- what is chosen of some columns with values below 0: of each class the first ones by value and place, as many as it has places; and a
+-- class asks minus the value of the next one
+pub record IsChosen (gains : List Key) (caps : List ℕ) (choice : Choice) : Type 0 where
   pub keys : List Key
-  pub all : IsPermutation (gains_of fixed caps prices pool) keys
+  pub all : IsPermutation gains keys
   pub sorted : IsSortedBy is_before keys
   pub counts : List ℕ
   pub zero : AreZeroCounts (length caps) counts
@@ -98,6 +118,10 @@ pub record IsChoice (fixed : List Bool) (caps : List ℕ) (prices : List Price) 
   pub places : choice.places ≡ chosen_places caps counts keys
   pub sum : choice.sum ≡ chosen_sum caps counts keys
   pub class_prices : choice.class_prices ≡ priced_classes caps counts keys asked
+
+-- what is chosen of a pool at some prices, of the columns in play with values below 0
+abbrev pub IsChoice : List Bool → List ℕ → List Price → List Column → Choice → Type 0
+IsChoice fixed caps prices pool choice = IsChosen (gains_of fixed caps prices pool) caps choice
 
 -- what the calls after a choice need of it
 pub record IsSoundChoice (classes columns : ℕ) (choice : Choice) : Type 0 where

@@ -2,12 +2,13 @@
 
 ghost use Rattle.std.specs.Prelude.{◌≡◌, ℤ, ◌≤◌, ◌<◌, ◌+◌, ◌*◌, ◌≤ℤ◌, ◌<ℤ◌, ◌+ℤ◌, pos, neg_ℤ, [], ◌∷◌, ◌++◌, length, cond, IfOk, OnOk, slice_index, slice_set};
 ghost use Rattle.std.specs.List.Sorted.{IsPermutation, IsSortedBy};
+ghost use Rattle.cover_core.specs.Cover.{AllBelow};
 ghost use Rattle.cover_core.specs.FirstLeast.{AllWithin};
 ghost use Rattle.cover_core.specs.Fitting.{AreFit};
-ghost use Rattle.lagrangian_climb.specs.Choices.{gains_of, key_cmp, is_before, seen, has_room, is_next, AreZeroCounts, AreZeroNumbers, IsChoice, IsSoundChoice};
+ghost use Rattle.lagrangian_climb.specs.Choices.{gains_at, key_cmp, is_before, seen, has_room, is_next, AreZeroCounts, AreZeroNumbers, IsChoice, IsChosen, IsSoundChoice};
 
 use crate::key::Key;
-use crate::playing::is_in_play;
+use crate::playing::in_play;
 use cover_core::{Column, Prices, value};
 use plan_core::{Memory, Seq};
 use std::alloc::Global;
@@ -24,35 +25,32 @@ pub struct Choice {
     pub sum: i128,
 }
 
-/// The columns in play of value below 0, in order of their places.
+/// Of the columns at some places those of value below 0, in the order of the places.
 fn gains(
     alloc: Global,
     pool: &[Column],
-    fixed: &[bool],
-    caps: &[u32],
+    places: &[u32],
     prices: &Prices,
 ) -> Result<Vec<Key>, Memory>
-    requires pool { length pool.now ≤ 200000 }
     requires few { length prices.now.items ≤ 3000 }
     requires moderate { AllWithin 10000000000000 prices.now.items }
-    requires fixed { length fixed.now ≡ length prices.now.items }
-    requires fit { AreFit (length prices.now.items) (length caps.now) pool.now }
-    ensures { IfOk result (λ keys. keys.items ≡ gains_of fixed.now caps.now prices.now.items pool.now) }
+    requires fit { AreFit (length prices.now.items) 32 pool.now }
+    requires places { AllBelow (length pool.now) places.now }
+    ensures { IfOk result (λ keys. keys.items ≡ gains_at prices.now.items pool.now places.now) }
 {
     let mut keys = Vec::new(alloc);
-    for (place, column) in pool.iter().enumerate() {
-        if is_in_play(fixed, caps, column) {
-            let value = value(column, prices);
-            if value < 0 {
-                let key = Key {
-                    class: column.class,
-                    value,
-                    place: place as u32,
-                };
-                match keys.push(key) {
-                    Ok(()) => {}
-                    Err(_) => return Err(Memory),
-                }
+    for place in places {
+        let column = &pool[*place as usize];
+        let value = value(column, prices);
+        if value < 0 {
+            let key = Key {
+                class: column.class,
+                value,
+                place: *place,
+            };
+            match keys.push(key) {
+                Ok(()) => {}
+                Err(_) => return Err(Memory),
             }
         }
     }
@@ -132,6 +130,38 @@ pub(crate) fn zero_numbers(alloc: Global, len: usize) -> Result<Seq<i64>, Memory
     Ok(numbers)
 }
 
+/// What is chosen of the columns at some places of a pool, each of which stands there once, and what each class asks for a place.
+pub(crate) fn choose_of(
+    alloc: Global,
+    pool: &[Column],
+    places: &[u32],
+    caps: &[u32],
+    prices: &Prices,
+) -> Result<Choice, Memory>
+    requires pool { length pool.now ≤ 200000 }
+    requires few { length prices.now.items ≤ 3000 }
+    requires moderate { AllWithin 10000000000000 prices.now.items }
+    requires classes { length caps.now ≤ 32 }
+    requires fit { AreFit (length prices.now.items) (length caps.now) pool.now }
+    requires places { AllBelow (length pool.now) places.now }
+    requires count { length places.now ≤ length pool.now }
+    ensures choice { IfOk result (IsChosen (gains_at prices.now.items pool.now places.now) caps.now) }
+    ensures sound { IfOk result (IsSoundChoice (length caps.now) (length pool.now)) }
+{
+    let mut keys = gains(alloc, pool, places, prices)?;
+    sort(&mut keys)?;
+    let mut counts = zero_counts(alloc, caps.len())?;
+    let mut choice = Choice {
+        places: Seq::new(alloc),
+        class_prices: zero_numbers(alloc, caps.len())?,
+        sum: 0,
+    };
+    for key in keys.as_slice() {
+        walk(&mut choice, &mut counts, caps, *key)?;
+    }
+    Ok(choice)
+}
+
 /// The columns that are chosen of a pool at some prices, and what each class asks for a place.
 ///
 /// A column is in play where its class has a place and none of its items is fixed. Of the columns in play whose values are below 0 each
@@ -162,16 +192,6 @@ pub fn choose(
     ensures choice { IfOk result (IsChoice fixed.now caps.now prices.now.items pool.now) }
     ensures sound { IfOk result (IsSoundChoice (length caps.now) (length pool.now)) }
 {
-    let mut keys = gains(alloc, pool, fixed, caps, prices)?;
-    sort(&mut keys)?;
-    let mut counts = zero_counts(alloc, caps.len())?;
-    let mut choice = Choice {
-        places: Seq::new(alloc),
-        class_prices: zero_numbers(alloc, caps.len())?,
-        sum: 0,
-    };
-    for key in keys.as_slice() {
-        walk(&mut choice, &mut counts, caps, *key)?;
-    }
-    Ok(choice)
+    let places = in_play(alloc, pool, fixed, caps)?;
+    choose_of(alloc, pool, places.as_slice(), caps, prices)
 }

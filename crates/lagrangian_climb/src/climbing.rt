@@ -7,9 +7,10 @@ ghost use Rattle.cover_core.specs.Fitting.{AreFit};
 ghost use Rattle.lagrangian_climb.specs.Choices.{AreAsked};
 ghost use Rattle.lagrangian_climb.specs.Climbs.{AreSpans, IsPeak, IsAscent, IsPriced};
 
-use crate::choosing::{Choice, choose, zero_counts, zero_numbers};
+use crate::choosing::{Choice, choose_of, zero_counts, zero_numbers};
 use crate::covers::{count_all, covers};
 use crate::numbers::{gap, unit};
+use crate::playing::in_play;
 use crate::vectors::{Heading, Span, free_sum, moved_prices, turned_heading};
 use cover_core::{Column, Prices};
 use plan_core::{Memory, Seq};
@@ -215,10 +216,11 @@ fn go_on(
     })
 }
 
-/// A turn of a climb.
+/// A turn of a climb over the columns at some places, those in play.
 fn turn(
     alloc: Global,
     pool: &[Column],
+    playing: &[u32],
     rest: &Rest,
     spans: &[Span],
     ascent: Ascent,
@@ -226,6 +228,8 @@ fn turn(
     requires pool { length pool.now ≤ 200000 }
     requires items { length rest.now.fixed ≤ 3000 }
     requires classes { length rest.now.caps ≤ 32 }
+    requires playing { AllBelow (length pool.now) playing.now }
+    requires count { length playing.now ≤ length pool.now }
     requires fit { AreFit (length rest.now.fixed) (length rest.now.caps) pool.now }
     requires spans { AreSpans spans.now }
     requires one_each { length spans.now ≡ length rest.now.fixed }
@@ -242,7 +246,7 @@ fn turn(
         ..
     } = ascent;
     let fixed = rest.fixed.as_slice();
-    let choice = choose(alloc, pool, fixed, rest.caps.as_slice(), &prices)?;
+    let choice = choose_of(alloc, pool, playing, rest.caps.as_slice(), &prices)?;
     let Choice {
         places,
         class_prices,
@@ -286,7 +290,7 @@ fn turn(
 ///
 /// The pool has at most 200,000 columns; there are at most 3,000 items and 32 classes. Each item has a price and a span from
 /// -10,000,000,000,000 to 10,000,000,000,000 thousandths of a cost unit, between whose ends its price is kept from the first turn on. The
-/// pace is at most 512. Time is that of 100 choices.
+/// pace is at most 512. Which columns are in play is looked up once; time is that of 100 choices among these.
 ///
 /// # Errors
 ///
@@ -310,10 +314,12 @@ pub fn climb(
     ensures peak { IfOk result (λ climbed. IsPeak (length rest.now.fixed) (length rest.now.caps) climbed.peak) }
     ensures counts { IfOk result (λ climbed. length climbed.counts ≡ length pool.now) }
 {
+    let playing = in_play(alloc, pool, rest.fixed.as_slice(), rest.caps.as_slice())?;
+    let places = playing.as_slice();
     let mut ascent = begin(alloc, prices, rest.caps.len(), pool.len(), pace)?;
     for _turn in 0..100u32 {
         if !ascent.over {
-            ascent = turn(alloc, pool, rest, spans, ascent)?;
+            ascent = turn(alloc, pool, places, rest, spans, ascent)?;
         }
     }
     let Ascent { peak, counts, .. } = ascent;

@@ -1,7 +1,7 @@
 use Rattle.std.proofs.Common.{◌≡◌, ℕ, ◌≤◌, ◌*◌, ◌+ℤ◌, ◌≤ℤ◌, pos, neg_ℤ, ◌++◌, drop, length}
 use Rattle.std.specs.Prelude.{slice_index}
 use Rattle.lagrangian_climb.specs.Choices.{chosen_places, chosen_sum, priced_classes}
-use Rattle.lagrangian_climb.proofs.choosing.choose.Given as goal
+use Rattle.lagrangian_climb.proofs.choosing.choose_of.Given as goal
 
 abbrev pub invariant-loop-key : goal.invariant-loop-key
 invariant-loop-key l = record {
