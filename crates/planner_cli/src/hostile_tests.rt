@@ -1,4 +1,4 @@
-//! Hostile use of the commands that read planning files: too many trips, bytes that are no text, and reads and writes that fail.
+//! Hostile use of the commands that read planning files: too many trips or bytes, bytes that are no text, reads and writes that fail.
 
 use crate::plan_tests::{NO_CHANGE, PLAN_WRITTEN, UNENDED, demo, replaced};
 use crate::status::{InputFault, Status};
@@ -57,6 +57,25 @@ fn a_day_has_at_most_3000_trips(rt: HostRuntime) -> Result<(), Fail> {
             is_refused(&rt, alloc, command, text, "trips: 3001\n")?,
             "{command}"
         );
+    }
+    Ok(())
+}
+
+/// So many blanks.
+fn blanks(alloc: Global, count: usize) -> Result<Bytes, Fail> {
+    Ok(Bytes::from_vec(vec![in alloc; b' '; count]?))
+}
+
+#[test]
+fn files_have_at_most_67108864_bytes(rt: HostRuntime) -> Result<(), Fail> {
+    let alloc = rt.alloc();
+    let rows = [
+        (67_108_865, "file 1 line 0: TooLarge\n"),
+        (67_108_864, "file 1 line 2: Unended\n"),
+    ];
+    for (count, line) in rows {
+        let bytes = blanks(alloc, count)?;
+        assert!(rt; is_refused(&rt, alloc, "plan", bytes, line)?, "{line}");
     }
     Ok(())
 }
