@@ -83,13 +83,20 @@ end; 1
 eof; 14
 ";
 
-/// The settings of this text.
-fn settings(alloc: Global, text: &[u8]) -> Result<Params, Fail>
+/// The settings of a text.
+fn settings_of(alloc: Global, text: &[u8]) -> Result<Params, Fail>
     ensures { IfOk result HaveRanges }
 {
     let tables = read_file(alloc, text, 100_000)?;
     let net = read_tables(alloc, tables.as_slice(), Needs::All)?;
     Ok(read_params(alloc, &net, 1)?)
+}
+
+/// The settings of all tests. The text stands here alone, so that no other proof carries it along.
+fn settings(alloc: Global) -> Result<Params, Fail>
+    ensures { IfOk result HaveRanges }
+{
+    settings_of(alloc, SETTINGS)
 }
 
 const DEPOT: Point = Point { typ: 2, nr: 9 };
@@ -308,35 +315,80 @@ fn outside(start: i64, driving: u32) -> Mark {
     mark(0, start, driving, false, driving, false, i64::MIN)
 }
 
-/// A cover and what takes it away: a mark that is missing, a class price below 0, and marks from outside with numbers at the ends of
-/// their ranges. A sign-on far in the past opens and closes nothing; one far in the future does, since its spread is below 0.
+/// A change of a cover, and its first gap then.
+struct Change {
+    class_price: i64,
+    without: Option<usize>,
+    with: Option<Mark>,
+    gap: Option<Gap>,
+}
+
+/// The cover as it is, where a mark is missing, and where the class price is below 0.
+fn fewer(place: usize) -> Change {
+    let (class_price, without, gap) = match place {
+        0 => (0, None, None),
+        1 => (0, Some(0), Some(Gap::First { class: 0, piece: 0 })),
+        2 => (0, Some(1), Some(Gap::Next { place: 0, piece: 1 })),
+        3 => (0, Some(2), Some(Gap::First { class: 0, piece: 1 })),
+        _ => (-1, None, Some(Gap::Close { place: 1 })),
+    };
+    Change {
+        class_price,
+        without,
+        with: None,
+        gap,
+    }
+}
+
+/// The cover with a mark from outside with numbers at the ends of their ranges. A sign-on far in the past opens and closes nothing; one far
+/// in the future does, since its spread is below 0.
+fn more(place: usize) -> Change {
+    let (with, gap) = match place {
+        0 => (outside(i64::MIN, 0), None),
+        1 => (outside(27_600, u32::MAX), None),
+        _ => (outside(i64::MAX, 0), Some(Gap::Next { place: 3, piece: 1 })),
+    };
+    Change {
+        class_price: 0,
+        without: None,
+        with: Some(with),
+        gap,
+    }
+}
+
+/// Whether a change has its gap.
+fn has_gap(
+    alloc: Global,
+    net: &DutyNet<'_>,
+    prices: &Prices,
+    change: Change,
+) -> Result<bool, Memory>
+    requires { AllWithin 3000000000000000 prices.now.items }
+{
+    let Change {
+        class_price,
+        without,
+        with,
+        gap,
+    } = change;
+    let marks = changed(alloc, counted_marks(), without, with)?;
+    Ok(gap_of(net, prices, class_price, marks) == Some(gap))
+}
+
 #[test]
 fn covers_and_gaps(rt: HostRuntime) -> Result<(), Fail> {
     let alloc = rt.alloc();
-    let params = settings(alloc, SETTINGS)?;
+    let params = settings(alloc)?;
     let net = match net_of(alloc, demonstration(alloc)?, &params, Worth::Count)? {
         Some(net) => net,
         None => return Err(Fail::new("these are no pieces")),
     };
     let prices = two_prices(alloc, 500, 500)?;
-    let cases = [
-        (0, None, None, None),
-        (0, Some(0), None, Some(Gap::First { class: 0, piece: 0 })),
-        (0, Some(1), None, Some(Gap::Next { place: 0, piece: 1 })),
-        (0, Some(2), None, Some(Gap::First { class: 0, piece: 1 })),
-        (-1, None, None, Some(Gap::Close { place: 1 })),
-        (0, None, Some(outside(i64::MIN, 0)), None),
-        (0, None, Some(outside(27_600, u32::MAX)), None),
-        (
-            0,
-            None,
-            Some(outside(i64::MAX, 0)),
-            Some(Gap::Next { place: 3, piece: 1 }),
-        ),
-    ];
-    for (class_price, without, with, gap) in cases {
-        let marks = changed(alloc, counted_marks(), without, with)?;
-        assert_eq!(rt; gap_of(&net, &prices, class_price, marks), Some(gap));
+    for place in 0..5 {
+        assert!(rt; has_gap(alloc, &net, &prices, fewer(place))?, "{place}");
+    }
+    for place in 0..3 {
+        assert!(rt; has_gap(alloc, &net, &prices, more(place))?, "{place}");
     }
     Ok(())
 }
@@ -356,7 +408,7 @@ fn unpaid_of(alloc: Global, net: &DutyNet<'_>, prices: &Prices) -> Result<Option
 #[test]
 fn unpaid_duties_are_found(rt: HostRuntime) -> Result<(), Fail> {
     let alloc = rt.alloc();
-    let params = settings(alloc, SETTINGS)?;
+    let params = settings(alloc)?;
     let net = match net_of(alloc, demonstration(alloc)?, &params, Worth::Cost)? {
         Some(net) => net,
         None => return Err(Fail::new("these are no pieces")),
@@ -530,21 +582,29 @@ fn agrees(
     }
 }
 
+/// A pause, how duties are worth, the prices of the three pieces, and how many marks the cover has.
+fn case_at(place: usize) -> (u16, Worth, [u32; 3], usize) {
+    match place {
+        0 => (600, Worth::Count, [500; 3], 5),
+        1 => (600, Worth::Cost, [0; 3], 3),
+        2 => (1_300, Worth::Count, [500; 3], 5),
+        3 => (1_300, Worth::Cost, [0; 3], 5),
+        4 => (3_000, Worth::Cost, [0; 3], 3),
+        5 => (3_000, Worth::Cost, [9_000_000; 3], 5),
+        _ => (12_000, Worth::Cost, [0; 3], 5),
+    }
+}
+
 /// Pauses of some minutes, of a quarter of an hour, of a full break and of three hours.
 #[test]
 fn marks_are_the_best_of_all(rt: HostRuntime) -> Result<(), Fail> {
-    let params = settings(rt.alloc(), SETTINGS)?;
-    let cases = [
-        (600, Worth::Count, [500, 500, 500], 5),
-        (600, Worth::Cost, [0, 0, 0], 3),
-        (1_300, Worth::Count, [500, 500, 500], 5),
-        (1_300, Worth::Cost, [0, 0, 0], 5),
-        (3_000, Worth::Cost, [0, 0, 0], 3),
-        (3_000, Worth::Cost, [9_000_000, 9_000_000, 9_000_000], 5),
-        (12_000, Worth::Cost, [0, 0, 0], 5),
-    ];
-    for (pause, worth, prices, count) in cases {
-        assert!(rt; agrees(rt.alloc(), &params, pause, worth, prices, count)?);
+    let params = settings(rt.alloc())?;
+    for place in 0..7 {
+        let (pause, worth, prices, count) = case_at(place);
+        assert!(rt;
+            agrees(rt.alloc(), &params, pause, worth, prices, count)?,
+            "{place}"
+        );
     }
     Ok(())
 }
