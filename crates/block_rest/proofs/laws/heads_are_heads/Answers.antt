@@ -1,0 +1,5 @@
+use Rattle.block_rest.proofs.Apart.{heads-are}
+use Rattle.block_rest.proofs.laws.heads_are_heads.Goals as goal
+
+pub returns : goal.returns
+returns c = heads-are

@@ -1,0 +1,6 @@
+pub mod Heads
+pub mod Rest
+pub mod Low
+pub mod Listed
+pub mod Laws
+pub mod Examples
