@@ -6,8 +6,8 @@ use Rattle.plan_certify.specs.Certificate.{IsCertTextOver}
 use Rattle.plan_command.specs.Planning.{Asked}
 use Rattle.planner_cli.specs.Model.{IsModelOf}
 
--- The text of the certificate of the plan of the day that the tables tell, the plan that `plan` writes with the same asked: for each of the
--- four passes the kept prices and class prices, and the cover that shows that they are paid.
+-- The text of the certificate of the plan of the day that the tables tell, the plan that `plan` writes where the same is asked: for each of
+-- the four passes the kept prices and class prices, and the cover that shows that they are paid.
 pub record IsCertText (asked : Asked) (tables : List Table) (day : ℕ) (bytes : List ℕ) : Type 0 where
   pub facts : DayFacts
   pub model : IsModelOf tables day facts

@@ -13,7 +13,7 @@ use Rattle.planner_cli.specs.declared.status.Status.TheVariants as statuses
 use Rattle.planner_cli.specs.Model.{IsModelCause, IsModelOf}
 
 -- The text of the plan of the day that the tables tell: its vehicle blocks and driver duties, with what they cost and the bounds on their
--- asked and costs. Each trip of the day stands in exactly one block of one pool within its vehicles, and each piece in exactly one lawful
+-- numbers and costs. Each trip of the day stands in exactly one block of one pool within its vehicles, and each piece in exactly one lawful
 -- duty of one group within its drivers.
 pub record IsPlanText (asked : Asked) (tables : List Table) (day : ℕ) (bytes : List ℕ) : Type 0 where
   pub facts : DayFacts

@@ -8,8 +8,8 @@ use Rattle.command_words.specs.declared.request.Request.{Request}
 use Rattle.plan_command.specs.Planning.{Asked}
 
 -- A command; for a day that is made its seed and its number of trips; for a plan and its certificate the numbers of rounds, lowering rounds
--- and exchange steps, and the method; and for a check how many planning files there are, before a plan and a certificate. No worker occurs
--- in it.
+-- and exchange steps, the method, and whether the flow is asked for; and for a check how many planning files there are, before a plan and a
+-- certificate. No worker occurs in it.
 pub data Task : Type 0 where
   Trips : Task
   Day : Task
