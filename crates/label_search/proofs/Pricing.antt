@@ -1,8 +1,8 @@
 -- The first least of the lists that close is the best column.
-use Rattle.std.proofs.Common.{◌≡◌, ℕ, ℤ, pos, neg_ℤ, ◌+ℤ◌, ◌*◌, ◌≤ℤ◌, ◌<◌, ◌/◌, Bool, true, false, cond, List, [], ◌∷◌, length, refl, sym, ap, ◌∙◌, arith}
+use Rattle.std.proofs.Common.{◌≡◌, ℕ, ℤ, pos, neg_ℤ, ◌+ℤ◌, ◌*◌, ◌+◌, ◌≤ℤ◌, ◌<◌, ◌≤◌, ◌/◌, Bool, true, false, cond, List, [], ◌∷◌, length, refl, sym, ap, ◌∙◌, arith}
 use Rattle.std.proofs.lemmas.Int.{ints}
 use Rattle.std.proofs.lemmas.Bool.Decides.{nat_tests}
-use Rattle.std.specs.Prelude.{Option, Some, None, nat_eq, unwrap_or, Contains, Result, Ok, Err, IfOk}
+use Rattle.std.specs.Prelude.{Option, Some, None, nat_eq, nat_le, nat_lt, ◌&&◌, unwrap_or, Contains, Result, Ok, Err, IfOk}
 use Rattle.plan_core.specs.declared.Price.{Price}
 use Rattle.cover_core.specs.declared.Column.{Column}
 use Rattle.cover_core.specs.Cover.{Problem}
@@ -12,7 +12,7 @@ use Rattle.cover_core.specs.Labels.{Labelling, label_after, label_of, IsKept, Is
 use Rattle.cover_core.proofs.Labels.{covers}
 use Rattle.label_search.specs.Laws.{GoodAs, IsStepwise, IsSafe, HidesNone}
 use Rattle.label_search.specs.Answers.{IsLeastClosed, AllCloseAbove}
-use Rattle.label_search.specs.Pricing.{of_group, IsTied, IsTiedInGroup, CoverPays, worth_column}
+use Rattle.label_search.specs.Pricing.{of_start, of_group, of_range, is_between, IsTied, IsTiedInGroup, CoverPays, worth_column}
 use Rattle.cover_core.specs.Best.{best_of, within}
 use Rattle.cover_core.specs.Laws.{WithinIsLimited}
 use Rattle.std.specs.Option.{option_map}
@@ -21,41 +21,64 @@ pub start-parts : {L : Type 0} (t : Bool) (o : Option L) (b : L) → cond t o No
 start-parts true o b e = (refl, e)
 start-parts false o b e = absurd (cc)
 
+-- The laws of labels stay where a test says which items lists may begin with: they speak of steps, which are the same, and of starts, of
+-- which some are left.
+pub of_start-kept : {L : Type 0} (w : Labelling L) (good : L → L → Type 0) (begins : ℕ → Bool) → IsKept w good → IsKept (of_start w begins) good
+of_start-kept w good begins k = record { same = k.same; through = k.through; extended = k.extended }
+
+pub of_start-valued : {L : Type 0} (w : Labelling L) (good : L → L → Type 0) (value_at : L → ℤ) (close : L → Option ℤ) (begins : ℕ → Bool) →
+    IsValued w good value_at close → IsValued (of_start w begins) good value_at close
+of_start-valued w good value_at close begins v = record { at_most = v.at_most; apart = v.apart; closes = v.closes }
+
+pub of_start-stepwise : {L : Type 0} (w : Labelling L) (count : ℕ) (last : L → ℕ) (begins : ℕ → Bool) → IsStepwise w count last → IsStepwise (of_start w begins) count last
+of_start-stepwise w count last begins s = record {
+  starts = λ item a e. let (test, e1) = start-parts _ _ a e in s.starts item a e1;
+  steps = s.steps;
+}
+
+pub of_start-safe : {L : Type 0} (w : Labelling L) (sound : L → Type 0) (begins : ℕ → Bool) → IsSafe w sound → IsSafe (of_start w begins) sound
+of_start-safe w sound begins s = record {
+  starts = λ item a e. let (test, e1) = start-parts _ _ a e in s.starts item a e1;
+  steps = s.steps;
+}
+
+pub of_start-hides : {L : Type 0} (w : Labelling L) (good : L → L → Bool) (close : L → Option ℤ) (sound : L → Type 0) (may_close : ℤ → L → Bool) (begins : ℕ → Bool) →
+    HidesNone w good close sound may_close → HidesNone (of_start w begins) good close sound may_close
+of_start-hides w good close sound may_close begins h = record { closes = h.closes; steps = h.steps; ordered = h.ordered }
+
+after-start : {L : Type 0} (w : Labelling L) (begins : ℕ → Bool) (o : Option L) (xs : List ℕ) → label_after (of_start w begins) o xs ≡ label_after w o xs
+after-start w begins None [] = refl
+after-start w begins None (x ∷ xs) = refl
+after-start w begins (Some a) [] = refl
+after-start w begins (Some a) (x ∷ xs) = after-start w begins (w.extend a x) xs
+
+-- the label of a list depends on the test of its first item alone
+pub start-label : {L : Type 0} (w : Labelling L) (begins : ℕ → Bool) (x : ℕ) (xs : List ℕ) → label_of (of_start w begins) (x ∷ xs) ≡ label_after w (cond (begins x) (w.start x) None) xs
+start-label w begins x xs = after-start w begins (cond (begins x) (w.start x) None) xs
+
 -- the laws of labels stay in a group
 pub of_group-kept : {L : Type 0} (w : Labelling L) (good : L → L → Type 0) (group : ℕ) → IsKept w good → IsKept (of_group w group) good
-of_group-kept w good group k = record { same = k.same; through = k.through; extended = k.extended }
+of_group-kept w good group = of_start-kept w good (λ item. nat_eq (item / 16) group)
 
 pub of_group-valued : {L : Type 0} (w : Labelling L) (good : L → L → Type 0) (value_at : L → ℤ) (close : L → Option ℤ) (group : ℕ) →
     IsValued w good value_at close → IsValued (of_group w group) good value_at close
-of_group-valued w good value_at close group v = record { at_most = v.at_most; apart = v.apart; closes = v.closes }
+of_group-valued w good value_at close group = of_start-valued w good value_at close (λ item. nat_eq (item / 16) group)
 
 pub of_group-stepwise : {L : Type 0} (w : Labelling L) (count : ℕ) (last : L → ℕ) (group : ℕ) → IsStepwise w count last → IsStepwise (of_group w group) count last
-of_group-stepwise w count last group s = record {
-  starts = λ item a e. let (test, e1) = start-parts _ _ a e in s.starts item a e1;
-  steps = s.steps;
-}
+of_group-stepwise w count last group = of_start-stepwise w count last (λ item. nat_eq (item / 16) group)
 
 pub of_group-safe : {L : Type 0} (w : Labelling L) (sound : L → Type 0) (group : ℕ) → IsSafe w sound → IsSafe (of_group w group) sound
-of_group-safe w sound group s = record {
-  starts = λ item a e. let (test, e1) = start-parts _ _ a e in s.starts item a e1;
-  steps = s.steps;
-}
+of_group-safe w sound group = of_start-safe w sound (λ item. nat_eq (item / 16) group)
 
 pub of_group-hides : {L : Type 0} (w : Labelling L) (good : L → L → Bool) (close : L → Option ℤ) (sound : L → Type 0) (may_close : ℤ → L → Bool) (group : ℕ) →
     HidesNone w good close sound may_close → HidesNone (of_group w group) good close sound may_close
-of_group-hides w good close sound may_close group h = record { closes = h.closes; steps = h.steps; ordered = h.ordered }
+of_group-hides w good close sound may_close group = of_start-hides w good close sound may_close (λ item. nat_eq (item / 16) group)
 
 group-test : (x group : ℕ) → nat_eq (x / 16) group ≡ true → x / 16 ≡ group
 group-test x group h = grind (arith, nat_tests)
 
 test-group : (x group : ℕ) → x / 16 ≡ group → nat_eq (x / 16) group ≡ true
 test-group x group h = grind (arith, nat_tests)
-
-after-group : {L : Type 0} (w : Labelling L) (group : ℕ) (o : Option L) (xs : List ℕ) → label_after (of_group w group) o xs ≡ label_after w o xs
-after-group w group None [] = refl
-after-group w group None (x ∷ xs) = refl
-after-group w group (Some a) [] = refl
-after-group w group (Some a) (x ∷ xs) = after-group w group (w.extend a x) xs
 
 none-after : {L : Type 0} (w : Labelling L) (xs : List ℕ) (b : L) → label_after w None xs ≡ Some b → ⊥
 none-after w [] b e = cc
@@ -64,7 +87,7 @@ none-after w (x ∷ xs) b e = cc
 pub from-group : {L : Type 0} (w : Labelling L) (group : ℕ) (xs : List ℕ) (b : L) → label_of (of_group w group) xs ≡ Some b → (label_of w xs ≡ Some b) × InGroup group xs
 from-group w group [] b e = absurd (cc)
 from-group {L = L} w group (x ∷ xs) b e =
-    let e' : label_after w (cond (nat_eq (x / 16) group) (w.start x) None) xs ≡ Some b = sym (after-group w group (cond (nat_eq (x / 16) group) (w.start x) None) xs) ∙ e in
+    let e' : label_after w (cond (nat_eq (x / 16) group) (w.start x) None) xs ≡ Some b = sym (start-label w (λ item. nat_eq (item / 16) group) x xs) ∙ e in
     elim (nat_eq (x / 16) group) as (λ t. nat_eq (x / 16) group ≡ t → label_after w (cond t (w.start x) None) xs ≡ Some b → (label_after w (w.start x) xs ≡ Some b) × (x / 16 ≡ group)) [
       | true ↦ λ is f. (f, group-test x group is)
       | false ↦ λ is f. absurd (none-after w xs b f)
@@ -73,7 +96,7 @@ from-group {L = L} w group (x ∷ xs) b e =
 pub onto-group : {L : Type 0} (w : Labelling L) (group : ℕ) (xs : List ℕ) → InGroup group xs → label_of (of_group w group) xs ≡ label_of w xs
 onto-group w group [] inside = absurd inside
 onto-group {L = L} w group (x ∷ xs) inside =
-    ap (λ t. label_after (of_group w group) (cond t (w.start x) None) xs) (test-group x group inside) ∙ after-group w group (w.start x) xs
+    start-label w (λ item. nat_eq (item / 16) group) x xs ∙ ap (λ t. label_after w (cond t (w.start x) None) xs) (test-group x group inside)
 
 -- the tie of all lists is one of each group
 pub of_group-tied : {L : Type 0} (w : Labelling L) (close : L → Option ℤ) (prices : List Price) (group : ℕ) (worth_of : List ℕ → Option ℕ) →
@@ -81,6 +104,57 @@ pub of_group-tied : {L : Type 0} (w : Labelling L) (close : L → Option ℤ) (p
 of_group-tied w close prices group worth_of tied = record {
   onto = λ list worth e inside. let (a, has, closes) = tied.onto list worth e in (a, onto-group w group list inside ∙ has, closes);
   from = λ list a v e c. let (has, inside) = from-group w group list a e in let (worth, worth_is, value_is) = tied.from list a v has c in (inside, worth, worth_is, value_is);
+}
+
+-- an item of a group is between the group's first one and the next group's
+between-group : (x group : ℕ) → x / 16 ≡ group → is_between (16 * group) (16 * group + 16) x ≡ true
+between-group x group h = grind (arith, nat_tests)
+
+group-between : (x group : ℕ) → is_between (16 * group) (16 * group + 16) x ≡ true → x / 16 ≡ group
+group-between x group h = grind (arith, nat_tests)
+
+-- the tie of all lists is one of each group, whose first items are a range
+pub of_range-tied : {L : Type 0} (w : Labelling L) (close : L → Option ℤ) (prices : List Price) (group : ℕ) (worth_of : List ℕ → Option ℕ) →
+    IsTied w close prices worth_of → IsTiedInGroup (of_range w (16 * group) (16 * group + 16)) close prices group worth_of
+of_range-tied {L = L} w close prices group worth_of tied = record {
+  onto = λ list worth e inside. let (a, has, closes) = tied.onto list worth e in (a, onto list inside ∙ has, closes);
+  from = λ list a v e c. let (has, inside) = from list a e in let (worth, worth_is, value_is) = tied.from list a v has c in (inside, worth, worth_is, value_is);
+}
+  where
+    onto : (xs : List ℕ) → InGroup group xs → label_of (of_range w (16 * group) (16 * group + 16)) xs ≡ label_of w xs
+    onto [] inside = absurd inside
+    onto (x ∷ xs) inside = start-label w (is_between (16 * group) (16 * group + 16)) x xs ∙ ap (λ t. label_after w (cond t (w.start x) None) xs) (between-group x group inside)
+
+    from : (xs : List ℕ) (b : L) → label_of (of_range w (16 * group) (16 * group + 16)) xs ≡ Some b → (label_of w xs ≡ Some b) × InGroup group xs
+    from [] b e = absurd (cc)
+    from (x ∷ xs) b e =
+        elim (is_between (16 * group) (16 * group + 16) x) as (λ t. is_between (16 * group) (16 * group + 16) x ≡ t → label_after w (cond t (w.start x) None) xs ≡ Some b → (label_after w (w.start x) xs ≡ Some b) × (x / 16 ≡ group)) [
+          | true ↦ λ is f. (f, group-between x group is)
+          | false ↦ λ is f. absurd (none-after w xs b f)
+        ] refl (sym (start-label w (is_between (16 * group) (16 * group + 16)) x xs) ∙ e)
+
+below-end : (x count end : ℕ) → x < count → count ≤ end → is_between 0 end x ≡ true
+below-end x count end below few = grind (arith, nat_tests)
+
+-- where a range has all items, all lists are left
+pub of_range-all : {L : Type 0} (w : Labelling L) (count end : ℕ) (last : L → ℕ) → IsStepwise w count last → count ≤ end → (xs : List ℕ) → label_of (of_range w 0 end) xs ≡ label_of w xs
+of_range-all w count end last steps few [] = refl
+of_range-all {L = L} w count end last steps few (x ∷ xs) =
+    start-label w (is_between 0 end) x xs ∙
+    elim (w.start x) as (λ o. w.start x ≡ o → label_after w (cond (is_between 0 end x) o None) xs ≡ label_after w o xs) [
+      | None ↦ λ is. none-either (is_between 0 end x)
+      | Some a ↦ λ is. ap (λ t. label_after w (cond t (Some a) None) xs) (below-end x count end (steps.starts x a is).0 few)
+    ] refl
+  where
+    none-either : (t : Bool) → label_after w (cond t None None) xs ≡ label_after w None xs
+    none-either true = refl
+    none-either false = refl
+
+pub of_range-tied-all : {L : Type 0} (w : Labelling L) (count end : ℕ) (last : L → ℕ) (close : L → Option ℤ) (prices : List Price) (worth_of : List ℕ → Option ℕ) → IsStepwise w count last → count ≤ end →
+    IsTied w close prices worth_of → IsTied (of_range w 0 end) close prices worth_of
+of_range-tied-all w count end last close prices worth_of steps few tied = record {
+  onto = λ list worth e. let (a, has, closes) = tied.onto list worth e in (a, of_range-all w count end last steps few list ∙ has, closes);
+  from = λ list a v e c. tied.from list a v (sym (of_range-all w count end last steps few list) ∙ e) c;
 }
 
 -- the first least of the lists that close is a first least column

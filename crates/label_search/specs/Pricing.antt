@@ -1,5 +1,5 @@
 -- From labels to columns: the labels of a class and group, and what ties them to worths.
-use Rattle.std.specs.Prelude.{◌≡◌, ℕ, ℤ, pos, neg_ℤ, ◌+ℤ◌, ◌≤ℤ◌, ◌*◌, ◌/◌, nat_eq, cond, Contains, List, Option, Some, None}
+use Rattle.std.specs.Prelude.{◌≡◌, ℕ, ℤ, pos, neg_ℤ, ◌+ℤ◌, ◌≤ℤ◌, ◌*◌, ◌/◌, nat_eq, nat_le, nat_lt, Bool, ◌&&◌, cond, Contains, List, Option, Some, None}
 use Rattle.std.specs.Option.{option_map}
 use Rattle.plan_core.specs.declared.Price.{Price}
 use Rattle.cover_core.specs.declared.Column.{Column}
@@ -8,12 +8,24 @@ use Rattle.cover_core.specs.Plans.{price_of, value_of}
 use Rattle.cover_core.specs.FirstLeast.{InGroup}
 use Rattle.cover_core.specs.Labels.{Labelling, label_of, IsCover}
 
--- the lists whose first item is one of 16 * group to 16 * group + 15
-abbrev pub of_group : {L : Type 0} → Labelling L → ℕ → Labelling L
-of_group w group = record {
-  start = λ item. cond (nat_eq (item / 16) group) (w.start item) None;
+-- the lists whose first item passes a test
+abbrev pub of_start : {L : Type 0} → Labelling L → (ℕ → Bool) → Labelling L
+of_start w begins = record {
+  start = λ item. cond (begins item) (w.start item) None;
   extend = w.extend;
 }
+
+-- the lists whose first item is one of 16 * group to 16 * group + 15
+abbrev pub of_group : {L : Type 0} → Labelling L → ℕ → Labelling L
+of_group w group = of_start w (λ item. nat_eq (item / 16) group)
+
+-- whether an item is one from a first one on and before an end
+abbrev pub is_between : ℕ → ℕ → ℕ → Bool
+is_between first end item = nat_le first item && nat_lt item end
+
+-- the lists whose first item is one from a first one on and before an end
+abbrev pub of_range : {L : Type 0} → Labelling L → ℕ → ℕ → Labelling L
+of_range w first end = of_start w (is_between first end)
 
 -- a list has a worth exactly where it has a label that closes, and it closes with its value
 pub record IsTied {L : Type 0} (w : Labelling L) (close : L → Option ℤ) (prices : List Price) (worth_of : List ℕ → Option ℕ) : Type 0 where
