@@ -1,4 +1,4 @@
--- The labels of the open blocks of a pool in a group, and what no continuation of them adds less than.
+-- The labels of the open blocks of a pool whose first trips are a range, and what no continuation of them adds less than.
 use Rattle.std.specs.Prelude.{◌≡◌, ℕ, ℤ, pos, neg_ℤ, ◌-◌, ◌*◌, ◌<◌, ◌≤◌, ◌+ℤ◌, ◌-ℤ◌, ◌≤ℤ◌, Bool, List, [], ◌∷◌, length, Some}
 use Rattle.std.specs.Coded.{Unit-prop}
 use Rattle.std.proofs.Props.{props}
@@ -8,13 +8,14 @@ use Rattle.cover_core.specs.Labels.{Labelling}
 use Rattle.cover_core.specs.Plans.{number_at, price_at}
 use Rattle.plan_params.specs.declared.rows.pool.Pool.{Pool}
 use Rattle.day_model.specs.Facts.{DayFacts}
-use Rattle.label_search.specs.Pricing.{of_group}
+use Rattle.label_search.specs.Pricing.{of_range}
 use Rattle.depot_network.specs.declared.open.OpenBlock.{OpenBlock}
 use Rattle.depot_network.specs.Open.{OpenFits, opening, scaled}
 use Rattle.depot_network.specs.Walk.{added, ended}
 
-abbrev pub block_labels : DayFacts → Bool → List Price → Pool → ℕ → Labelling OpenBlock
-block_labels day counts prices pool group = of_group (opening day counts prices pool) group
+-- the labels of the open blocks whose first trip is one from a first one on and before an end
+abbrev pub block_labels : DayFacts → Bool → List Price → Pool → ℕ → ℕ → Labelling OpenBlock
+block_labels day counts prices pool first end = of_range (opening day counts prices pool) first end
 
 -- what a block closes with at least: its value and the rest behind its last trip
 abbrev pub floor_of : List ℤ → OpenBlock → ℤ
@@ -41,10 +42,10 @@ pub record AreBoundsFrom (day : DayFacts) (counts : Bool) (prices : List Price) 
   pub steps : (t : ℕ) → from ≤ t → StepsAbove day counts prices pool rests t (length day.trips) (number_at rests t)
   pub deep : (t : ℕ) → from ≤ t → IsDeep (length day.trips) t (number_at rests t)
 
--- the label of a list of the group: its trips are not before the group's
-pub record IsInGroup (count group : ℕ) (a : OpenBlock) : Type 0 where
+-- the label of a list of the range: its trips are not before the range's first one
+pub record IsInRange (count first : ℕ) (a : OpenBlock) : Type 0 where
   pub fits : OpenFits count a
-  pub from : 16 * group ≤ a.trip
+  pub from : first ≤ a.trip
 
 pub AllWithin-prop : (n : ℕ) (prices : List Price) → IsProp (AllWithin n prices)
 AllWithin-prop n [] = Unit-prop

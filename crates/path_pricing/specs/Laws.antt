@@ -1,5 +1,5 @@
 -- The laws of the labels of blocks.
-use Rattle.std.proofs.Common.{◌≡◌, ℕ, ℤ, pos, ◌*◌, ◌/◌, nat_eq, ◌+ℤ◌, ◌-ℤ◌, ◌≤ℤ◌, ◌<ℤ◌, Bool, true, false, cond, int_le, List, length, All, Some, None, is_some, refl, sym, ap, ◌∙◌, arith}
+use Rattle.std.proofs.Common.{◌≡◌, ℕ, ℤ, pos, nat_le, nat_lt, ◌&&◌, ◌+ℤ◌, ◌-ℤ◌, ◌≤ℤ◌, ◌<ℤ◌, Bool, true, false, cond, int_le, List, length, All, Some, None, is_some, refl, sym, ap, ◌∙◌, arith}
 use Rattle.std.proofs.lemmas.Bool.Decides.{nat_tests}
 use Rattle.std.proofs.lemmas.Int.{ints}
 use Rattle.plan_core.specs.declared.Price.{Price}
@@ -13,33 +13,34 @@ use Rattle.day_model.specs.Ranges.{IsDaily}
 use Rattle.label_search.specs.Laws.{GoodAs, IsStepwise, IsSafe, HidesNone, IsFloor}
 use Rattle.label_search.specs.Levels.{NoneFollows, NoneReaches}
 use Rattle.label_search.specs.Limits.{is_low, passed}
+use Rattle.label_search.specs.Pricing.{is_between}
 use Rattle.label_search.proofs.Limits.{floor-hides}
-use Rattle.label_search.proofs.Pricing.{of_group-hides, of_group-kept, of_group-stepwise, of_group-valued, start-parts}
+use Rattle.label_search.proofs.Pricing.{of_start-hides, of_start-kept, of_start-stepwise, of_start-valued, start-parts}
 use Rattle.depot_network.specs.declared.open.OpenBlock.{OpenBlock}
 use Rattle.depot_network.specs.Driving.{driven_in, driven_on}
 use Rattle.depot_network.specs.Open.{closed_open, extended_open, first_open, is_as_good, opening, scaled}
 use Rattle.depot_network.specs.Walk.{added, ended, last_step}
 use Rattle.depot_network.proofs.Bounds.{some_same}
 use Rattle.depot_network.proofs.Opens.{added_parts, given_both, joined_parts, map_some, next_parts, opening_kept, opening_safe, opening_stepwise, opening_valued, same_trip}
-use Rattle.path_pricing.specs.Blocks.{AreBoundsFrom, IsInGroup, block_labels, floor_of}
+use Rattle.path_pricing.specs.Blocks.{AreBoundsFrom, IsInRange, block_labels, floor_of}
 
-module _ (day : DayFacts) (counts : Bool) (prices : List Price) (pool : Pool) (group : ℕ) where
-  pub labels_kept : IsKept (block_labels day counts prices pool group) (GoodAs is_as_good)
-  labels_kept = of_group-kept (opening day counts prices pool) (GoodAs is_as_good) group (opening_kept day counts prices pool)
+module _ (day : DayFacts) (counts : Bool) (prices : List Price) (pool : Pool) (first end : ℕ) where
+  pub labels_kept : IsKept (block_labels day counts prices pool first end) (GoodAs is_as_good)
+  labels_kept = of_start-kept (opening day counts prices pool) (GoodAs is_as_good) (is_between first end) (opening_kept day counts prices pool)
 
-  pub labels_valued : IsValued (block_labels day counts prices pool group) (GoodAs is_as_good) (λ a. a.value) (closed_open day counts pool)
-  labels_valued = of_group-valued (opening day counts prices pool) (GoodAs is_as_good) (λ a. a.value) (closed_open day counts pool) group (opening_valued day counts prices pool)
+  pub labels_valued : IsValued (block_labels day counts prices pool first end) (GoodAs is_as_good) (λ a. a.value) (closed_open day counts pool)
+  labels_valued = of_start-valued (opening day counts prices pool) (GoodAs is_as_good) (λ a. a.value) (closed_open day counts pool) (is_between first end) (opening_valued day counts prices pool)
 
-  pub labels_stepwise : IsStepwise (block_labels day counts prices pool group) (length day.trips) (λ a. a.trip)
-  labels_stepwise = of_group-stepwise (opening day counts prices pool) (length day.trips) (λ a. a.trip) group (opening_stepwise day counts prices pool)
+  pub labels_stepwise : IsStepwise (block_labels day counts prices pool first end) (length day.trips) (λ a. a.trip)
+  labels_stepwise = of_start-stepwise (opening day counts prices pool) (length day.trips) (λ a. a.trip) (is_between first end) (opening_stepwise day counts prices pool)
 
-  pub labels_safe : All IsDaily day.trips → IsPool pool → AllWithin 10000000000000 prices → IsSafe (block_labels day counts prices pool group) (IsInGroup (length day.trips) group)
+  pub labels_safe : All IsDaily day.trips → IsPool pool → AllWithin 10000000000000 prices → IsSafe (block_labels day counts prices pool first end) (IsInRange (length day.trips) first)
   labels_safe daily ranges moderate =
       let safe = opening_safe day counts prices pool daily ranges moderate in
       let steps = opening_stepwise day counts prices pool in
       record {
         starts = λ t a e.
-            let (inside, is) = start-parts (nat_eq (t / 16) group) (first_open day counts prices pool t) a e in
+            let (inside, is) = start-parts (is_between first end t) (first_open day counts prices pool t) a e in
             let (there, same) = steps.starts t a is in
             record { fits = safe.starts t a is; from = grind (arith, nat_tests) };
         steps = λ a b u fit e.
@@ -65,7 +66,7 @@ module _ (day : DayFacts) (counts : Bool) (prices : List Price) (pool : Pool) (g
   scaled_up cost = elim counts as (λ c. pos 0 ≤ℤ scaled c cost) [ true ↦ omega (arith, ints) | false ↦ omega (arith, ints) ]
 
   module _ (rests : List ℤ) where
-    bounds_floor : AreBoundsFrom day counts prices pool rests (16 * group) → IsFloor (opening day counts prices pool) (closed_open day counts pool) (IsInGroup (length day.trips) group) (floor_of rests)
+    bounds_floor : AreBoundsFrom day counts prices pool rests first → IsFloor (opening day counts prices pool) (closed_open day counts pool) (IsInRange (length day.trips) first) (floor_of rests)
     bounds_floor bounds = record {
       closes = λ a v fits e.
           let (m, is, same) = map_some (λ (cost : ℕ). a.value +ℤ scaled counts cost) (last_step day pool a.driving a.trip) v e in
@@ -81,10 +82,10 @@ module _ (day : DayFacts) (counts : Bool) (prices : List Price) (pool : Pool) (g
           omega (arith, ints, low, value, same);
     }
 
-    pub labels_hide : AreBoundsFrom day counts prices pool rests (16 * group) → HidesNone (block_labels day counts prices pool group) is_as_good (closed_open day counts pool) (IsInGroup (length day.trips) group) (is_low (floor_of rests))
+    pub labels_hide : AreBoundsFrom day counts prices pool rests first → HidesNone (block_labels day counts prices pool first end) is_as_good (closed_open day counts pool) (IsInRange (length day.trips) first) (is_low (floor_of rests))
     labels_hide bounds =
-        of_group-hides (opening day counts prices pool) is_as_good (closed_open day counts pool) (IsInGroup (length day.trips) group) (is_low (floor_of rests)) group
-        (floor-hides (opening day counts prices pool) is_as_good (closed_open day counts pool) (IsInGroup (length day.trips) group) (floor_of rests) rises (bounds_floor bounds))
+        of_start-hides (opening day counts prices pool) is_as_good (closed_open day counts pool) (IsInRange (length day.trips) first) (is_low (floor_of rests)) (is_between first end)
+        (floor-hides (opening day counts prices pool) is_as_good (closed_open day counts pool) (IsInRange (length day.trips) first) (floor_of rests) rises (bounds_floor bounds))
       where
         rises : (a b : OpenBlock) → is_as_good a b ≡ true → floor_of rests a ≤ℤ floor_of rests b
         rises a b h =
@@ -99,7 +100,7 @@ module _ (day : DayFacts) (counts : Bool) (prices : List Price) (pool : Pool) (g
 
     -- a trip at which no block of a value of at least the least one stays within the limit
     pub none_reaches : (limit least : ℤ) (u : ℕ) → limit <ℤ (least +ℤ pos 0 -ℤ price_at prices u +ℤ number_at rests u) →
-        NoneReaches (block_labels day counts prices pool group) (IsInGroup (length day.trips) group) (λ a. a.value) (is_low (floor_of rests) limit) least u
+        NoneReaches (block_labels day counts prices pool first end) (IsInRange (length day.trips) first) (λ a. a.value) (is_low (floor_of rests) limit) least u
     none_reaches limit least u high a fits low =
         elim (extended_open day counts prices pool a u) as (λ o. extended_open day counts prices pool a u ≡ o → passed (is_low (floor_of rests) limit) o ≡ None) [
           | None ↦ λ is. refl
@@ -113,7 +114,7 @@ module _ (day : DayFacts) (counts : Bool) (prices : List Price) (pool : Pool) (g
 
     -- there is no link to the trip
     pub none_linked : (limit least : ℤ) (t u : ℕ) → added day pool t u ≡ None →
-        NoneFollows (block_labels day counts prices pool group) (IsInGroup (length day.trips) group) (λ a. a.trip) (λ a. a.value) (is_low (floor_of rests) limit) t least u
+        NoneFollows (block_labels day counts prices pool first end) (IsInRange (length day.trips) first) (λ a. a.trip) (λ a. a.value) (is_low (floor_of rests) limit) t least u
     none_linked limit least t u none a fits at low =
         elim (extended_open day counts prices pool a u) as (λ o. extended_open day counts prices pool a u ≡ o → passed (is_low (floor_of rests) limit) o ≡ None) [
           | None ↦ λ is. refl
@@ -125,7 +126,7 @@ module _ (day : DayFacts) (counts : Bool) (prices : List Price) (pool : Pool) (g
 
     -- the link to the trip costs so much that no block stays within the limit
     pub none_follows : (limit least : ℤ) (t u cost : ℕ) → added day pool t u ≡ Some cost → limit <ℤ (least +ℤ scaled counts cost -ℤ price_at prices u +ℤ number_at rests u) →
-        NoneFollows (block_labels day counts prices pool group) (IsInGroup (length day.trips) group) (λ a. a.trip) (λ a. a.value) (is_low (floor_of rests) limit) t least u
+        NoneFollows (block_labels day counts prices pool first end) (IsInRange (length day.trips) first) (λ a. a.trip) (λ a. a.value) (is_low (floor_of rests) limit) t least u
     none_follows limit least t u cost linked high a fits at low =
         elim (extended_open day counts prices pool a u) as (λ o. extended_open day counts prices pool a u ≡ o → passed (is_low (floor_of rests) limit) o ≡ None) [
           | None ↦ λ is. refl

@@ -1,19 +1,19 @@
-//! A guess at the least value of a group's blocks: always to the trip by which the block closes with least at least. It changes no answer,
+//! A guess at the least value of a range's blocks: always to the trip by which the block closes with least at least. It changes no answer,
 //! and saves time, since a search under a smaller limit keeps fewer labels.
 
 ghost use Rattle.std.specs.Prelude.{◌≡◌, ◌<◌, IfSome, length};
-ghost use Rattle.path_pricing.specs.Blocks.{IsInGroup};
+ghost use Rattle.path_pricing.specs.Blocks.{IsInRange};
 
 use crate::labels::BlockLabels;
 use depot_network::OpenBlock;
 use label_search::{Labels, rest};
 
-/// What no block of a group closes with less than, and a value with which one closes.
+/// What no block of a range closes with less than, and a value with which one closes.
 #[derive(Clone, Copy)]
 pub struct Guess {
-    /// No block of the group closes below it.
+    /// No block of the range closes below it.
     pub floor: i64,
-    /// Some block of the group closes with it, where it is not the greatest number.
+    /// Some block of the range closes with it, where it is not the greatest number.
     pub value: i64,
 }
 
@@ -24,9 +24,9 @@ fn floor(labels: &BlockLabels<'_>, block: &OpenBlock) -> i64 {
 
 /// Of two blocks the one that closes with less at least.
 fn lower(labels: &BlockLabels<'_>, a: Option<OpenBlock>, b: Option<OpenBlock>) -> Option<OpenBlock>
-    requires a { IfSome a (IsInGroup (length labels.now.net.now.day.trips) labels.now.group) }
-    requires b { IfSome b (IsInGroup (length labels.now.net.now.day.trips) labels.now.group) }
-    ensures { IfSome result (IsInGroup (length labels.now.net.now.day.trips) labels.now.group) }
+    requires a { IfSome a (IsInRange (length labels.now.net.now.day.trips) labels.now.first) }
+    requires b { IfSome b (IsInRange (length labels.now.net.now.day.trips) labels.now.first) }
+    ensures { IfSome result (IsInRange (length labels.now.net.now.day.trips) labels.now.first) }
 {
     match (a, b) {
         (None, b) => b,
@@ -44,7 +44,7 @@ fn lower(labels: &BlockLabels<'_>, a: Option<OpenBlock>, b: Option<OpenBlock>) -
 /// The block of a first trip.
 fn begun(labels: &BlockLabels<'_>, item: u32) -> Option<OpenBlock>
     requires { item < length labels.now.net.now.day.trips }
-    ensures { IfSome result (IsInGroup (length labels.now.net.now.day.trips) labels.now.group) }
+    ensures { IfSome result (IsInRange (length labels.now.net.now.day.trips) labels.now.first) }
 {
     labels.start(item, i64::MAX)
 }
@@ -52,29 +52,27 @@ fn begun(labels: &BlockLabels<'_>, item: u32) -> Option<OpenBlock>
 /// A block with a trip more.
 fn followed(labels: &BlockLabels<'_>, block: &OpenBlock, item: u32) -> Option<OpenBlock>
     requires item { item < length labels.now.net.now.day.trips }
-    requires fits { IsInGroup (length labels.now.net.now.day.trips) labels.now.group block.now }
-    ensures { IfSome result (IsInGroup (length labels.now.net.now.day.trips) labels.now.group) }
+    requires fits { IsInRange (length labels.now.net.now.day.trips) labels.now.first block.now }
+    ensures { IfSome result (IsInRange (length labels.now.net.now.day.trips) labels.now.first) }
 {
     labels.extend(block, item, i64::MAX)
 }
 
 /// The block of one trip that closes with least at least.
 fn first(labels: &BlockLabels<'_>) -> Option<OpenBlock>
-    ensures { IfSome result (IsInGroup (length labels.now.net.now.day.trips) labels.now.group) }
+    ensures { IfSome result (IsInRange (length labels.now.net.now.day.trips) labels.now.first) }
 {
     let mut best = None;
     for item in 0..labels.items() {
-        if item / 16 == labels.group {
-            best = lower(labels, best, begun(labels, item));
-        }
+        best = lower(labels, best, begun(labels, item));
     }
     best
 }
 
 /// The block with a trip more that closes with least at least.
 fn next(labels: &BlockLabels<'_>, block: &OpenBlock) -> Option<OpenBlock>
-    requires { IsInGroup (length labels.now.net.now.day.trips) labels.now.group block.now }
-    ensures { IfSome result (IsInGroup (length labels.now.net.now.day.trips) labels.now.group) }
+    requires { IsInRange (length labels.now.net.now.day.trips) labels.now.first block.now }
+    ensures { IfSome result (IsInRange (length labels.now.net.now.day.trips) labels.now.first) }
 {
     let mut best = None;
     for item in 0..labels.items() {
@@ -95,7 +93,7 @@ fn less(value: i64, other: Option<i64>) -> i64 {
 
 /// The value with which the best of some blocks closes, each a trip longer than the one before it, from one on.
 fn value_from(labels: &BlockLabels<'_>, first: OpenBlock) -> i64
-    requires { IsInGroup (length labels.now.net.now.day.trips) labels.now.group first }
+    requires { IsInRange (length labels.now.net.now.day.trips) labels.now.first first }
 {
     let mut best = i64::MAX;
     let mut at = first;
@@ -114,7 +112,7 @@ fn value_from(labels: &BlockLabels<'_>, first: OpenBlock) -> i64
     best
 }
 
-/// The guess, where some block of the group may be begun.
+/// The guess, where some block of the range may be begun.
 pub fn dive(labels: &BlockLabels<'_>) -> Option<Guess> {
     match first(labels) {
         None => None,

@@ -1,13 +1,13 @@
-//! The labels of the open blocks of a pool in a group.
+//! The labels of the open blocks of a pool whose first trips are a range.
 
-ghost use Rattle.std.specs.Prelude.{◌≡◌, ◌≤◌, ◌*◌, ◌+ℤ◌, ◌-ℤ◌, ◌≤ℤ◌, ◌<ℤ◌, neg_ℤ, pos, false, All, Some, cond, int_le, length, nat_eq, slice_get};
+ghost use Rattle.std.specs.Prelude.{◌≡◌, ◌≤◌, ◌+ℤ◌, ◌-ℤ◌, ◌≤ℤ◌, ◌<ℤ◌, neg_ℤ, pos, false, All, Some, cond, int_le, length, slice_get};
 ghost use Rattle.cover_core.specs.FirstLeast.{AllWithin};
 ghost use Rattle.cover_core.specs.Plans.{number_at};
 ghost use Rattle.plan_params.specs.Limits.{IsPool};
 ghost use Rattle.day_model.specs.Ranges.{IsDaily};
 ghost use Rattle.label_search.specs.Limits.{is_low, passed};
 ghost use Rattle.depot_network.specs.Open.{closed_open, extended_open, first_open, is_as_good};
-ghost use Rattle.path_pricing.specs.Blocks.{AreBoundsFrom, AllWithin-prop, IsInGroup, block_labels, floor_of};
+ghost use Rattle.path_pricing.specs.Blocks.{AreBoundsFrom, AllWithin-prop, IsInRange, block_labels, floor_of};
 ghost use Rattle.path_pricing.specs.Laws.{labels_hide, labels_kept, labels_safe, labels_stepwise, labels_valued};
 
 use depot_network::{OpenBlock, PoolNet, price};
@@ -15,22 +15,25 @@ use label_search::{Labels, rest};
 use plan_core::Price;
 use plan_params::Pool;
 
-/// The labels of the open blocks of a pool whose first trip is one of a group, at some prices.
+/// The labels of the open blocks of a pool whose first trip is one from a first one on and before an end, at some prices.
 #[derive(Drop)]
 pub struct BlockLabels<'a> {
     pub net: &'a PoolNet<'a>,
     pub class: u32,
     pub pool: Pool,
     pub prices: &'a [Price],
-    /// For each trip from the group's first one on a number that no continuation behind it adds less than.
+    /// For each trip from the first one on a number that no continuation behind it adds less than.
     pub rests: &'a [i64],
-    pub group: u32,
+    /// The first trip with which blocks may begin.
+    pub first: u32,
+    /// Blocks begin with an earlier trip than this one.
+    pub end: u32,
     ghost there: { slice_get net.now.day.params.pools class ≡ Some pool },
     ghost ranges: { IsPool pool },
     ghost few: { length net.now.day.trips ≤ 3000 },
     ghost daily: { All IsDaily net.now.day.trips },
     ghost moderate: { AllWithin 10000000000000 prices.now } by { AllWithin-prop 10000000000000 prices.now },
-    ghost bounds: { AreBoundsFrom net.now.day net.now.counts prices.now pool rests.now (16 * group) },
+    ghost bounds: { AreBoundsFrom net.now.day net.now.counts prices.now pool rests.now first },
 }
 
 /// The sum of two numbers.
@@ -91,7 +94,7 @@ impl Labels for BlockLabels<'_> {
 
     ghost count = { λ s. length s.net.now.day.trips };
 
-    ghost labelling = { λ s. block_labels s.net.now.day s.net.now.counts s.prices.now s.pool s.group };
+    ghost labelling = { λ s. block_labels s.net.now.day s.net.now.counts s.prices.now s.pool s.first s.end };
 
     ghost good = { λ s. is_as_good };
 
@@ -101,26 +104,26 @@ impl Labels for BlockLabels<'_> {
 
     ghost last = { λ s a. a.trip };
 
-    ghost sound = { λ s. IsInGroup (length s.net.now.day.trips) s.group };
+    ghost sound = { λ s. IsInRange (length s.net.now.day.trips) s.first };
 
     ghost may_close = { λ s. is_low (floor_of s.rests.now) };
 
-    ghost kept = { λ s. labels_kept s.net.now.day s.net.now.counts s.prices.now s.pool s.group };
+    ghost kept = { λ s. labels_kept s.net.now.day s.net.now.counts s.prices.now s.pool s.first s.end };
 
-    ghost valued = { λ s. labels_valued s.net.now.day s.net.now.counts s.prices.now s.pool s.group };
+    ghost valued = { λ s. labels_valued s.net.now.day s.net.now.counts s.prices.now s.pool s.first s.end };
 
-    ghost stepwise = { λ s. labels_stepwise s.net.now.day s.net.now.counts s.prices.now s.pool s.group };
+    ghost stepwise = { λ s. labels_stepwise s.net.now.day s.net.now.counts s.prices.now s.pool s.first s.end };
 
-    ghost safe = { λ s. labels_safe s.net.now.day s.net.now.counts s.prices.now s.pool s.group s.daily s.ranges s.moderate };
+    ghost safe = { λ s. labels_safe s.net.now.day s.net.now.counts s.prices.now s.pool s.first s.end s.daily s.ranges s.moderate };
 
-    ghost hides_none = { λ s. labels_hide s.net.now.day s.net.now.counts s.prices.now s.pool s.group s.rests.now s.bounds };
+    ghost hides_none = { λ s. labels_hide s.net.now.day s.net.now.counts s.prices.now s.pool s.first s.end s.rests.now s.bounds };
 
     fn items(&self) -> u32 {
         self.net.day().trips().len() as u32
     }
 
     fn start(&self, item: u32, limit: i64) -> Option<OpenBlock> {
-        if item / 16 == self.group {
+        if self.first <= item && item < self.end {
             self.within(
                 self.net
                     .first_open(self.class, &self.pool, self.prices, item),

@@ -10,4 +10,6 @@ mod pricer;
 #[cfg(test)]
 mod tests;
 
+pub use behind::rests_from;
+pub use labels::BlockLabels;
 pub use pricer::PathPricer;

@@ -81,6 +81,7 @@ fn best_of_pool(
     requires there { slice_get net.now.day.params.pools class ≡ Some pool }
     requires ranges { IsPool pool }
     requires moderate { AllWithin 10000000000000 prices.now }
+    requires group { 16 * group < length net.now.day.trips }
     requires bounds { AreBoundsFrom net.now.day net.now.counts prices.now pool rests.now (16 * group) }
     ensures best { IfOk result (λ answer. answer ≡ within limit prices.now (best_of (blocks net.now) prices.now class group)) }
     ensures bound { IfOk result (λ answer. IfSome answer (λ column. column.worth ≤ 4000000000)) }
@@ -93,7 +94,8 @@ fn best_of_pool(
         pool,
         prices,
         rests,
-        group,
+        first: 16 * group,
+        end: 16 * group + 16,
     };
     let likely = likely(dive(&labels), limit);
     best_column(alloc, net, &labels, class, &likely, limit)

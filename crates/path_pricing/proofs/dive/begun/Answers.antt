@@ -1,5 +1,5 @@
 use Rattle.std.proofs.Common.{length}
-use Rattle.path_pricing.specs.Blocks.{IsInGroup, block_labels}
+use Rattle.path_pricing.specs.Blocks.{IsInRange, block_labels}
 use Rattle.path_pricing.specs.Laws.{labels_safe}
 use Rattle.path_pricing.proofs.Places.{passed_all}
 use Rattle.path_pricing.proofs.dive.begun.Goals as goal
@@ -8,5 +8,5 @@ pub returns : goal.returns
 returns c =
     let s = c.args.labels.now in
     let day = s.net.now.day in
-    let safe = labels_safe day s.net.now.counts s.prices.now s.pool s.group s.daily s.ranges s.moderate in
-    passed_all (IsInGroup (length day.trips) s.group) _ ((block_labels day s.net.now.counts s.prices.now s.pool s.group).start c.args.item) c.start.result c.start.ensures (λ a e. safe.starts c.args.item a e)
+    let safe = labels_safe day s.net.now.counts s.prices.now s.pool s.first s.end s.daily s.ranges s.moderate in
+    passed_all (IsInRange (length day.trips) s.first) _ ((block_labels day s.net.now.counts s.prices.now s.pool s.first s.end).start c.args.item) c.start.result c.start.ensures (λ a e. safe.starts c.args.item a e)

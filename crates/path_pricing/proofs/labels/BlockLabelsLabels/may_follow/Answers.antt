@@ -13,4 +13,4 @@ returns-in-Some c = λ no.
     let price = c.price.ensures.value in
     let rest = c.rest.ensures in
     let (cost, linked, value) = map_some (scaled s.net.now.counts) (added day s.pool c.args.before c.args.item) c.in-Some.cost (sym c.link_value.ensures.value ∙ c.in-Some.is) in
-    none_follows day s.net.now.counts s.prices.now s.pool s.group s.rests.now c.args.limit c.args.least c.args.before c.args.item cost linked (omega (arith, ints, price, rest, value, c.is_within.ensures.high no))
+    none_follows day s.net.now.counts s.prices.now s.pool s.first s.end s.rests.now c.args.limit c.args.least c.args.before c.args.item cost linked (omega (arith, ints, price, rest, value, c.is_within.ensures.high no))

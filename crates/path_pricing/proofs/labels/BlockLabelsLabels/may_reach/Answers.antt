@@ -8,4 +8,4 @@ returns c = λ no.
     let s = c.args.self.now in
     let price = c.price.ensures.value in
     let rest = c.rest.ensures in
-    none_reaches s.net.now.day s.net.now.counts s.prices.now s.pool s.group s.rests.now c.args.limit c.args.least c.args.item (omega (arith, ints, price, rest, c.is_within.ensures.high no))
+    none_reaches s.net.now.day s.net.now.counts s.prices.now s.pool s.first s.end s.rests.now c.args.limit c.args.least c.args.item (omega (arith, ints, price, rest, c.is_within.ensures.high no))
