@@ -1,6 +1,7 @@
-pub mod Kept
+mod Pricings
 pub mod Apart
-pub mod Stands
-pub mod Walking
+pub mod Kept
 pub mod Lows
 pub mod Same
+pub mod Stands
+pub mod Walking

@@ -12,7 +12,7 @@ use day_model::Day;
 use plan_core::Seq;
 
 /// Whether a block of a pool with these trips first leaves its depot at a moment or later.
-fn leaves_later(day: &Day, moment: u32, class: u32, trips: &[u32]) -> bool
+pub(crate) fn leaves_later(day: &Day, moment: u32, class: u32, trips: &[u32]) -> bool
     requires class { class < length day.now.params.pools }
     requires trips { AllBelow (length day.now.trips) trips.now }
     ensures { result ≡ may_begin day.now moment class trips.now }

@@ -12,8 +12,9 @@ ghost use Rattle.block_rest.specs.Rest.{begun_of, may_begin, rests};
 use crate::begins::begins;
 use crate::bodies::{begun, body};
 use crate::head::Head;
+use crate::pricing::best_list;
 use crate::walk::written_worth;
-use cover_core::{Columns, Plan, Worth};
+use cover_core::{Column, Columns, Plan, Pricer, Prices, Worth};
 use cover_rest::{Begun, bodies, bodies_stand_for_all, is_rest_list, written_out};
 use day_model::Day;
 use depot_network::PoolNet;
@@ -23,7 +24,7 @@ use std::marker::Model;
 
 /// What remains to be planned of the blocks of a day from a moment on. Its items are first the heads, in their order, and then the trips
 /// in no head, by number; its classes are the pools. A list of items is written out by putting a head's trips in the head's place. The
-/// plans of the rest, written out, are the plans of the day's blocks that keep what has begun. Only `new` and `expand` take memory.
+/// plans of the rest, written out, are the plans of the day's blocks that keep what has begun. Only `new`, `expand` and `best` take memory.
 #[derive(Drop)]
 pub struct BlockRest<'d> {
     net: PoolNet<'d>,
@@ -179,6 +180,29 @@ impl Columns for BlockRest<'_> {
             self.moment,
             class,
             list,
+        )
+    }
+}
+
+impl Pricer for BlockRest<'_> {
+    fn best(
+        &self,
+        alloc: Global,
+        class: u32,
+        prices: &Prices,
+        group: u32,
+        limit: i64,
+    ) -> Result<Option<Column>, Memory> {
+        best_list(
+            alloc,
+            self,
+            &self.net,
+            self.begun.as_slice(),
+            self.bodies.as_slice(),
+            class,
+            prices.items.as_slice(),
+            group,
+            limit,
         )
     }
 }

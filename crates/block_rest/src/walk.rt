@@ -125,7 +125,7 @@ fn opened_list(
 }
 
 /// A pool of a day.
-fn pool_of(day: &Day, class: u32) -> &Pool
+pub(crate) fn pool_of(day: &Day, class: u32) -> &Pool
     requires { class < length day.now.params.pools }
     ensures pool { slice_get day.now.params.pools class ≡ Some result.now }
     ensures ranges { IsPool result.now }

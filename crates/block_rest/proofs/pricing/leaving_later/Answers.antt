@@ -1,0 +1,10 @@
+use Rattle.std.proofs.Common.{ℕ, List, length, sym, subst}
+use Rattle.cover_core.specs.Cover.{AllBelow}
+use Rattle.block_rest.proofs.Stands.{body-below}
+use Rattle.block_rest.proofs.pricing.leaving_later.Goals as goal
+
+pub leaves_later-requires-clause-trips : goal.leaves_later-requires-clause-trips
+leaves_later-requires-clause-trips c =
+    let n : ℕ = length c.args.day.now.trips in
+    let P : List ℕ → Type 0 = AllBelow n in
+    subst P (sym c.body.ensures) (body-below n c.args.bodies.now c.loop-item.item c.requires.bodies.below)
