@@ -1,6 +1,8 @@
 //! Heads and rests of a small day: two trips from 1 to 2 and two back, and two pools at 9.
 
-ghost use Rattle.std.specs.Prelude.{◌≡◌, ◌≤◌, ◌∷◌, [], Bool, IfOk, length};
+ghost use Rattle.std.specs.Prelude.{◌≡◌, ◌≤◌, ◌<◌, ◌∷◌, [], Bool, IfOk, length};
+ghost use Rattle.cover_core.specs.FirstLeast.{AllWithin};
+ghost use Rattle.block_rest.specs.Rest.{rests};
 ghost use Rattle.day_model.specs.Facts.{DayFacts};
 ghost use Rattle.depot_network.specs.Network.{blocks_of};
 ghost use Rattle.cover_rest.specs.Keeping.{AreHeads};
@@ -9,12 +11,12 @@ ghost use Rattle.block_rest.specs.Heads.{AreOfDay};
 ghost use Rattle.block_rest.specs.Rest.{begun_of};
 
 use crate::{BlockRest, Head, heads, heads_are_heads, kept_is_same_heads};
-use cover_core::{Column, Columns, Items, Plan, Worth};
+use cover_core::{Column, Columns, Items, Plan, Pricer, Prices, Worth};
 use cover_rest::rest_is_kept;
 use day_calendar::DayKind;
 use day_model::{Day, build_day};
 use depot_network::PoolNet;
-use plan_core::{Memory, Seq};
+use plan_core::{Memory, Price, Seq};
 use std::alloc::Global;
 use std::test::Fail;
 use vdv451_text::read_file;
@@ -399,5 +401,172 @@ fn items_stand_for_trips(rt: HostRuntime) -> Result<(), Fail> {
     heads_are_heads();
     kept_is_same_heads();
     rest_is_kept::<PoolNet<'static>>();
+    Ok(())
+}
+
+/// All lists of four items, in their order: by their last items backwards.
+const LISTS: [&[u32]; 15] = [
+    &[0],
+    &[1],
+    &[0, 1],
+    &[2],
+    &[0, 2],
+    &[1, 2],
+    &[0, 1, 2],
+    &[3],
+    &[0, 3],
+    &[1, 3],
+    &[0, 1, 3],
+    &[2, 3],
+    &[0, 2, 3],
+    &[1, 2, 3],
+    &[0, 1, 2, 3],
+];
+
+/// A rest of four items in a class, with the prices of these.
+#[derive(Clone, Copy)]
+struct Case {
+    finished: bool,
+    moment: u32,
+    worth: Worth,
+    class: u32,
+    prices: [i32; 4],
+}
+
+/// A list with its value.
+#[derive(Clone, Copy)]
+struct Found {
+    value: i64,
+    list: &'static [u32],
+}
+
+fn price_at(prices: &[i32; 4], item: u32) -> i64 {
+    match prices.get(item as usize) {
+        Some(price) => i64::from(*price),
+        None => 0,
+    }
+}
+
+fn value_of(rest: &BlockRest<'_>, case: &Case, list: &[u32]) -> Option<i64> {
+    let worth = worth_of(rest, case.class, list)?;
+    let mut value = (worth as i64).saturating_mul(1000);
+    for item in list {
+        value = value.saturating_sub(price_at(&case.prices, *item));
+    }
+    Some(value)
+}
+
+/// The first least of all lists, by trying each.
+fn searched(rest: &BlockRest<'_>, case: &Case) -> Option<Found> {
+    let mut best: Option<Found> = None;
+    for list in LISTS {
+        match (best, value_of(rest, case, list)) {
+            (_, None) => {}
+            (Some(found), Some(value)) if found.value <= value => {}
+            (_, Some(value)) => best = Some(Found { value, list }),
+        }
+    }
+    best
+}
+
+fn four_prices(alloc: Global, prices: &[i32; 4]) -> Result<Prices, Memory>
+    ensures four { IfOk result (λ prices. length prices.items ≡ 4) }
+    ensures moderate { IfOk result (λ prices. AllWithin 10000000000000 prices.items) }
+{
+    let [first, second, third, fourth] = *prices;
+    let prices = vec![in alloc;
+        Price(i64::from(first)),
+        Price(i64::from(second)),
+        Price(i64::from(third)),
+        Price(i64::from(fourth)),
+    ]?;
+    Ok(Prices {
+        items: Seq::from_vec(prices),
+    })
+}
+
+/// Whether the best list of a class under a limit is this one, or there is none.
+fn is_best(
+    alloc: Global,
+    rest: &BlockRest<'_>,
+    class: u32,
+    prices: &Prices,
+    limit: i64,
+    list: Option<&[u32]>,
+) -> Result<bool, Memory>
+    requires class { class < length (rests rest.now).caps }
+    requires prices { length prices.now.items ≡ (rests rest.now).items }
+    requires some { (rests rest.now).items ≡ 4 }
+    requires moderate { AllWithin 10000000000000 prices.now.items }
+{
+    let best = rest.best(alloc, class, prices, 0, limit)?;
+    Ok(match (best, list) {
+        (None, None) => true,
+        (Some(column), Some(list)) => column.items.as_slice() == list,
+        _ => false,
+    })
+}
+
+/// Whether the pricer finds what a search over all lists does, under a limit above its value and at it, and nothing under one below it.
+fn agrees(alloc: Global, rest: &BlockRest<'_>, case: &Case) -> Result<bool, Memory> {
+    if rest.items() != 4 || case.class >= rest.classes() {
+        return Ok(false);
+    }
+    let prices = four_prices(alloc, &case.prices)?;
+    match searched(rest, case) {
+        None => is_best(alloc, rest, case.class, &prices, 0, None),
+        Some(Found { value, list }) => {
+            let more = value.saturating_add(1);
+            let less = value.saturating_sub(1);
+            Ok(
+                is_best(alloc, rest, case.class, &prices, more, Some(list))?
+                    && is_best(alloc, rest, case.class, &prices, value, Some(list))?
+                    && is_best(alloc, rest, case.class, &prices, less, None)?,
+            )
+        }
+    }
+}
+
+fn is_priced(alloc: Global, day: &Day, case: &Case) -> Result<bool, Memory> {
+    if day.trips().len() < 2 {
+        return Ok(false);
+    }
+    let heads = two_heads(alloc, case.finished)?;
+    let rest = BlockRest::new(alloc, day, heads, case.moment, case.worth)?;
+    agrees(alloc, &rest, case)
+}
+
+const fn make_case(
+    finished: bool,
+    moment: u32,
+    worth: Worth,
+    class: u32,
+    prices: [i32; 4],
+) -> Case {
+    Case {
+        finished,
+        moment,
+        worth,
+        class,
+        prices,
+    }
+}
+
+#[test]
+fn the_best_is_that_of_a_search_over_all_lists(rt: HostRuntime) -> Result<(), Fail> {
+    let day = day_of(rt.alloc(), NETWORK)?;
+    let cases = [
+        make_case(false, 30_000, Worth::Cost, 0, [2_500_000; 4]),
+        make_case(false, 30_000, Worth::Cost, 1, [2_500_000; 4]),
+        make_case(true, 30_000, Worth::Cost, 1, [2_500_000; 4]),
+        make_case(false, 32_101, Worth::Cost, 1, [0, -100_000, 2_000_000, 0]),
+        make_case(false, 33_000, Worth::Cost, 0, [0, 0, 9_000_000, 9_000_000]),
+        make_case(true, 33_000, Worth::Cost, 1, [0, 0, 9_000_000, 9_000_000]),
+        make_case(false, 30_000, Worth::Count, 0, [0, 700, -50, 900]),
+        make_case(true, 30_000, Worth::Count, 1, [500; 4]),
+    ];
+    for (place, case) in cases.iter().enumerate() {
+        assert!(rt; is_priced(rt.alloc(), &day, case)?, "case {place}");
+    }
     Ok(())
 }
