@@ -1,0 +1,45 @@
+use Rattle.std.proofs.Common.{◌≡◌, ◌<◌, ◌≤◌, ◌-◌, take, [], ℕ, List, None, Some, length, drop, sym, subst, ap, ◌∙◌, rules, slice_index_or}
+use Rattle.cover_core.specs.Cover.{AllBelow}
+use Rattle.cover_core.specs.Labels.{label_after, label_of}
+use Rattle.cover_core.proofs.Values.{AllBelow-get}
+use Rattle.duty_network.specs.Marks.{marking}
+use Rattle.cover_rest.specs.Rest.{written}
+use Rattle.duty_rest.proofs.Stands.{body-below}
+use Rattle.duty_rest.proofs.Walking.{after-none, first-walked, take-rest}
+use Rattle.duty_rest.proofs.walk.opened_list.Goals as goal
+
+pub body-requires : goal.body-requires
+body-requires c = AllBelow-get (length c.args.bodies.now) c.args.list.now 0 c.requires.list (search rules)
+
+pub opened-requires-clause-list : goal.opened-requires-clause-list
+opened-requires-clause-list c =
+    let n : ℕ = length c.args.net.now.pieces in
+    let P : List ℕ → Type 0 = AllBelow n in
+    subst P (sym c.body.ensures) (body-below n c.args.bodies.now (slice_index_or c.args.list.now 0 0) c.requires.bodies.below)
+
+pub returns-in_err-first-in-len1-up-clause-value : goal.returns-in_err-first-in-len1-up-clause-value
+returns-in_err-first-in-len1-up-clause-value c =
+    let w = marking c.args.net.now [] c.args.class c.args.group.now in
+    let bs : List (List ℕ) = c.args.bodies.now in
+    let list : List ℕ = c.args.list.now in
+    let x : ℕ = slice_index_or list 0 0 in
+    let some : 1 ≤ length list = search rules in
+    let there : x < length bs = AllBelow-get (length bs) list 0 c.requires.list (search rules) in
+    let none : c.from_residual.result ≡ None = search rules in
+    none ∙ sym (after-none w (written bs (drop 1 list)))
+    ∙ sym (first-walked w None bs list some (c.requires.bodies.some x there)
+    (c.in_err-first-in-len1-up.ensures.value ∙ ap (λ (l : List ℕ). label_of w l) c.body.ensures))
+
+pub returns-in_ok-first-in-len1-up-clause-value : goal.returns-in_ok-first-in-len1-up-clause-value
+returns-in_ok-first-in-len1-up-clause-value c =
+    let w = marking c.args.net.now [] c.args.class c.args.group.now in
+    let bs : List (List ℕ) = c.args.bodies.now in
+    let list : List ℕ = c.args.list.now in
+    let x : ℕ = slice_index_or list 0 0 in
+    let some : 1 ≤ length list = search rules in
+    let there : x < length bs = AllBelow-get (length bs) list 0 c.requires.list (search rules) in
+    let rest : take (length list - 1) (drop 1 list) ≡ drop 1 list = take-rest list in
+    c.walked_on.ensures.value c.args.class
+    ∙ ap (λ (l : List ℕ). label_after w (Some c.in_ok-first-in-len1-up.first) (written bs l)) rest
+    ∙ sym (first-walked w (Some c.in_ok-first-in-len1-up.first) bs list some (c.requires.bodies.some x there)
+    (c.in_ok-first-in-len1-up.ensures.value ∙ ap (λ (l : List ℕ). label_of w l) c.body.ensures))

@@ -1,0 +1,5 @@
+pub mod Heads
+pub mod Rest
+pub mod Laws
+pub mod Listed
+pub mod Examples
