@@ -6,6 +6,7 @@ use Rattle.cover_core.specs.declared.Column.{Column}
 use Rattle.cover_core.specs.Cover.{Problem}
 use Rattle.cover_core.specs.Plans.{AreColumns, times, all_items, all_classes}
 use Rattle.plan_check.specs.Counts.{IsFirstOf}
+use Rattle.plan_check.specs.Firsts.{IsUnlawfulFound}
 use Rattle.plan_check.specs.Verdicts.{HaveSameLists, HasWorth, HaveWorths, StandOnce, IsVerdict}
 use Rattle.plan_check.specs.Judged.{first_of, worth_in, first_worthless, with_worth, is_off, is_over, by_classes, by_worths, by_items, verdict_of}
 use Rattle.plan_check.proofs.Lists.{same-items, same-classes}
@@ -210,14 +211,19 @@ classes-verdict p lists None stand found e =
       },
     )
 
-worths-verdict : (p : Problem) (lists : List Column) (o : Option ℕ) → StandOnce p lists → first_worthless p 0 lists ≡ o → IsVerdict p lists (by_worths p lists o)
-worths-verdict p lists (Some spot) stand e =
+-- The place that is found by going through the lists is that of the first list that is no column; where none is found, each is one.
+pub unlawful-found : (p : Problem) (lists : List Column) (o : Option ℕ) → first_worthless p 0 lists ≡ o → IsUnlawfulFound p lists o
+unlawful-found p lists (Some spot) e =
     let x = worthless p 0 spot lists e in
     let shifted = x.spot_is in
     let same : x.gap ≡ spot = omega arith in
     let P : ℕ → Type 0 = λ k. slice_get lists k ≡ Some x.list in
     let Q : ℕ → Type 0 = λ k. HaveWorths p lists k in
-    (stand, record { list = x.list; at = subst P same x.at; none = x.none; first = subst Q same x.before })
+    record { list = x.list; at = subst P same x.at; none = x.none; first = subst Q same x.before }
+unlawful-found p lists None e = λ spot list below at. (worthy p 0 lists e).worths spot list at
+
+worths-verdict : (p : Problem) (lists : List Column) (o : Option ℕ) → StandOnce p lists → first_worthless p 0 lists ≡ o → IsVerdict p lists (by_worths p lists o)
+worths-verdict p lists (Some spot) stand e = (stand, unlawful-found p lists (Some spot) e)
 worths-verdict p lists None stand e = classes-verdict p lists (first_of (length p.caps) 0 (is_over p lists)) stand (worthy p 0 lists e) refl
 
 items-verdict : (p : Problem) (lists : List Column) (o : Option ℕ) → first_of p.items 0 (is_off lists) ≡ o → IsVerdict p lists (by_items p lists o)

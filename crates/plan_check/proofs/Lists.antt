@@ -32,7 +32,8 @@ column-worth p a b class items column =
 some-same : {A : Type 0} (x y : A) → Some x ≡ Some y → x ≡ y
 some-same {A = A} x y e = let f : Option A → A = λ o. unwrap_or o x in ap f e
 
-worth-at : (p : Problem) (as' bs : List Column) (place : ℕ) (list : Column) → HaveSameLists as' bs → AreColumns p bs → slice_get as' place ≡ Some list → HasWorth p list
+-- so a list at a place has a worth where the lists are the same as columns
+pub worth-at : (p : Problem) (as' bs : List Column) (place : ℕ) (list : Column) → HaveSameLists as' bs → AreColumns p bs → slice_get as' place ≡ Some list → HasWorth p list
 worth-at p [] [] place list h columns at = absurd (cc)
 worth-at p [] (b ∷ bs) place list h columns at = absurd h
 worth-at p (a ∷ as') [] place list h columns at = absurd h

@@ -3,4 +3,5 @@ pub mod Shown
 pub mod Judged
 pub mod Counts
 pub mod Found
+pub mod Firsts
 pub mod Example

@@ -12,9 +12,13 @@ HaveSameLists [] [] = Unit {0}
 HaveSameLists (a ∷ as') (b ∷ bs) = (a.class ≡ b.class) × (a.items ≡ b.items) × HaveSameLists as' bs
 HaveSameLists _ _ = ⊥
 
--- each item stands in exactly one list, once
+-- each of so many items stands in exactly one list, once
+abbrev pub EachOnce : ℕ → List Column → Type 0
+EachOnce items lists = (item : ℕ) → item < items → times item (all_items lists) ≡ 1
+
+-- each item of a problem does
 abbrev pub StandOnce : Problem → List Column → Type 0
-StandOnce p lists = (item : ℕ) → item < p.items → times item (all_items lists) ≡ 1
+StandOnce p lists = EachOnce p.items lists
 
 -- a list is a column of its class
 abbrev pub HasWorth : Problem → Column → Type 0
@@ -24,9 +28,9 @@ HasWorth p list = (list.class < length p.caps) × (worth : ℕ) × (p.worth list
 abbrev pub HaveWorths : Problem → List Column → ℕ → Type 0
 HaveWorths p lists bound = (place : ℕ) (list : Column) → place < bound → slice_get lists place ≡ Some list → HasWorth p list
 
--- the first item by number that does not stand in exactly one list, once
-pub record IsFirstTimes (p : Problem) (lists : List Column) (item count : ℕ) : Type 0 where
-  pub there : item < p.items
+-- the first of so many items by number that does not stand in exactly one list, once
+pub record IsFirstTimes (items : ℕ) (lists : List Column) (item count : ℕ) : Type 0 where
+  pub there : item < items
   pub count_is : times item (all_items lists) ≡ count
   pub other : count ≢ 1
   pub first : (earlier : ℕ) → earlier < item → times earlier (all_items lists) ≡ 1
@@ -49,7 +53,7 @@ pub record IsFirstOver (p : Problem) (lists : List Column) (class used : ℕ) : 
 -- and a class has too many.
 abbrev pub IsVerdict : Problem → List Column → PlanVerdict → Type 0
 IsVerdict p lists (Lawful plan) = HaveSameLists lists plan.columns × IsPlan p plan.columns
-IsVerdict p lists (Times item count) = IsFirstTimes p lists item count
+IsVerdict p lists (Times item count) = IsFirstTimes p.items lists item count
 IsVerdict p lists (Unlawful place) = StandOnce p lists × IsFirstUnlawful p lists place
 IsVerdict p lists (Over class used) = StandOnce p lists × HaveWorths p lists (length lists) × IsFirstOver p lists class used
 

@@ -33,7 +33,7 @@ fn are_there(count: u32, list: &[u32]) -> bool
 }
 
 /// The worth of a list as a column of its class: none where the class or an item is not there.
-fn worth_of<C: Columns>(columns: &C, list: &Column) -> Option<u64>
+pub(crate) fn worth_of<C: Columns>(columns: &C, list: &Column) -> Option<u64>
     ensures { result ≡ worth_in (C.problem columns.now) list.now }
 {
     if list.class >= columns.classes() {

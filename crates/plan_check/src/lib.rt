@@ -4,11 +4,13 @@
 
 mod check;
 mod counts;
+mod firsts;
 mod laws;
 #[cfg(test)]
 mod tests;
 mod verdict;
 
 pub use check::check_plan;
+pub use firsts::{ItemTimes, first_times, first_unlawful};
 pub use laws::{lists_are_judged, plan_is_shown, plans_are_found};
 pub use verdict::PlanVerdict;

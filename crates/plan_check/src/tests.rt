@@ -4,7 +4,10 @@ ghost use Rattle.std.specs.Prelude.{◌≡◌, ◌<◌, ◌≤◌, ◌∷◌, []
 ghost use Rattle.cover_core.specs.Plans.{all_items};
 ghost use Rattle.plan_check.specs.Example.{example, example-listed};
 
-use crate::{PlanVerdict, check_plan, lists_are_judged, plan_is_shown, plans_are_found};
+use crate::{
+    ItemTimes, PlanVerdict, check_plan, first_times, first_unlawful, lists_are_judged,
+    plan_is_shown, plans_are_found,
+};
 use cover_core::{Column, Columns, Items};
 use plan_core::{Memory, Seq};
 use std::alloc::Global;
@@ -164,5 +167,53 @@ fn verdicts_of_lists(rt: HostRuntime) -> Result<(), Fail> {
             [3001, 2].as_slice()
         )?
     );
+    Ok(())
+}
+
+/// The first of so many items that does not stand in exactly one of two lists, once.
+fn item_of(
+    alloc: Global,
+    items: u32,
+    first: &[u32],
+    second: &[u32],
+) -> Result<Option<ItemTimes>, Memory>
+    requires first { length first.now ≤ 3 }
+    requires second { length second.now ≤ 3 }
+{
+    let one = list(alloc, 9, first)?;
+    let two = list(alloc, 9, second)?;
+    let lists = [one, two];
+    first_times(alloc, items, &lists)
+}
+
+/// The place of the first of two lists that is no column of its class.
+fn place_of(
+    alloc: Global,
+    first: (u32, &[u32]),
+    second: (u32, &[u32]),
+) -> Result<Option<u32>, Memory> {
+    let one = list(alloc, first.0, first.1)?;
+    let two = list(alloc, second.0, second.1)?;
+    let lists = [one, two];
+    Ok(first_unlawful(&Example, &lists))
+}
+
+#[test]
+fn first_items_and_lists(rt: HostRuntime) -> Result<(), Fail> {
+    let alloc = rt.alloc();
+    // each of three stands once, and what is no item is passed over
+    assert!(rt; item_of(alloc, 3, [0].as_slice(), [1, 2, 7].as_slice())?.is_none());
+    assert!(rt;
+        item_of(alloc, 3, [1, 1].as_slice(), [0, 2].as_slice())?
+            == Some(ItemTimes { item: 1, count: 2 })
+    );
+    assert!(rt;
+        item_of(alloc, 3, [1].as_slice(), [2].as_slice())? == Some(ItemTimes { item: 0, count: 0 })
+    );
+    // two columns of a class of one place, without item 0 and with item 1 twice
+    assert!(rt; place_of(alloc, (1, [1].as_slice()), (1, [1, 2].as_slice()))?.is_none());
+    // a list without a worth: by its class, by its items
+    assert!(rt; place_of(alloc, (2, [0].as_slice()), (0, [2].as_slice()))? == Some(0));
+    assert!(rt; place_of(alloc, (0, [0].as_slice()), (0, [2].as_slice()))? == Some(1));
     Ok(())
 }
