@@ -8,6 +8,8 @@ pub mod FourBounds
 pub mod Highs
 pub mod LawfulLists
 pub mod Made
+pub mod OldLaws
+pub mod OldPlans
 pub mod PartGaps
 pub mod Placed
 pub mod SameWorths

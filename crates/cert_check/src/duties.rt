@@ -111,7 +111,7 @@ fn duty_list(
 }
 
 /// The duties that the tables say, as lists of pieces.
-fn duty_lists(
+pub(crate) fn duty_lists(
     alloc: Global,
     groups: &[Group],
     pieces: &[Piece],

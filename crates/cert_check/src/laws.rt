@@ -3,6 +3,7 @@
 
 ghost use Rattle.cert_check.specs.Certified.{AcceptedHasNoReason, YesIsCertified};
 ghost use Rattle.cert_check.specs.Judging.{Case};
+ghost use Rattle.cert_check.specs.Old.{AnswersSayOld};
 
 use block_cover::block_cover_is_paid;
 use depot_network::{PoolNet, counted_blocks};
@@ -27,4 +28,11 @@ pub fn yes_is_certified()
 /// The reasons are what keeps a plan and its certificate from a yes, and nothing else: where both are accepted none of them holds.
 pub fn accepted_has_no_reason()
     ensures { (c : Case) → AcceptedHasNoReason c }
+{}
+
+/// What is answered of a plan and its certificate says what is answered of the plan as an earlier one: the same where its tables are no plan,
+/// a trip is not in exactly one block, a block is none of its pool or a piece is not in exactly one duty; and where the answer is a yes or a
+/// later reason, that it is a plan of the day. Only of a plan with too many blocks of a pool nothing is said.
+pub fn answers_say_old()
+    ensures { (c : Case) → AnswersSayOld c }
 {}

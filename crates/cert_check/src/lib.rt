@@ -11,6 +11,7 @@ mod case;
 mod duties;
 mod gaps;
 mod laws;
+mod old;
 mod parts;
 mod printing;
 mod ranges;
@@ -19,6 +20,7 @@ mod stop;
 mod whole;
 
 pub use case::Case;
-pub use laws::{accepted_has_no_reason, yes_is_certified};
+pub use laws::{accepted_has_no_reason, answers_say_old, yes_is_certified};
+pub use old::{OldPlan, check_old};
 pub use reason::{Answered, Reason};
 pub use whole::check;

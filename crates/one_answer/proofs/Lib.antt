@@ -3,3 +3,4 @@ pub mod Verdicts
 pub mod Parts
 pub mod Steps
 pub mod Once
+pub mod OldOnce

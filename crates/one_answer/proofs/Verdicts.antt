@@ -6,19 +6,19 @@ use Rattle.cover_core.specs.Cover.{Problem}
 use Rattle.cover_core.specs.Plans.{times, all_classes, all_items}
 use Rattle.plan_check.specs.declared.verdict.PlanVerdict.{PlanVerdict}
 use Rattle.plan_check.specs.declared.verdict.PlanVerdict.TheVariants.{Lawful, Times, Unlawful, Over}
-use Rattle.plan_check.specs.Verdicts.{HasWorth, HaveWorths, IsFirstOver, IsFirstTimes, IsFirstUnlawful, IsVerdict, StandOnce}
+use Rattle.plan_check.specs.Verdicts.{EachOnce, HasWorth, HaveWorths, IsFirstOver, IsFirstTimes, IsFirstUnlawful, IsVerdict}
 use Rattle.plan_check.proofs.Lists.{plans-found}
 use Rattle.one_answer.proofs.Firsts.{one-first, place-there}
 
-one-times : (p : Problem) (lists : List Column) (item count item' count' : ℕ) → IsFirstTimes p lists item count →
-    IsFirstTimes p lists item' count' → Times item count ≡ Times item' count'
-one-times p lists item count item' count' h k =
+pub one-times : (number : ℕ) (lists : List Column) (item count item' count' : ℕ) → IsFirstTimes number lists item count →
+    IsFirstTimes number lists item' count' → Times item count ≡ Times item' count'
+one-times number lists item count item' count' h k =
     let P : ℕ → Type 0 = λ n. times n (all_items lists) ≡ 1 in
     let items = one-first P item item' h.first (λ one. h.other (sym h.count_is ∙ one)) k.first (λ one. k.other (sym k.count_is ∙ one)) in
     let counts : count ≡ count' = sym h.count_is ∙ (ap (λ n. times n (all_items lists)) items ∙ k.count_is) in
     cc
 
-one-unlawful : (p : Problem) (lists : List Column) (place place' : ℕ) → IsFirstUnlawful p lists place → IsFirstUnlawful p lists place' →
+pub one-unlawful : (p : Problem) (lists : List Column) (place place' : ℕ) → IsFirstUnlawful p lists place → IsFirstUnlawful p lists place' →
     Unlawful place ≡ Unlawful place'
 one-unlawful p lists place place' h k =
     let P : ℕ → Type 0 = λ n. (list : Column) → slice_get lists n ≡ Some list → HasWorth p list in
@@ -37,25 +37,25 @@ one-over p lists class used class' used' h k =
     cc
 
 -- where each item stands once, none is the first that does not
-not-times : (p : Problem) (lists : List Column) (item count : ℕ) → StandOnce p lists → IsFirstTimes p lists item count → ⊥
-not-times p lists item count stand is = is.other (sym is.count_is ∙ stand item is.there)
+pub not-times : (number : ℕ) (lists : List Column) (item count : ℕ) → EachOnce number lists → IsFirstTimes number lists item count → ⊥
+not-times number lists item count stand is = is.other (sym is.count_is ∙ stand item is.there)
 
 -- where each list has a worth, none is the first that has not
-not-unlawful : (p : Problem) (lists : List Column) (place : ℕ) → HaveWorths p lists (length lists) → IsFirstUnlawful p lists place → ⊥
+pub not-unlawful : (p : Problem) (lists : List Column) (place : ℕ) → HaveWorths p lists (length lists) → IsFirstUnlawful p lists place → ⊥
 not-unlawful p lists place worths is = is.none (worths place is.list (place-there lists place is.list is.at) is.at)
 
 -- A plan is the only verdict on its lists; the first item, list or class is one, and the later verdicts say that the earlier are not met.
 pub one-verdict : (p : Problem) (lists : List Column) (v w : PlanVerdict) → IsVerdict p lists v → IsVerdict p lists w → v ≡ w
 one-verdict p lists (Lawful plan) w h k = sym (plans-found p lists plan.columns w h.0 h.1 k)
 one-verdict p lists (Times item count) (Lawful plan) h k = plans-found p lists plan.columns (Times item count) k.0 k.1 h
-one-verdict p lists (Times item count) (Times item' count') h k = one-times p lists item count item' count' h k
-one-verdict p lists (Times item count) (Unlawful place) h k = absurd (not-times p lists item count k.0 h)
-one-verdict p lists (Times item count) (Over class used) h k = absurd (not-times p lists item count k.0 h)
+one-verdict p lists (Times item count) (Times item' count') h k = one-times p.items lists item count item' count' h k
+one-verdict p lists (Times item count) (Unlawful place) h k = absurd (not-times p.items lists item count k.0 h)
+one-verdict p lists (Times item count) (Over class used) h k = absurd (not-times p.items lists item count k.0 h)
 one-verdict p lists (Unlawful place) (Lawful plan) h k = plans-found p lists plan.columns (Unlawful place) k.0 k.1 h
-one-verdict p lists (Unlawful place) (Times item count) h k = absurd (not-times p lists item count h.0 k)
+one-verdict p lists (Unlawful place) (Times item count) h k = absurd (not-times p.items lists item count h.0 k)
 one-verdict p lists (Unlawful place) (Unlawful place') h k = one-unlawful p lists place place' h.1 k.1
 one-verdict p lists (Unlawful place) (Over class used) h k = absurd (not-unlawful p lists place k.1 h.1)
 one-verdict p lists (Over class used) (Lawful plan) h k = plans-found p lists plan.columns (Over class used) k.0 k.1 h
-one-verdict p lists (Over class used) (Times item count) h k = absurd (not-times p lists item count h.0 k)
+one-verdict p lists (Over class used) (Times item count) h k = absurd (not-times p.items lists item count h.0 k)
 one-verdict p lists (Over class used) (Unlawful place) h k = absurd (not-unlawful p lists place h.1 k.1)
 one-verdict p lists (Over class used) (Over class' used') h k = one-over p lists class used class' used' h.2 k.2

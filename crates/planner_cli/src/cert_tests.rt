@@ -3,14 +3,16 @@
 use crate::plan_tests::{
     Change, GROUP, NO_CHANGE, ONE_FOR_BOTH, TOGETHER, TOO_SOON, changed, demo,
 };
+use crate::ready::ready_day;
 use crate::run::run;
 use crate::status::Status;
 use crate::tests::{WRITTEN_HEAD, file, joined, listed, numbers, run_on, sink};
-use cert_check::Reason;
+use cert_check::{OldPlan, Reason, check_old};
 use plan_core::{Bytes, MemFiles, NoGate, Seq};
 use std::alloc::Global;
 use std::test::Fail;
 use std::thread::Threads;
+use vdv451_text::read_file;
 
 /// The certificate of the plan of the two trips.
 const CERT_WRITTEN: &str =
@@ -456,6 +458,83 @@ fn what_is_checked_is_read_in_order(rt: HostRuntime) -> Result<(), Fail> {
             is_checked(&rt, alloc, sets, "", said, [code, 0, 0, 0, 0])?,
             "{said}"
         );
+    }
+    Ok(())
+}
+
+/// What is answered of a plan as an earlier one, as numbers: 0, and how many blocks and duties it has, or the reason against it.
+fn old_numbers(alloc: Global, planning: Bytes, plan: Bytes) -> Result<[u64; 4], Fail> {
+    let Ok(tables) = read_file(alloc, planning.as_slice(), 100_000) else {
+        return Err("no planning tables".into());
+    };
+    let Ok(ready) = ready_day(alloc, tables, 20260302) else {
+        return Err("no day".into());
+    };
+    let Ok(plan) = read_file(alloc, plan.as_slice(), 100_000) else {
+        return Err("no tables of a plan".into());
+    };
+    match check_old(alloc, &ready.model, plan.as_slice())? {
+        OldPlan::Good(text) => Ok([
+            0,
+            text.blocks.columns.len() as u64,
+            text.duties.len() as u64,
+            0,
+        ]),
+        OldPlan::Bad(reason) => Ok(reason_numbers(&reason)),
+    }
+}
+
+#[test]
+fn earlier_plans_are_checked(rt: HostRuntime) -> Result<(), Fail> {
+    let alloc = rt.alloc();
+    // Changes of the planning files after the plan was made, changes of the plan, and what is answered.
+    let rows: [(&[Change], &[Change], [u64; 4]); 7] = [
+        (&[], &[], [0, 1, 1, 0]),
+        // Without the bounds.
+        (
+            &[],
+            &[("tbl; X_SCHRANKE", "tbl; X_SCHRANKEN")],
+            [1, 0, 0, 0],
+        ),
+        // Without the second trip.
+        (
+            &[],
+            &[("rec; 1; 2; 33000; 1; 1; 1; 1; \"R\"; 1\r\nend; 2", "end; 1")],
+            [2, 2, 0, 0],
+        ),
+        // The second trip begins too soon.
+        (TOO_SOON, &[], [3, 1, 0, 0]),
+        // Without the second piece.
+        (
+            &[],
+            &[(
+                "rec; 1; 2; 1; 2; 1; 2; 33000; 2; 9; 37200; 4200\r\nend; 2",
+                "end; 1",
+            )],
+            [5, 1, 2, 0],
+        ),
+        // The duty is too long, and a block costs another sum: neither is looked at.
+        (
+            &[(GROUP, "rec; 1; 2; 9; 2; 500; 1; 40000; 300")],
+            &[],
+            [0, 1, 1, 0],
+        ),
+        (&[], &[("rec; 1; 1; 2200", "rec; 1; 1; 2201")], [0, 1, 1, 0]),
+    ];
+    for (planning, changes, found) in rows {
+        let plan = with(alloc, made(&rt, alloc, "plan", NO_CHANGE)?, changes)?;
+        assert!(rt; old_numbers(alloc, demo(alloc, planning)?, plan)? == found);
+    }
+    Ok(())
+}
+
+#[test]
+fn earlier_plans_need_no_places(rt: HostRuntime) -> Result<(), Fail> {
+    let alloc = rt.alloc();
+    // Two blocks and two duties, where a vehicle or a driver is lost after the plan was made.
+    for planning in [TOGETHER, ONE_FOR_BOTH, ONE_DRIVER] {
+        let plan = made(&rt, alloc, "plan", TOGETHER)?;
+        assert!(rt; old_numbers(alloc, demo(alloc, planning)?, plan)? == [0, 2, 2, 0]);
     }
     Ok(())
 }
