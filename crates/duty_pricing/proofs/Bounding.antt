@@ -1,5 +1,5 @@
 -- Completion bounds that are made from the last piece back.
-use Rattle.std.proofs.Common.{◌≡◌, ◌≢◌, ℕ, ℤ, pos, neg_ℤ, ◌+◌, ◌-◌, ◌*◌, ◌/◌, ◌<◌, ◌≤◌, ◌-ℤ◌, ◌+ℤ◌, ◌≤ℤ◌, ◌<ℤ◌, Bool, true, false, cond, zero, suc, List, [], ◌∷◌, ◌++◌, length, replicate, set, refl, sym, ap, subst, ◌∙◌, arith}
+use Rattle.std.proofs.Common.{◌≡◌, ◌≢◌, ℕ, ℤ, pos, neg_ℤ, ◌+◌, ◌-◌, ◌*◌, ◌/◌, ◌<◌, ◌≤◌, ◌-ℤ◌, ◌+ℤ◌, ◌≤ℤ◌, Bool, true, false, cond, zero, suc, List, [], ◌∷◌, ◌++◌, length, replicate, set, refl, sym, ap, subst, ◌∙◌, arith}
 use Rattle.std.proofs.lemmas.Int.{ints}
 use Rattle.std.proofs.lemmas.Bool.Decides.{nat_tests}
 use Rattle.std.specs.Prelude.{negsuc, nat_lt, Option, Some, None, nat_le, option_and_then, slice_get}
@@ -11,13 +11,12 @@ use Rattle.cover_core.proofs.Values.{price_at-within}
 use Rattle.plan_params.specs.declared.rows.group.Group.{Group}
 use Rattle.plan_params.specs.LookUps.{way_in}
 use Rattle.duty_network.specs.Times.{seconds}
-use Rattle.duty_network.specs.Duties.{DutyFacts, follows, limits_of, pause, pause_at, sign_off}
+use Rattle.duty_network.specs.Duties.{DutyFacts, follows, pause, pause_at}
 use Rattle.duty_network.specs.Ranges.{off_value}
 use Rattle.duty_network.proofs.Better.{Some-same}
-use Rattle.duty_pricing.specs.Bounds.{AreBelow, AreBounds, AreFalling, AreNumbered, AreOut, AreRows, AreStamped, IsBoundFrom, IsBoundRow, IsBounding, IsChain, IsFalling, IsLow, IsLoweredBy, IsReach, IsRaised, IsRowLowered, IsSettled, IsTail, IsTaken, IsUnder, behind, cell_at, low_of, row_at, stamp_at, stamp_of}
+use Rattle.duty_pricing.specs.Bounds.{AreBelow, AreFalling, AreNumbered, AreOut, AreRows, IsBoundFrom, IsBoundRow, IsChain, IsFalling, IsLow, IsLoweredBy, IsReach, IsRaised, IsRowLowered, IsTail, IsUnder, behind, cell_at, low_of, row_at, entry_at}
 use Rattle.duty_pricing.specs.declared.reach.Reach.{Reach}
 use Rattle.duty_pricing.proofs.Lowering.{split}
-use Rattle.duty_pricing.proofs.Stamps.{not-long, same-stamp, stamp-count, stamp-from, stamp-here, stamp-most, stamp-others}
 
 -- a list of one number again and again
 pub repeated : (n x : ℕ) (v : ℤ) → x < n → number_at (replicate n v) x ≡ v
@@ -122,142 +121,6 @@ not-lowered d prices r rows next q row is_q none = record {
       let few : p.driving / r.unit < r.width = omega arith in
       absurd (none (subst P same in_time) (subst Q same few));
   least = λ z x small h bound. h;
-}
-
-pub taken-alone : (d : DutyFacts) (prices : List Price) (r : Reach) (numbers : List ℕ) (rows : List (List ℤ)) (next stamp : ℕ) (met : List ℕ) (old new : List ℤ) →
-    IsLoweredBy d prices r rows next old new → IsTaken d prices r numbers rows next stamp met met old new
-taken-alone d prices r numbers rows next stamp met old new l = record { by = l; count = refl; others = λ m apart. refl; alike = λ later x order there is h. h is }
-
--- with the later pieces of its number
-pub taken-chain : (d : DutyFacts) (prices : List Price) (r : Reach) (numbers : List ℕ) (rows chain : List (List ℤ)) (next stamp : ℕ) (met : List ℕ) (old new : List ℤ) → IsReach r →
-    next < length d.pieces → AreNumbered (length d.pieces) numbers → length met ≡ length d.pieces → IsChain d prices r numbers rows next chain →
-    IsRowLowered old new (row_at chain next) 0 r.width (pos 0) → IsTaken d prices r numbers rows next stamp met (set met (stamp_at numbers next) stamp) old new
-taken-chain d prices r numbers rows chain next stamp met old new reach below n count c l =
-    let width = reach.width in
-    let number = stamp_at numbers next in
-    let there = n.below next below in
-    let here = stamp-here met number stamp (omega arith) in
-    let all : (later x : ℕ) → next ≤ later → later < length d.pieces → stamp_at numbers later ≡ number → IsUnder d prices r rows later x (number_at new x) =
-    λ later x order last same q is_q in_time taken less.
-    let own = c.under next later x (omega arith) order last same q is_q in_time taken less in
-    let none : x - 0 ≡ x = omega arith in
-    let P : ℕ → Type 0 = λ k. number_at new x ≤ℤ (number_at (row_at chain next) k -ℤ pos 0) in
-    let most = subst P none (l.below x (omega arith) less) in
-    omega (arith, ints) in
-    record {
-      by = record {
-        at_most = λ x. l.at_most x;
-        under = λ x. all next x (omega arith) below refl;
-        least = λ z x small h bound. l.least z x h (λ from to. let low = c.low next (omega arith) below (x - 0) (omega arith) in omega (arith, ints));
-      };
-      count = stamp-count met number stamp;
-      others = λ m apart. split (stamp_at (set met number stamp) m ≡ stamp_at met m) m number
-          (λ e. absurd (apart (ap (stamp_at (set met number stamp)) e ∙ here)))
-          (λ other. stamp-others met number m stamp other);
-      alike = λ later x order last is h. split (IsUnder d prices r rows later x (number_at new x)) (stamp_at numbers later) number
-          (λ e. all later x order last e)
-          (λ other. h (sym (stamp-others met number (stamp_at numbers later) stamp other) ∙ is));
-    }
-
--- a row as it begins: with what ending behind the piece in time adds
-pub ended : (d : DutyFacts) (prices : List Price) (g : Group) (r : Reach) (long : ℕ) (last : ℤ) (numbers : List ℕ) (rows over : List (List ℤ)) (k : ℕ) (met : List ℕ) (value : ℤ) → IsReach r → k < 3000 →
-    AreNumbered (length d.pieces) numbers → AreStamped (length d.pieces) (k + 1) met → neg_ℤ (pos 7000000000000) ≤ℤ value → value ≤ℤ pos 7000000000000 →
-    ((p : Piece) (off : ℤ) → slice_get d.pieces k ≡ Some p → sign_off d g p ≡ Some off → off ≤ℤ last → value ≤ℤ off_value d.counts g off) →
-    IsBounding d prices g r long last numbers rows over k (k + 1) met (replicate 16 value)
-ended d prices g r long last numbers rows over k met value reach few n stamped low high closes = record {
-  low = λ x less. let same = repeated 16 x value less in omega (arith, ints);
-  high = λ x. repeated-high 16 x value high;
-  closes = λ p off x less is_p is_off in_time.
-      let width = reach.width in
-      let same = repeated 16 x value (omega arith) in let close = closes p off is_p is_off in_time in omega (arith, ints);
-  steps = λ later time x from to is_time. absurd (omega arith);
-  stamped = record { count = stamped.count; from = λ m small. let own = stamped.from m small in omega arith };
-  alike = λ is later x order there e.
-      let own = stamped.from (stamp_at numbers later) (n.below later there) in let most = stamp-most k is in absurd (omega arith);
-}
-
--- a later piece more
-pub stepped : (d : DutyFacts) (prices : List Price) (g : Group) (r : Reach) (long : ℕ) (last : ℤ) (numbers : List ℕ) (rows over : List (List ℤ)) (k next time : ℕ) (met stamps : List ℕ) (old new : List ℤ) →
-    k < next → pause_at d k next ≡ Some time → IsBounding d prices g r long last numbers rows over k next met old →
-    IsTaken d prices r numbers (behind long time rows over) next (stamp_of k (nat_le long time)) met stamps old new →
-    IsBounding d prices g r long last numbers rows over k (next + 1) stamps new
-stepped d prices g r long last numbers rows over k next time met stamps old new order is_time so_far t =
-    let now = nat_le long time in
-    record {
-      low = λ x small. t.by.least (low_of k) x small (so_far.low x small) (omega (arith, ints));
-      high = λ x. let most = t.by.at_most x in let high = so_far.high x in omega (arith, ints);
-      closes = λ p off x less is_p is_off in_time. let most = t.by.at_most x in let close = so_far.closes p off x less is_p is_off in_time in omega (arith, ints);
-      steps = λ later at x from to is_at. split (IsUnder d prices r (behind long at rows over) later x (number_at new x)) later next
-          (λ e. let here : pause_at d k next ≡ Some at = ap (pause_at d k) (sym e) ∙ is_at in
-          let one : time ≡ at = Some-same time at (sym is_time ∙ here) in
-          let P : ℕ → Type 0 = λ n. IsUnder d prices r (behind long n rows over) next x (number_at new x) in
-          let Q : ℕ → Type 0 = λ n. IsUnder d prices r (behind long at rows over) n x (number_at new x) in
-          subst Q (sym e) (subst P one (t.by.under x)))
-          (λ n. under-less d prices r (behind long at rows over) later x (number_at new x) (number_at old x) (so_far.steps later at x from (omega arith) is_at) (t.by.at_most x));
-      stamped = record {
-        count = t.count ∙ so_far.stamped.count;
-        from = λ m small. split (2 * k ≤ stamp_at stamps m) (stamp_at stamps m) (stamp_of k now)
-            (λ e. let least = stamp-from k now in omega arith)
-            (λ n. let same = t.others m n in let own = so_far.stamped.from m small in omega arith);
-      };
-      alike = λ is later x from there e. split (IsUnder d prices r (cond is over rows) later x (number_at new x)) (stamp_of k is) (stamp_of k now)
-          (λ s. let one : now ≡ is = sym (same-stamp k is now s) in
-          let P : Bool → Type 0 = λ b. stamp_at stamps (stamp_at numbers later) ≡ stamp_of k b → IsUnder d prices r (cond b over rows) later x (number_at new x) in
-          subst P one (λ here. t.alike later x (omega arith) there here
-          (λ was. under-less d prices r (cond now over rows) later x (number_at new x) (number_at old x) (so_far.alike now later x (omega arith) there was) (t.by.at_most x))) e)
-          (λ n. let was : stamp_at met (stamp_at numbers later) ≡ stamp_of k is = sym (t.others (stamp_at numbers later) (λ b. n (sym e ∙ b))) ∙ e in
-          under-less d prices r (cond is over rows) later x (number_at new x) (number_at old x) (so_far.alike is later x (omega arith) there was) (t.by.at_most x));
-    }
-
--- a later piece that is looked at already, or to which there is no pause
-pub unstepped : (d : DutyFacts) (prices : List Price) (g : Group) (r : Reach) (long : ℕ) (last : ℤ) (numbers : List ℕ) (rows over : List (List ℤ)) (k next : ℕ) (met : List ℕ) (row : List ℤ) →
-    IsBounding d prices g r long last numbers rows over k next met row →
-    ((time x : ℕ) → pause_at d k next ≡ Some time → IsUnder d prices r (behind long time rows over) next x (number_at row x)) →
-    IsBounding d prices g r long last numbers rows over k (next + 1) met row
-unstepped d prices g r long last numbers rows over k next met row so_far here = record {
-  low = so_far.low;
-  high = so_far.high;
-  closes = so_far.closes;
-  steps = λ later time x from to is_time. split (IsUnder d prices r (behind long time rows over) later x (number_at row x)) later next
-      (λ e. let Q : ℕ → Type 0 = λ n. IsUnder d prices r (behind long time rows over) n x (number_at row x) in subst Q (sym e) (here time x (ap (pause_at d k) (sym e) ∙ is_time)))
-      (λ n. so_far.steps later time x from (omega arith) is_time);
-  stamped = so_far.stamped;
-  alike = λ is later x from there e. so_far.alike is later x (omega arith) there e;
-}
-
--- all pieces of its number are looked at
-pub looked-at : (d : DutyFacts) (prices : List Price) (g : Group) (r : Reach) (long : ℕ) (last : ℤ) (numbers : List ℕ) (rows over : List (List ℤ)) (k next : ℕ) (met : List ℕ) (row : List ℤ) → IsReach r →
-    AreBelow over rows → next < length d.pieces → stamp_at met (stamp_at numbers next) ≡ stamp_of k true → IsBounding d prices g r long last numbers rows over k next met row →
-    IsBounding d prices g r long last numbers rows over k (next + 1) met row
-looked-at d prices g r long last numbers rows over k next met row reach below there e so_far = unstepped d prices g r long last numbers rows over k next met row so_far
-    (λ time x is_time. under-either (nat_le long time) d prices r rows over next x (number_at row x) reach below (so_far.alike true next x (omega arith) there e))
-
--- those behind pauses that are not long are looked at, and its pause is not long
-pub near-at : (d : DutyFacts) (prices : List Price) (g : Group) (r : Reach) (long : ℕ) (last : ℤ) (numbers : List ℕ) (rows over : List (List ℤ)) (k next : ℕ) (p q : Piece) (met : List ℕ) (row : List ℤ) →
-    next < length d.pieces → slice_get d.pieces k ≡ Some p → slice_get d.pieces next ≡ Some q → (q.begin.0 -ℤ p.end.0) <ℤ pos long →
-    stamp_at met (stamp_at numbers next) ≡ stamp_of k false → IsBounding d prices g r long last numbers rows over k next met row →
-    IsBounding d prices g r long last numbers rows over k (next + 1) met row
-near-at d prices g r long last numbers rows over k next p q met row there is_p is_q near e so_far = unstepped d prices g r long last numbers rows over k next met row so_far
-    (λ time x is_time.
-    let most = pause-gap d k next time p q is_p is_q is_time in
-    let short : nat_le long time ≡ false = not-long long time (omega (arith, ints)) in
-    let P : Bool → Type 0 = λ b. IsUnder d prices r (cond b over rows) next x (number_at row x) in
-    subst P (sym short) (so_far.alike false next x (omega arith) there e))
-
--- all later pieces are passed, and the row is made to fall
-pub settled-row : (d : DutyFacts) (prices : List Price) (g : Group) (r : Reach) (long : ℕ) (last : ℤ) (numbers : List ℕ) (rows over : List (List ℤ)) (k next : ℕ) (met : List ℕ) (old new : List ℤ) →
-    IsBounding d prices g r long last numbers rows over k next met old → length d.pieces ≤ next → IsSettled old new 16 → IsBoundRow d prices g r long last rows over k new
-settled-row d prices g r long last numbers rows over k next met old new so_far past s = record {
-  closes = λ p off x less is_p is_off in_time. let most = s.at_most x in let close = so_far.closes p off x less is_p is_off in_time in omega (arith, ints);
-  steps = λ later time x from to is_time.
-      under-less d prices r (behind long time rows over) later x (number_at new x) (number_at old x) (so_far.steps later time x from (omega arith) is_time) (s.at_most x);
-}
-
-pub settled-falls : (d : DutyFacts) (prices : List Price) (g : Group) (r : Reach) (long : ℕ) (last : ℤ) (numbers : List ℕ) (rows over : List (List ℤ)) (k next : ℕ) (met : List ℕ) (old new : List ℤ) →
-    IsBounding d prices g r long last numbers rows over k next met old → IsSettled old new 16 → IsFalling new
-settled-falls d prices g r long last numbers rows over k next met old new so_far s = record {
-  high = λ x. let most = s.at_most x in let high = so_far.high x in omega (arith, ints);
-  falls = λ x y order less. s.falls x y order less;
 }
 
 kept-either : (is : Bool) (d : DutyFacts) (prices : List Price) (r : Reach) (old new over above : List (List ℤ)) (next x : ℕ) (z : ℤ) → row_at new next ≡ row_at old next →
@@ -450,18 +313,18 @@ tail-kept d prices r numbers old new place tail t same = record {
   count = t.count;
   low = t.low;
   high = t.high;
-  under = λ later x from to. under-same d prices r old new later x (cell_at tail (stamp_at numbers later) x) (same later from) (t.under later x from to);
+  under = λ later x from to. under-same d prices r old new later x (cell_at tail (entry_at numbers later) x) (same later from) (t.under later x from to);
 }
 
-tail-order : (numbers : List ℕ) (item later : ℕ) → item ≤ later → stamp_at numbers later ≢ stamp_at numbers item → item + 1 ≤ later
-tail-order numbers item later from other = split (item + 1 ≤ later) later item (λ e. absurd (other (ap (stamp_at numbers) e))) (λ n. omega arith)
+tail-order : (numbers : List ℕ) (item later : ℕ) → item ≤ later → entry_at numbers later ≢ entry_at numbers item → item + 1 ≤ later
+tail-order numbers item later from other = split (item + 1 ≤ later) later item (λ e. absurd (other (ap (entry_at numbers) e))) (λ n. omega arith)
 
 -- the row of a number lowered by one piece more
 pub tailed : (d : DutyFacts) (prices : List Price) (r : Reach) (numbers : List ℕ) (rows tail : List (List ℤ)) (item : ℕ) (row : List ℤ) → item < length d.pieces →
-    AreNumbered (length d.pieces) numbers → IsTail d prices r numbers rows (item + 1) tail → IsLoweredBy d prices r rows item (row_at tail (stamp_at numbers item)) row →
-    IsTail d prices r numbers rows item (set tail (stamp_at numbers item) row)
+    AreNumbered (length d.pieces) numbers → IsTail d prices r numbers rows (item + 1) tail → IsLoweredBy d prices r rows item (row_at tail (entry_at numbers item)) row →
+    IsTail d prices r numbers rows item (set tail (entry_at numbers item) row)
 tailed d prices r numbers rows tail item row below n t l =
-    let number = stamp_at numbers item in
+    let number = entry_at numbers item in
     let there = n.below item below in
     let count = t.count in
     let here : row_at (set tail number row) number ≡ row = row-here tail number row (omega arith) in
@@ -472,7 +335,7 @@ tailed d prices r numbers rows tail item row below n t l =
           (λ x small. l.least least x small (let own = t.low number x small in omega (arith, ints)) (omega (arith, ints)));
       high = λ m x. let P : List ℤ → Type 0 = λ z. number_at z x ≤ℤ pos 7000000000000 in
           rows-with P tail number m row (omega arith) (t.high m x) (let most = l.at_most x in let own = t.high number x in omega (arith, ints));
-      under = λ later x from to. split (IsUnder d prices r rows later x (cell_at (set tail number row) (stamp_at numbers later) x)) (stamp_at numbers later) number
+      under = λ later x from to. split (IsUnder d prices r rows later x (cell_at (set tail number row) (entry_at numbers later) x)) (entry_at numbers later) number
           (λ e. let P : ℕ → Type 0 = λ m. IsUnder d prices r rows later x (cell_at (set tail number row) m x) in
           let Q : List ℤ → Type 0 = λ z. IsUnder d prices r rows later x (number_at z x) in
           subst P (sym e) (subst Q (sym here) (split (IsUnder d prices r rows later x (number_at row x)) later item
@@ -481,30 +344,30 @@ tailed d prices r numbers rows tail item row below n t l =
           under-less d prices r rows later x (number_at row x) (number_at (row_at tail number) x) (subst S e (t.under later x (omega arith) to)) (l.at_most x)))))
           (λ other. let later_on : item + 1 ≤ later = tail-order numbers item later from other in
           let Q : List ℤ → Type 0 = λ z. IsUnder d prices r rows later x (number_at z x) in
-          subst Q (sym (row-others tail number (stamp_at numbers later) row other)) (t.under later x later_on to));
+          subst Q (sym (row-others tail number (entry_at numbers later) row other)) (t.under later x later_on to));
     }
 
 -- a row more in the chain
 pub chained : (d : DutyFacts) (prices : List Price) (r : Reach) (numbers : List ℕ) (rows chain tail : List (List ℤ)) (item : ℕ) (row : List ℤ) → item < length d.pieces →
-    IsChain d prices r numbers rows (item + 1) chain → IsTail d prices r numbers rows item tail → row ≡ row_at tail (stamp_at numbers item) →
+    IsChain d prices r numbers rows (item + 1) chain → IsTail d prices r numbers rows item tail → row ≡ row_at tail (entry_at numbers item) →
     IsChain d prices r numbers rows item (set chain item row)
 chained d prices r numbers rows chain tail item row below c t is =
     let count = c.count in
-    let here : row_at (set chain item row) item ≡ row_at tail (stamp_at numbers item) = row-here chain item row (omega arith) ∙ is in
+    let here : row_at (set chain item row) item ≡ row_at tail (entry_at numbers item) = row-here chain item row (omega arith) ∙ is in
     let least : ℕ → ℤ = λ k. neg_ℤ (pos 30000000000000000) +ℤ pos (10000000000000 * k) -ℤ pos 10000000000000 in
     record {
       count = row-count chain item row ∙ c.count;
       low = λ k from to. split (IsLow (least k) (row_at (set chain item row) k)) k item
           (λ e. let P : ℕ → Type 0 = λ m. IsLow (least m) (row_at (set chain item row) m) in
-          subst P (sym e) (subst (IsLow (least item)) (sym here) (t.low (stamp_at numbers item))))
+          subst P (sym e) (subst (IsLow (least item)) (sym here) (t.low (entry_at numbers item))))
           (λ apart. subst (IsLow (least k)) (sym (row-others chain item k row apart)) (c.low k (omega arith) to));
       high = λ k x. let P : List ℤ → Type 0 = λ z. number_at z x ≤ℤ pos 7000000000000 in
-          rows-with P chain item k row (omega arith) (c.high k x) (subst P (sym is) (t.high (stamp_at numbers item) x));
+          rows-with P chain item k row (omega arith) (c.high k x) (subst P (sym is) (t.high (entry_at numbers item) x));
       under = λ k later x from up to alike. split (IsUnder d prices r rows later x (cell_at (set chain item row) k x)) k item
           (λ e. let P : ℕ → Type 0 = λ m. IsUnder d prices r rows later x (cell_at (set chain item row) m x) in
           let Q : List ℤ → Type 0 = λ z. IsUnder d prices r rows later x (number_at z x) in
           let S : ℕ → Type 0 = λ m. IsUnder d prices r rows later x (cell_at tail m x) in
-          let same : stamp_at numbers later ≡ stamp_at numbers item = alike ∙ ap (stamp_at numbers) e in
+          let same : entry_at numbers later ≡ entry_at numbers item = alike ∙ ap (entry_at numbers) e in
           subst P (sym e) (subst Q (sym here) (subst S same (t.under later x (omega arith) to))))
           (λ apart. let Q : List ℤ → Type 0 = λ z. IsUnder d prices r rows later x (number_at z x) in
           subst Q (sym (row-others chain item k row apart)) (c.under k later x (omega arith) up to alike));
@@ -575,15 +438,3 @@ chosen-chain false d prices r numbers over rows place over_chain chain a b = b
 
 pub rows-from : (n place first : ℕ) (rows : List (List ℤ)) → AreRows n place rows → place ≤ first → AreRows n first rows
 rows-from n place first rows a order = record { count = a.count; falling = a.falling; low = λ k from to. a.low k (omega arith) to }
-
--- both tables
-pub bounds-of : (d : DutyFacts) (prices : List Price) (g : Group) (r : Reach) (latest last : ℤ) (place first : ℕ) (rows over short long : List (List ℤ)) →
-    IsBoundFrom d prices g r 10800 last place rows over → IsBoundFrom d prices g r 0 r.until place over over → AreBelow over rows → last ≡ latest +ℤ pos (limits_of g).spread →
-    r.until ≡ latest +ℤ pos 54000 → place ≡ first → short ≡ rows → long ≡ over → AreBounds d prices g r latest first short long
-bounds-of d prices g r latest last place first rows over short long a b below is_last is_until same is_short is_long =
-    let P : ℤ → Type 0 = λ z. IsBoundFrom d prices g r 10800 z place rows over in
-    let Q : ℤ → Type 0 = λ z. IsBoundFrom d prices g r 0 z place over over in
-    let R : ℕ → Type 0 = λ n. AreBounds d prices g r latest n short long in
-    let S : List (List ℤ) → Type 0 = λ l. AreBounds d prices g r latest place l long in
-    let T : List (List ℤ) → Type 0 = λ l. AreBounds d prices g r latest place rows l in
-    subst R same (subst S (sym is_short) (subst T (sym is_long) (record { plain = subst P is_last a; long = subst Q is_until b; below = below })))

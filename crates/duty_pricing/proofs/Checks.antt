@@ -1,8 +1,9 @@
 -- Facts of options and tests.
-use Rattle.std.proofs.Common.{◌≡◌, ℕ, ℤ, ◌+ℤ◌, ◌-ℤ◌, ◌∙◌, w64, to_z, of_z, ◌<ℤ◌, ◌/◌, Bool, true, false, not, refl, sym, arith}
+use Rattle.std.proofs.Common.{◌≡◌, ℕ, ℤ, ◌+ℤ◌, ◌-ℤ◌, ◌∙◌, w64, to_z, of_z, ◌<ℤ◌, ◌<◌, ◌≤◌, Bool, true, false, not, refl, sym, arith}
 use Rattle.std.proofs.lemmas.Int.{ints, to_z-of_z}
 use Rattle.std.proofs.lemmas.Bool.Decides.{nat_tests}
-use Rattle.std.specs.Prelude.{Option, Some, None, FitsSigned, IfSome, int_lt, nat_eq}
+use Rattle.std.specs.Prelude.{Option, Some, None, FitsSigned, IfSome, int_lt}
+use Rattle.label_search.specs.Pricing.{is_between}
 
 pub if-some : {A : Type 0} (P : A → Type 0) (o : Option A) → ((a : A) → o ≡ Some a → P a) → IfSome o P
 if-some P None h = tt
@@ -22,5 +23,5 @@ pub not-false : (b : Bool) → not b ≡ false → b ≡ true
 not-false true e = refl
 not-false false e = absurd (cc)
 
-pub group-test : (x group : ℕ) → x / 16 ≡ group → nat_eq (x / 16) group ≡ true
-group-test x group h = grind (arith, nat_tests)
+pub between-test : (first end x : ℕ) → first ≤ x → x < end → is_between first end x ≡ true
+between-test first end x from before = grind (arith, nat_tests)

@@ -1,4 +1,7 @@
 pub mod Lowering
-pub mod Stamps
+pub mod Entries
 pub mod Bounding
 pub mod Checks
+pub mod Ties
+pub mod Looking
+pub mod Filling

@@ -1,7 +1,7 @@
 -- Completion bounds of duties: what the rest of a list adds to its value at least, for each amount of driving that is left.
 use Rattle.std.specs.Coded.{Unit-prop}
 use Rattle.std.proofs.Props.{props}
-use Rattle.std.specs.Prelude.{◌≡◌, ◌≢◌, Bool, cond, nat_le, ℕ, zero, suc, ℤ, pos, neg_ℤ, ◌+◌, ◌*◌, ◌/◌, ◌-◌, ◌<◌, ◌≤◌, ◌≤ℤ◌, ◌+ℤ◌, ◌-ℤ◌, List, [], ◌∷◌, length, Some, slice_get}
+use Rattle.std.specs.Prelude.{◌≡◌, ◌≢◌, cond, nat_le, ℕ, zero, suc, ℤ, pos, neg_ℤ, ◌*◌, ◌/◌, ◌-◌, ◌<◌, ◌≤◌, ◌≤ℤ◌, ◌+ℤ◌, ◌-ℤ◌, List, [], ◌∷◌, length, Some, slice_get}
 use Rattle.plan_core.specs.declared.types.Piece.{Piece}
 use Rattle.plan_core.specs.declared.types.Price.{Price}
 use Rattle.cover_core.specs.declared.marks.Mark.{Mark}
@@ -11,6 +11,7 @@ use Rattle.plan_params.specs.declared.rows.group.Group.{Group}
 use Rattle.duty_network.specs.Duties.{DutyFacts, limits_of, pause_at, sign_off}
 use Rattle.duty_network.specs.Marks.{first_mark}
 use Rattle.duty_network.specs.Ranges.{MarkFits, off_value}
+use Rattle.duty_pricing.specs.declared.numbering.PieceNumbers.{PieceNumbers}
 use Rattle.duty_pricing.specs.declared.reach.Reach.{Reach}
 
 -- the row of a piece
@@ -30,10 +31,10 @@ pub record IsReach (r : Reach) : Type 0 where
   pub day : 36000 / r.unit < r.width
 
 -- the number that a list of numbers has at a place
-abbrev pub stamp_at : List ℕ → ℕ → ℕ
-stamp_at [] k = 0
-stamp_at (x ∷ xs) zero = x
-stamp_at (x ∷ xs) (suc k) = stamp_at xs k
+abbrev pub entry_at : List ℕ → ℕ → ℕ
+entry_at [] k = 0
+entry_at (x ∷ xs) zero = x
+entry_at (x ∷ xs) (suc k) = entry_at xs k
 
 -- the rows that hold behind a pause: those of lists with a long pause where it is one, else those of lists without
 abbrev pub behind : ℕ → ℕ → List (List ℤ) → List (List ℤ) → List (List ℤ)
@@ -101,55 +102,33 @@ pub record AreOut (n : ℕ) (rows : List (List ℤ)) : Type 0 where
 -- each piece has a number below a count
 pub record AreNumbered (n : ℕ) (numbers : List ℕ) : Type 0 where
   pub count : length numbers ≡ n
-  pub below : (k : ℕ) → k < n → stamp_at numbers k < n
+  pub below : (k : ℕ) → k < n → entry_at numbers k < n
+
+-- each piece has one of the numbers, of which there are no more than pieces
+pub record IsNumbering (n : ℕ) (numbers : PieceNumbers) : Type 0 where
+  pub each : AreNumbered n numbers.numbers.items
+  pub below : (k : ℕ) → k < n → entry_at numbers.numbers.items k < numbers.kinds
+  pub few : numbers.kinds ≤ n
 
 -- the row of a piece in a chain: no going on with it or with a later piece of its number undercuts it
 pub record IsChain (d : DutyFacts) (prices : List Price) (r : Reach) (numbers : List ℕ) (rows : List (List ℤ)) (place : ℕ) (chain : List (List ℤ)) : Type 0 where
   pub count : length chain ≡ length d.pieces
   pub low : (k : ℕ) → place ≤ k → k < length d.pieces → IsLow (neg_ℤ (pos 30000000000000000) +ℤ pos (10000000000000 * k) -ℤ pos 10000000000000) (row_at chain k)
   pub high : (k x : ℕ) → cell_at chain k x ≤ℤ pos 7000000000000
-  pub under : (k later x : ℕ) → place ≤ k → k ≤ later → later < length d.pieces → stamp_at numbers later ≡ stamp_at numbers k → IsUnder d prices r rows later x (cell_at chain k x)
+  pub under : (k later x : ℕ) → place ≤ k → k ≤ later → later < length d.pieces → entry_at numbers later ≡ entry_at numbers k → IsUnder d prices r rows later x (cell_at chain k x)
 
 -- the row of a number: no going on with a piece of it from a place on undercuts it
 pub record IsTail (d : DutyFacts) (prices : List Price) (r : Reach) (numbers : List ℕ) (rows : List (List ℤ)) (place : ℕ) (tail : List (List ℤ)) : Type 0 where
   pub count : length tail ≡ length d.pieces
   pub low : (m : ℕ) → IsLow (neg_ℤ (pos 30000000000000000) +ℤ pos (10000000000000 * place) -ℤ pos 10000000000000) (row_at tail m)
   pub high : (m x : ℕ) → cell_at tail m x ≤ℤ pos 7000000000000
-  pub under : (later x : ℕ) → place ≤ later → later < length d.pieces → IsUnder d prices r rows later x (cell_at tail (stamp_at numbers later) x)
-
--- how a number is stamped for a piece: once pieces behind pauses that are not long are looked at, and once all are
-abbrev pub stamp_of : ℕ → Bool → ℕ
-stamp_of k is = cond is (2 * k + 1) (2 * k)
-
--- no stamp is of an earlier piece
-pub record AreStamped (n k : ℕ) (met : List ℕ) : Type 0 where
-  pub count : length met ≡ n
-  pub from : (m : ℕ) → m < n → 2 * k ≤ stamp_at met m
-
--- on the way through the pieces behind one: those that are passed are looked at, and those that are to come and whose number is stamped
-pub record IsBounding (d : DutyFacts) (prices : List Price) (g : Group) (r : Reach) (long : ℕ) (last : ℤ) (numbers : List ℕ) (rows over : List (List ℤ)) (k next : ℕ) (met : List ℕ) (row : List ℤ) : Type 0 where
-  pub low : IsLow (low_of k) row
-  pub high : (x : ℕ) → number_at row x ≤ℤ pos 7000000000000
-  pub closes : (p : Piece) (off : ℤ) (x : ℕ) → x < r.width → slice_get d.pieces k ≡ Some p → sign_off d g p ≡ Some off → off ≤ℤ last →
-      number_at row x ≤ℤ off_value d.counts g off
-  pub steps : (later time x : ℕ) → k < later → later < next → pause_at d k later ≡ Some time → IsUnder d prices r (behind long time rows over) later x (number_at row x)
-  pub stamped : AreStamped (length d.pieces) k met
-  pub alike : (is : Bool) (later x : ℕ) → next ≤ later → later < length d.pieces → stamp_at met (stamp_at numbers later) ≡ stamp_of k is →
-      IsUnder d prices r (cond is over rows) later x (number_at row x)
+  pub under : (later x : ℕ) → place ≤ later → later < length d.pieces → IsUnder d prices r rows later x (cell_at tail (entry_at numbers later) x)
 
 -- a row lowered to what going on with a piece adds
 pub record IsLoweredBy (d : DutyFacts) (prices : List Price) (r : Reach) (rows : List (List ℤ)) (next : ℕ) (old new : List ℤ) : Type 0 where
   pub at_most : (x : ℕ) → number_at new x ≤ℤ number_at old x
   pub under : (x : ℕ) → IsUnder d prices r rows next x (number_at new x)
   pub least : (z : ℤ) (x : ℕ) → x < 16 → z ≤ℤ number_at old x → z ≤ℤ (neg_ℤ (pos 30000000000000000) +ℤ pos (10000000000000 * next) -ℤ pos 10000000000000) → z ≤ℤ number_at new x
-
--- The same, or to what going on with it or any later piece of its number adds: then the number is stamped.
-pub record IsTaken (d : DutyFacts) (prices : List Price) (r : Reach) (numbers : List ℕ) (rows : List (List ℤ)) (next stamp : ℕ) (met stamps : List ℕ) (old new : List ℤ) : Type 0 where
-  pub by : IsLoweredBy d prices r rows next old new
-  pub count : length stamps ≡ length met
-  pub others : (m : ℕ) → stamp_at stamps m ≢ stamp → stamp_at stamps m ≡ stamp_at met m
-  pub alike : (later x : ℕ) → next ≤ later → later < length d.pieces → stamp_at stamps (stamp_at numbers later) ≡ stamp →
-      (stamp_at met (stamp_at numbers later) ≡ stamp → IsUnder d prices r rows later x (number_at new x)) → IsUnder d prices r rows later x (number_at new x)
 
 -- a row with the number at a place raised to another one, where it was below
 pub record IsLifted (old new : List ℤ) (place : ℕ) (value : ℤ) : Type 0 where
@@ -183,14 +162,14 @@ pub record IsSettled (old new : List ℤ) (end : ℕ) : Type 0 where
   pub falls : (x y : ℕ) → y ≤ x → x < end → number_at new x ≤ℤ number_at new y
   pub least : (z : ℤ) → ((x : ℕ) → x < 16 → z ≤ℤ number_at old x) → (x : ℕ) → x < 16 → z ≤ℤ number_at new x
 
--- no list of the group signs on later
-abbrev pub IsLatest : DutyFacts → List Price → ℕ → Group → ℕ → ℤ → Type 0
-IsLatest d prices class g group latest = (item : ℕ) (m : Mark) → item / 16 ≡ group → first_mark d prices class g item ≡ Some m → m.start.0 ≤ℤ latest
+-- no list whose first piece is one from a first one on and before an end signs on later
+abbrev pub IsLatest : DutyFacts → List Price → ℕ → Group → ℕ → ℕ → ℤ → Type 0
+IsLatest d prices class g first end latest = (item : ℕ) (m : Mark) → first ≤ item → item < end → first_mark d prices class g item ≡ Some m → m.start.0 ≤ℤ latest
 
--- the mark of a list that begins in a group: it fits, its last piece is none before the group, and it signs on in time
-pub record IsGroupMark (count group : ℕ) (latest : ℤ) (m : Mark) : Type 0 where
+-- the mark of a list that begins in a range: it fits, its last piece is none before the range, and it signs on in time
+pub record IsRangeMark (count first : ℕ) (latest : ℤ) (m : Mark) : Type 0 where
   pub fits : MarkFits count m
-  pub from : 16 * group ≤ m.piece
+  pub from : first ≤ m.piece
   pub start : m.start.0 ≤ℤ latest
 
 -- how many units of driving are left of a day's

@@ -1,8 +1,8 @@
--- The laws of the marks of a group of lists, under completion bounds.
+-- The laws of the marks of lists whose first pieces are a range, under completion bounds.
 use Rattle.std.proofs.Common.{◌≡◌, ℕ, ℤ, pos, ◌+◌, ◌-◌, ◌*◌, ◌/◌, ◌+ℤ◌, ◌-ℤ◌, ◌≤ℤ◌, ◌<ℤ◌, ◌<◌, ◌≤◌, Bool, true, false, cond, List, length, refl, sym, ap, subst, ◌∙◌, arith}
 use Rattle.std.proofs.lemmas.Int.{ints}
 use Rattle.std.proofs.lemmas.Bool.Decides.{nat_tests}
-use Rattle.std.specs.Prelude.{◌||◌, Option, Some, None, int_le, nat_eq, nat_le, nat_lt, slice_get}
+use Rattle.std.specs.Prelude.{◌||◌, Option, Some, None, int_le, nat_le, nat_lt, slice_get}
 use Rattle.plan_core.specs.declared.types.Piece.{Piece}
 use Rattle.plan_core.specs.declared.types.Price.{Price}
 use Rattle.cover_core.specs.Plans.{price_at}
@@ -12,9 +12,9 @@ use Rattle.cover_core.specs.declared.marks.Mark.{Mark}
 use Rattle.label_search.specs.Laws.{GoodAs, HidesNone, IsFloor, IsSafe, IsStepwise}
 use Rattle.label_search.specs.Levels.{NoneFollows, NoneReaches}
 use Rattle.label_search.specs.Limits.{is_low, passed}
-use Rattle.label_search.specs.Pricing.{IsTiedInGroup, of_group}
+use Rattle.label_search.specs.Pricing.{IsTied, IsTiedInGroup, is_between, of_range}
 use Rattle.label_search.proofs.Limits.{floor-hides}
-use Rattle.label_search.proofs.Pricing.{of_group-hides, of_group-kept, of_group-stepwise, of_group-tied, of_group-valued, start-parts}
+use Rattle.label_search.proofs.Pricing.{of_range-tied, of_range-tied-all, of_start-hides, of_start-kept, of_start-stepwise, of_start-valued, start-parts}
 use Rattle.plan_params.specs.declared.rows.group.Group.{Group}
 use Rattle.plan_params.specs.Limits.{IsGroup}
 use Rattle.eu561_rules.proofs.Runs.{both_true}
@@ -24,22 +24,22 @@ use Rattle.duty_network.specs.Ranges.{NetFits, off_value}
 use Rattle.duty_network.proofs.Better.{Some-same, and_then-Some, given-Some}
 use Rattle.duty_network.proofs.Sizes.{marking-safe, timed-from}
 use Rattle.duty_network.proofs.Tied.{at-below, later-piece, marking-stepwise, marking-tied, test-good, test-kept, test-valued}
-use Rattle.duty_pricing.specs.Bounds.{AreBelow, AreBounds, AreFalling, IsGroupMark, IsLatest, IsReach, IsUnder, behind, cell_at, floor_of, units_left}
+use Rattle.duty_pricing.specs.Bounds.{AreBelow, AreBounds, AreFalling, IsRangeMark, IsLatest, IsReach, IsUnder, behind, cell_at, floor_of, units_left}
 use Rattle.duty_pricing.specs.declared.reach.Reach.{Reach}
 use Rattle.duty_pricing.specs.Units.{units-after, units-fall, units-few}
 
--- the marks of a group of lists
-abbrev pub duty_labels : DutyFacts → List Price → ℕ → Group → ℕ → Labelling Mark
-duty_labels d prices class g group = of_group (marking d prices class g) group
+-- the marks of the lists whose first piece is one from a first one on and before an end
+abbrev pub duty_labels : DutyFacts → List Price → ℕ → Group → ℕ → ℕ → Labelling Mark
+duty_labels d prices class g first end = of_range (marking d prices class g) first end
 
-pub duty-kept : (d : DutyFacts) (prices : List Price) (class : ℕ) (g : Group) (group : ℕ) → IsKept (duty_labels d prices class g group) (GoodAs is_as_good)
-duty-kept d prices class g group = of_group-kept (marking d prices class g) (GoodAs is_as_good) group (test-kept d prices class g)
+pub duty-kept : (d : DutyFacts) (prices : List Price) (class : ℕ) (g : Group) (first end : ℕ) → IsKept (duty_labels d prices class g first end) (GoodAs is_as_good)
+duty-kept d prices class g first end = of_start-kept (marking d prices class g) (GoodAs is_as_good) (is_between first end) (test-kept d prices class g)
 
-pub duty-valued : (d : DutyFacts) (prices : List Price) (class : ℕ) (g : Group) (group : ℕ) → IsValued (duty_labels d prices class g group) (GoodAs is_as_good) (λ m. m.value) (closed_value d g)
-duty-valued d prices class g group = of_group-valued (marking d prices class g) (GoodAs is_as_good) (λ m. m.value) (closed_value d g) group (test-valued d prices class g)
+pub duty-valued : (d : DutyFacts) (prices : List Price) (class : ℕ) (g : Group) (first end : ℕ) → IsValued (duty_labels d prices class g first end) (GoodAs is_as_good) (λ m. m.value) (closed_value d g)
+duty-valued d prices class g first end = of_start-valued (marking d prices class g) (GoodAs is_as_good) (λ m. m.value) (closed_value d g) (is_between first end) (test-valued d prices class g)
 
-pub duty-stepwise : (d : DutyFacts) (prices : List Price) (class : ℕ) (g : Group) (group : ℕ) → IsStepwise (duty_labels d prices class g group) (length d.pieces) (λ m. m.piece)
-duty-stepwise d prices class g group = of_group-stepwise (marking d prices class g) (length d.pieces) (λ m. m.piece) group (marking-stepwise d prices class g)
+pub duty-stepwise : (d : DutyFacts) (prices : List Price) (class : ℕ) (g : Group) (first end : ℕ) → IsStepwise (duty_labels d prices class g first end) (length d.pieces) (λ m. m.piece)
+duty-stepwise d prices class g first end = of_start-stepwise (marking d prices class g) (length d.pieces) (λ m. m.piece) (is_between first end) (marking-stepwise d prices class g)
 
 le-of : (a b : ℕ) → nat_le a b ≡ true → a ≤ b
 le-of a b h = grind (arith, nat_tests)
@@ -47,8 +47,11 @@ le-of a b h = grind (arith, nat_tests)
 at-most : (a b : ℤ) → int_le a b ≡ true → a ≤ℤ b
 at-most a b h = grind (arith, ints)
 
-group-is : (x group : ℕ) → nat_eq (x / 16) group ≡ true → x / 16 ≡ group
-group-is x group h = grind (arith, nat_tests)
+between-from : (first end x : ℕ) → is_between first end x ≡ true → first ≤ x
+between-from first end x h = grind (arith, nat_tests)
+
+between-before : (first end x : ℕ) → is_between first end x ≡ true → x < end
+between-before first end x h = grind (arith, nat_tests)
 
 -- what an extension needs, and what it is
 pub extended-parts : (d : DutyFacts) (g : Group) (prices : List Price) (a b : Mark) (k : ℕ) → extended_mark d g prices a k ≡ Some b →
@@ -69,17 +72,17 @@ open-parts g m end e =
     let (block, day) = both_true _ _ first in
     (le-of m.total (limits_of g).day day, at-most end (m.start.0 +ℤ pos 54000) in_time)
 
-pub duty-safe : (d : DutyFacts) (prices : List Price) (class : ℕ) (g : Group) (group : ℕ) (latest : ℤ) → NetFits d → IsGroup g → AllWithin 10000000000000 prices →
-    IsLatest d prices class g group latest → IsSafe (duty_labels d prices class g group) (IsGroupMark (length d.pieces) group latest)
-duty-safe d prices class g group latest f ranges w starts =
+pub duty-safe : (d : DutyFacts) (prices : List Price) (class : ℕ) (g : Group) (first end : ℕ) (latest : ℤ) → NetFits d → IsGroup g → AllWithin 10000000000000 prices →
+    IsLatest d prices class g first end latest → IsSafe (duty_labels d prices class g first end) (IsRangeMark (length d.pieces) first latest)
+duty-safe d prices class g first end latest f ranges w starts =
     let safe = marking-safe d prices class g f ranges w in
     let stepwise = marking-stepwise d prices class g in
     record {
       starts = λ item a e.
           let (test, made) = start-parts _ _ a e in
-          let own = group-is item group test in
+          let from = between-from first end item test in
           let (below, last) = stepwise.starts item a made in
-          record { fits = safe.starts item a made; from = (omega arith); start = starts item a own made };
+          record { fits = safe.starts item a made; from = (omega arith); start = starts item a from (between-before first end item test) made };
       steps = λ a b item s e.
           let (p, q, time, is_p, is_q, is_time, later, opened, same) = extended-parts d g prices a b item e in
           let (order, below, last) = stepwise.steps a b item e in
@@ -145,9 +148,9 @@ close-row d prices g r latest first rows over true k x p off bound from below le
 close-row d prices g r latest first rows over false k x p off bound from below less is_p is_off in_time = (bound.plain.bounds k from below).closes p off x less is_p is_off in_time
 
 -- No continuation closes below the value and the number of its last piece for the driving that is left.
-pub bound-floor : (d : DutyFacts) (prices : List Price) (class : ℕ) (g : Group) (group : ℕ) (r : Reach) (latest : ℤ) (rows over : List (List ℤ)) → IsReach r → r.until ≡ latest +ℤ pos 54000 →
-    AreBounds d prices g r latest (16 * group) rows over → IsFloor (marking d prices class g) (closed_value d g) (IsGroupMark (length d.pieces) group latest) (floor_of r g rows over)
-bound-floor d prices class g group r latest rows over reach until bound = record {
+pub bound-floor : (d : DutyFacts) (prices : List Price) (class : ℕ) (g : Group) (first : ℕ) (r : Reach) (latest : ℤ) (rows over : List (List ℤ)) → IsReach r → r.until ≡ latest +ℤ pos 54000 →
+    AreBounds d prices g r latest first rows over → IsFloor (marking d prices class g) (closed_value d g) (IsRangeMark (length d.pieces) first latest) (floor_of r g rows over)
+bound-floor d prices class g first r latest rows over reach until bound = record {
   closes = λ a v s e.
       let (p, is_p, e1) = and_then-Some _ (slice_get d.pieces a.piece) v e in
       let (off, is_off, e2) = and_then-Some _ (sign_off d g p) v e1 in
@@ -156,19 +159,19 @@ bound-floor d prices class g group r latest rows over reach until bound = record
       let (other, spread) = both_true _ _ test in
       let within = at-most (off -ℤ a.start.0) (pos (cond a.three (limits_of g).long_spread (limits_of g).spread)) spread in
       let start = s.start in
-      let least = close-row d prices g r latest (16 * group) rows over a.three a.piece (units_left r g a.total) p off bound s.from s.fits.piece (units-few r g a.total reach) is_p is_off (omega (arith, ints)) in
+      let least = close-row d prices g r latest first rows over a.three a.piece (units_left r g a.total) p off bound s.from s.fits.piece (units-few r g a.total reach) is_p is_off (omega (arith, ints)) in
       omega (arith, ints);
   steps = λ a b k s e.
       let (p, q, time, is_p, is_q, is_time, later, opened, same) = extended-parts d g prices a b k e in
       let (day, in_time) = open-parts g (next_mark g prices a time k q) q.end.0 opened in
       let order = later-piece a.piece k later in
-      let (q', is_q', taken, floor, lower) = step-floor d prices g r latest (16 * group) rows over a b k reach bound e in
+      let (q', is_q', taken, floor, lower) = step-floor d prices g r latest first rows over a b k reach bound e in
       let one : q' ≡ q = Some-same q' q (sym is_q' ∙ is_q) in
       let there : pause_at d a.piece k ≡ Some time = (let here : pause_at d a.piece k ≡ pause d p q = rw (is_p, is_q) refl in here ∙ is_time) in
       let start = s.start in
       let Q : Piece → Type 0 = λ x. x.end.0 ≤ℤ r.until in
       let made : Mark → Type 0 = λ m. IsUnder d prices r (cond m.three over rows) k (units_left r g a.total) (cell_at (cond a.three over rows) a.piece (units_left r g a.total)) in
-      let under = subst made same (step-row d prices g r latest (16 * group) rows over a.three a.piece k time (units_left r g a.total) bound s.from s.fits.piece order (at-below d.pieces k q is_q) there) in
+      let under = subst made same (step-row d prices g r latest first rows over a.three a.piece k time (units_left r g a.total) bound s.from s.fits.piece order (at-below d.pieces k q is_q) there) in
       let least = under q' is_q' (subst Q (sym one) (omega (arith, ints))) taken (units-few r g a.total reach) in
       omega (arith, ints);
 }
@@ -195,18 +198,25 @@ floor-ordered d prices g latest first r rows over reach bound a b h =
     let there = subst P good.piece (omega (arith, ints)) in
     omega (arith, ints)
 
-pub duty-hides : (d : DutyFacts) (prices : List Price) (class : ℕ) (g : Group) (group : ℕ) (r : Reach) (latest : ℤ) (rows over : List (List ℤ)) → IsReach r → r.until ≡ latest +ℤ pos 54000 →
-    AreBounds d prices g r latest (16 * group) rows over →
-    HidesNone (duty_labels d prices class g group) is_as_good (closed_value d g) (IsGroupMark (length d.pieces) group latest) (is_low (floor_of r g rows over))
-duty-hides d prices class g group r latest rows over reach until bound =
-    of_group-hides (marking d prices class g) is_as_good (closed_value d g) (IsGroupMark (length d.pieces) group latest) (is_low (floor_of r g rows over)) group
-    (floor-hides (marking d prices class g) is_as_good (closed_value d g) (IsGroupMark (length d.pieces) group latest) (floor_of r g rows over)
-    (floor-ordered d prices g latest (16 * group) r rows over reach bound) (bound-floor d prices class g group r latest rows over reach until bound))
+pub duty-hides : (d : DutyFacts) (prices : List Price) (class : ℕ) (g : Group) (first end : ℕ) (r : Reach) (latest : ℤ) (rows over : List (List ℤ)) → IsReach r → r.until ≡ latest +ℤ pos 54000 →
+    AreBounds d prices g r latest first rows over →
+    HidesNone (duty_labels d prices class g first end) is_as_good (closed_value d g) (IsRangeMark (length d.pieces) first latest) (is_low (floor_of r g rows over))
+duty-hides d prices class g first end r latest rows over reach until bound =
+    of_start-hides (marking d prices class g) is_as_good (closed_value d g) (IsRangeMark (length d.pieces) first latest) (is_low (floor_of r g rows over)) (is_between first end)
+    (floor-hides (marking d prices class g) is_as_good (closed_value d g) (IsRangeMark (length d.pieces) first latest) (floor_of r g rows over)
+    (floor-ordered d prices g latest first r rows over reach bound) (bound-floor d prices class g first r latest rows over reach until bound))
 
--- a list has a worth exactly where it has a mark that closes
+-- a list of a group has a worth exactly where it has a mark that closes
 pub duty-tied : (d : DutyFacts) (prices : List Price) (class : ℕ) (g : Group) (group : ℕ) → slice_get d.params.groups class ≡ Some g → NetFits d →
-    IsTiedInGroup (duty_labels d prices class g group) (closed_value d g) prices group (duty_worth d class)
-duty-tied d prices class g group is_g f = of_group-tied (marking d prices class g) (closed_value d g) prices group (duty_worth d class) (marking-tied d prices class g is_g (timed-from d.pieces f.shifts))
+    IsTiedInGroup (duty_labels d prices class g (16 * group) (16 * group + 16)) (closed_value d g) prices group (duty_worth d class)
+duty-tied d prices class g group is_g f = of_range-tied (marking d prices class g) (closed_value d g) prices group (duty_worth d class) (marking-tied d prices class g is_g (timed-from d.pieces f.shifts))
+
+-- where lists begin with any piece, each list has a worth exactly where it has a mark that closes
+pub duty-tied-all : (d : DutyFacts) (prices : List Price) (class : ℕ) (g : Group) (end : ℕ) → slice_get d.params.groups class ≡ Some g → NetFits d → length d.pieces ≤ end →
+    IsTied (duty_labels d prices class g 0 end) (closed_value d g) prices (duty_worth d class)
+duty-tied-all d prices class g end is_g f all =
+    of_range-tied-all (marking d prices class g) (length d.pieces) end (λ m. m.piece) (closed_value d g) prices (duty_worth d class) (marking-stepwise d prices class g) all
+    (marking-tied d prices class g is_g (timed-from d.pieces f.shifts))
 
 over-limit : (x y : ℤ) → y <ℤ x → int_le x y ≡ false
 over-limit x y h = grind (arith, ints)
@@ -242,22 +252,22 @@ none-below d prices g r latest first rows over limit a k q reach bound is_q high
     omega (arith, ints))
 
 -- a value that is too high for the piece, however much driving is left
-pub none-reaches : (d : DutyFacts) (prices : List Price) (class : ℕ) (g : Group) (group : ℕ) (r : Reach) (latest : ℤ) (rows over : List (List ℤ)) (limit least : ℤ) (item : ℕ) → IsReach r →
-    AreBounds d prices g r latest (16 * group) rows over → limit <ℤ ((least -ℤ price_at prices item) +ℤ cell_at over item 15) →
-    NoneReaches (duty_labels d prices class g group) (IsGroupMark (length d.pieces) group latest) (λ m. m.value) (is_low (floor_of r g rows over) limit) least item
-none-reaches d prices class g group r latest rows over limit least item reach bound high a s more = none-passes (extended_mark d g prices a item) (floor_of r g rows over) limit
+pub none-reaches : (d : DutyFacts) (prices : List Price) (class : ℕ) (g : Group) (first end : ℕ) (r : Reach) (latest : ℤ) (rows over : List (List ℤ)) (limit least : ℤ) (item : ℕ) → IsReach r →
+    AreBounds d prices g r latest first rows over → limit <ℤ ((least -ℤ price_at prices item) +ℤ cell_at over item 15) →
+    NoneReaches (duty_labels d prices class g first end) (IsRangeMark (length d.pieces) first latest) (λ m. m.value) (is_low (floor_of r g rows over) limit) least item
+none-reaches d prices class g first end r latest rows over limit least item reach bound high a s more = none-passes (extended_mark d g prices a item) (floor_of r g rows over) limit
     (λ b e.
-    let (q, is_q, taken, floor, lower) = step-floor d prices g r latest (16 * group) rows over a b item reach bound e in
+    let (q, is_q, taken, floor, lower) = step-floor d prices g r latest first rows over a b item reach bound e in
     let few = units-few r g a.total reach in
     let width = reach.width in
     let falls = (bound.long.are.falling item).falls 15 (units_left r g a.total - q.driving / r.unit) (omega arith) (omega arith) in
     omega (arith, ints))
 
 -- no pause between the pieces
-pub none-follows : (d : DutyFacts) (prices : List Price) (class : ℕ) (g : Group) (group : ℕ) (latest : ℤ) (test : Mark → Bool) (before : ℕ) (least : ℤ) (item : ℕ) →
+pub none-follows : (d : DutyFacts) (prices : List Price) (class : ℕ) (g : Group) (first end : ℕ) (latest : ℤ) (test : Mark → Bool) (before : ℕ) (least : ℤ) (item : ℕ) →
     pause_at d before item ≡ None →
-    NoneFollows (duty_labels d prices class g group) (IsGroupMark (length d.pieces) group latest) (λ m. m.piece) (λ m. m.value) test before least item
-none-follows d prices class g group latest test before least item none a s ends more =
+    NoneFollows (duty_labels d prices class g first end) (IsRangeMark (length d.pieces) first latest) (λ m. m.piece) (λ m. m.value) test before least item
+none-follows d prices class g first end latest test before least item none a s ends more =
     elim (extended_mark d g prices a item) as (λ o. extended_mark d g prices a item ≡ o → passed test o ≡ None) [
       | None ↦ λ is. refl
       | Some b ↦ λ is.
@@ -268,7 +278,7 @@ none-follows d prices class g group latest test before least item none a s ends 
     ] refl
 
 -- a piece that no value reaches follows none
-pub follows-none : (d : DutyFacts) (prices : List Price) (class : ℕ) (g : Group) (group : ℕ) (latest : ℤ) (test : Mark → Bool) (before : ℕ) (least : ℤ) (item : ℕ) →
-    NoneReaches (duty_labels d prices class g group) (IsGroupMark (length d.pieces) group latest) (λ m. m.value) test least item →
-    NoneFollows (duty_labels d prices class g group) (IsGroupMark (length d.pieces) group latest) (λ m. m.piece) (λ m. m.value) test before least item
-follows-none d prices class g group latest test before least item h a s ends more = h a s more
+pub follows-none : (d : DutyFacts) (prices : List Price) (class : ℕ) (g : Group) (first end : ℕ) (latest : ℤ) (test : Mark → Bool) (before : ℕ) (least : ℤ) (item : ℕ) →
+    NoneReaches (duty_labels d prices class g first end) (IsRangeMark (length d.pieces) first latest) (λ m. m.value) test least item →
+    NoneFollows (duty_labels d prices class g first end) (IsRangeMark (length d.pieces) first latest) (λ m. m.piece) (λ m. m.value) test before least item
+follows-none d prices class g first end latest test before least item h a s ends more = h a s more

@@ -1,3 +1,5 @@
 pub mod Bounds
 pub mod Units
 pub mod Laws
+pub mod Links
+pub mod Begins

@@ -1,14 +1,19 @@
 //! Completion bounds: what the rest of a list adds to its value at least, for each amount of driving that is left of the day's.
 
-ghost use Rattle.std.specs.Prelude.{◌≡◌, ◌<◌, ◌≤◌, ◌+◌, ◌*◌, ◌≤ℤ◌, ◌+ℤ◌, ◌-ℤ◌, ℕ, ℤ, neg_ℤ, pos, length, cond, IfOk, Some, true, false, slice_get};
+ghost use Rattle.std.specs.Prelude.{◌≡◌, ◌<◌, ◌≤◌, ◌+◌, ◌*◌, ◌≤ℤ◌, ◌+ℤ◌, ◌-ℤ◌, ℕ, ℤ, neg_ℤ, pos, length, cond, IfOk, Some, true, slice_get};
 ghost use Rattle.plan_core.specs.declared.types.Piece.{Piece};
 ghost use Rattle.cover_core.specs.FirstLeast.{AllWithin};
 ghost use Rattle.plan_params.specs.Limits.{IsGroup};
 ghost use Rattle.duty_network.specs.Duties.{sign_off};
 ghost use Rattle.duty_network.specs.Ranges.{IsShift, off_value};
-ghost use Rattle.duty_pricing.specs.Bounds.{AreBelow, AreNumbered, AreOut, AreRows, AreStamped, IsBoundFrom, IsBoundRow, IsBounding, IsChain, IsFalling, IsLow, IsLoweredBy, IsReach, IsTail, IsTaken, cell_at, low_of, row_at, stamp_at, stamp_of};
+ghost use Rattle.duty_pricing.specs.Bounds.{AreBelow, AreNumbered, AreOut, AreRows, IsBoundFrom, IsBoundRow, IsChain, IsFalling, IsLow, IsLoweredBy, IsReach, IsTail, cell_at, low_of, row_at, entry_at};
+ghost use Rattle.duty_pricing.specs.Begins.{AreFirsts};
+ghost use Rattle.duty_pricing.specs.Links.{AreLinked, IsBounding, IsLooking, IsTaken, looked_of};
 
+use crate::begins::{ahead, first_from};
 use crate::labels::price;
+use crate::links::{Links, following, link, unlinked};
+use crate::looked::{Looked, is_full, is_near, looked_of};
 use crate::reach::{Reach, in_units};
 use crate::rows::{Row, lower_row, raise, settle};
 use duty_network::DutyNet;
@@ -80,7 +85,7 @@ fn lower_by_piece(
     }
 }
 
-/// Lowers a row to what going on with a piece adds, or with it and all later pieces of its number, which is then stamped.
+/// Lowers a row to what going on with a piece adds, or with it and all later pieces of its number, which are then looked at together.
 fn take_step(
     net: &DutyNet<'_>,
     prices: &[Price],
@@ -88,28 +93,27 @@ fn take_step(
     numbers: &[u32],
     rows: &[Row],
     chain: &[Row],
-    met: &mut Vec<u32>,
     row: &mut Row,
     next: u32,
     alone: bool,
-    stamp: u32,
-)
+    looked: Looked,
+    all: bool,
+) -> Looked
     requires reach { IsReach reach.now }
     requires next { next < length net.now.pieces }
     requires prices { length prices.now ≡ length net.now.pieces }
     requires moderate { AllWithin 10000000000000 prices.now }
     requires few { length net.now.pieces ≤ 3000 }
-    requires numbers { AreNumbered (length net.now.pieces) numbers.now }
     requires rows { AreRows (length net.now.pieces) next rows.now }
     requires chain { IsChain net.now prices.now reach.now numbers.now rows.now next chain.now }
-    requires met { length met.old.items ≡ length net.now.pieces }
-    ensures { IsTaken net.now prices.now reach.now numbers.now rows.now next stamp met.old.items met.new.items row.old row.new }
+    ensures { IsTaken net.now prices.now reach.now numbers.now rows.now next (looked_of all) looked result row.old row.new }
 {
     if alone {
         lower_by_piece(net, prices, reach, rows, row, next);
+        looked
     } else {
         lower_row(row, &chain[next as usize], 0, reach.width, 0);
-        met[numbers[next as usize] as usize] = stamp;
+        looked_of(all)
     }
 }
 
@@ -118,14 +122,6 @@ pub(crate) fn pick<'a>(first: bool, a: &'a [Row], b: &'a [Row]) -> &'a [Row]
     ensures { result.now ≡ cond first a.now b.now }
 {
     if first { a } else { b }
-}
-
-/// The stamp of a piece: whether all pieces of a number are looked at, or only those behind pauses that are not long.
-fn stamp(item: u32, all: bool) -> u32
-    requires { item < 3000 }
-    ensures { result ≡ stamp_of item all }
-{
-    if all { 2 * item + 1 } else { 2 * item }
 }
 
 /// Whether a piece follows another directly in one block.
@@ -144,7 +140,17 @@ fn gap(piece: &Piece, next: &Piece) -> i64
     next.begin.0 - piece.end.0
 }
 
-/// Lowers the row of a piece to what going on with a later one adds, where there is a pause between them and its number is not stamped.
+/// A time so many seconds later.
+fn later_by(time: i64, seconds: u32) -> i64
+    requires low { pos 0 ≤ℤ time }
+    requires high { time ≤ℤ pos 345600 }
+    ensures { result ≡ time +ℤ pos seconds }
+{
+    time + seconds as i64
+}
+
+/// Lowers the row of a piece to what going on with a later one adds, where there is a pause between them and it is not looked at with
+/// earlier ones of its number. Gives how its number is looked at then.
 fn bound_step(
     net: &DutyNet<'_>,
     group: &Group,
@@ -157,54 +163,100 @@ fn bound_step(
     over: &[Row],
     chain: &[Row],
     over_chain: &[Row],
-    met: &mut Vec<u32>,
     row: &mut Row,
     item: u32,
     next: u32,
-)
+    looked: Looked,
+) -> Looked
     requires reach { IsReach reach.now }
     requires order { item < next }
     requires next { next < length net.now.pieces }
     requires few { length net.now.pieces ≤ 3000 }
     requires prices { length prices.now ≡ length net.now.pieces }
     requires moderate { AllWithin 10000000000000 prices.now }
-    requires numbers { AreNumbered (length net.now.pieces) numbers.now }
     requires rows { AreRows (length net.now.pieces) (item + 1) rows.now }
     requires over { AreRows (length net.now.pieces) (item + 1) over.now }
     requires below { AreBelow over.now rows.now }
     requires chain { IsChain net.now prices.now reach.now numbers.now rows.now (item + 1) chain.now }
     requires over_chain { IsChain net.now prices.now reach.now numbers.now over.now (item + 1) over_chain.now }
-    requires so_far { IsBounding net.now prices.now group.now reach.now long last numbers.now rows.now over.now item next met.old.items row.old }
-    ensures { IsBounding net.now prices.now group.now reach.now long last numbers.now rows.now over.now item (next + 1) met.new.items row.new }
+    requires so_far { IsLooking net.now prices.now group.now reach.now long last numbers.now rows.now over.now item (entry_at numbers.now next) next looked row.old }
+    ensures { IsLooking net.now prices.now group.now reach.now long last numbers.now rows.now over.now item (entry_at numbers.now next) (next + 1) result row.new }
 {
-    let number = numbers[next as usize] as usize;
-    let stamped = met[number];
-    let full = stamp(item, true);
-    if stamped == full {
-        return;
-    }
     let piece = net.piece(item);
     let later = net.piece(next);
     let between = gap(piece, later);
     if between < 0 {
-        return;
+        return looked;
     }
-    let half = stamp(item, false);
-    if stamped == half && between < long as i64 {
-        return;
+    if is_near(looked) && between < long as i64 {
+        return looked;
     }
     match net.pause(item, next) {
-        None => {}
+        None => looked,
         Some(time) => {
             let all = time >= long;
             let table = pick(all, over, rows);
-            let links = pick(all, over_chain, chain);
-            let mark = stamp(item, all);
+            let chained = pick(all, over_chain, chain);
             let alone = is_next(piece, later);
             take_step(
-                net, prices, reach, numbers, table, links, met, row, next, alone, mark,
-            );
+                net, prices, reach, numbers, table, chained, row, next, alone, looked, all,
+            )
         }
+    }
+}
+
+/// Lowers the row of a piece to what going on with the later pieces of a number adds. It passes over pieces that begin too early, and looks
+/// at none behind the first one with which all of them are looked at together.
+fn bound_number(
+    net: &DutyNet<'_>,
+    group: &Group,
+    prices: &[Price],
+    reach: &Reach,
+    long: u32,
+    last: i64,
+    numbers: &[u32],
+    firsts: &[u32],
+    links: &Links,
+    rows: &[Row],
+    over: &[Row],
+    chain: &[Row],
+    over_chain: &[Row],
+    row: &mut Row,
+    item: u32,
+    number: usize,
+)
+    requires reach { IsReach reach.now }
+    requires prices { length prices.now ≡ length net.now.pieces }
+    requires moderate { AllWithin 10000000000000 prices.now }
+    requires count { length numbers.now ≡ length net.now.pieces }
+    requires item { item < length net.now.pieces }
+    requires long { long ≤ 10800 }
+    requires firsts { AreFirsts 0 net.now.pieces numbers.now firsts.now }
+    requires slots { 200 * length links.now.heads.items ≤ length firsts.now }
+    requires linked { AreLinked numbers.now (item + 1) links.now }
+    requires number { number < length links.now.heads.items }
+    requires rows { AreRows (length net.now.pieces) (item + 1) rows.now }
+    requires over { AreRows (length net.now.pieces) (item + 1) over.now }
+    requires below { AreBelow over.now rows.now }
+    requires chain { IsChain net.now prices.now reach.now numbers.now rows.now (item + 1) chain.now }
+    requires over_chain { IsChain net.now prices.now reach.now numbers.now over.now (item + 1) over_chain.now }
+    requires so_far { IsBounding net.now prices.now group.now reach.now long last numbers.now rows.now over.now item number row.old }
+    ensures { IsBounding net.now prices.now group.now reach.now long last numbers.now rows.now over.now item (number + 1) row.new }
+{
+    net.fits();
+    let count = net.pieces().len() as u32;
+    let end = net.piece(item).end.0;
+    let behind = first_from(firsts, number, end);
+    let far = first_from(firsts, number, later_by(end, long));
+    let mut next = ahead(links.heads[number], true, behind);
+    let mut looked = Looked::Apart;
+    while next < count {
+        looked = bound_step(
+            net, group, prices, reach, long, last, numbers, rows, over, chain, over_chain, row,
+            item, next, looked,
+        );
+        let after = following(links.after.as_slice(), next, is_full(looked), count);
+        next = ahead(after, is_near(looked), far);
     }
 }
 
@@ -218,11 +270,12 @@ fn bound_row(
     long: u32,
     last: i64,
     numbers: &[u32],
+    firsts: &[u32],
+    links: &Links,
     rows: &[Row],
     over: &[Row],
     chain: &[Row],
     over_chain: &[Row],
-    met: &mut Vec<u32>,
     item: u32,
 ) -> Row
     requires class { slice_get net.now.params.groups class ≡ Some group.now }
@@ -231,24 +284,26 @@ fn bound_row(
     requires item { item < length net.now.pieces }
     requires prices { length prices.now ≡ length net.now.pieces }
     requires moderate { AllWithin 10000000000000 prices.now }
-    requires numbers { AreNumbered (length net.now.pieces) numbers.now }
+    requires count { length numbers.now ≡ length net.now.pieces }
+    requires long { long ≤ 10800 }
+    requires firsts { AreFirsts 0 net.now.pieces numbers.now firsts.now }
+    requires slots { 200 * length links.now.heads.items ≤ length firsts.now }
+    requires linked { AreLinked numbers.now (item + 1) links.now }
     requires rows { AreRows (length net.now.pieces) (item + 1) rows.now }
     requires over { AreRows (length net.now.pieces) (item + 1) over.now }
     requires below { AreBelow over.now rows.now }
     requires chain { IsChain net.now prices.now reach.now numbers.now rows.now (item + 1) chain.now }
     requires over_chain { IsChain net.now prices.now reach.now numbers.now over.now (item + 1) over_chain.now }
-    requires met { AreStamped (length net.now.pieces) (item + 1) met.old.items }
     ensures row { IsBoundRow net.now prices.now group.now reach.now long last rows.now over.now item result }
     ensures falling { IsFalling result }
     ensures low { IsLow (low_of item) result }
-    ensures met { AreStamped (length net.now.pieces) item met.new.items }
 {
     net.fits();
     let mut row = [ending(net, class, group, item, last); 16];
-    for next in item + 1..net.pieces().len() as u32 {
-        bound_step(
-            net, group, prices, reach, long, last, numbers, rows, over, chain, over_chain, met,
-            &mut row, item, next,
+    for number in 0..links.heads.len() {
+        bound_number(
+            net, group, prices, reach, long, last, numbers, firsts, links, rows, over, chain,
+            over_chain, &mut row, item, number,
         );
     }
     settle(&mut row);
@@ -274,7 +329,7 @@ fn chain_row(
     requires rows { AreRows (length net.now.pieces) item rows.now }
     requires tail { IsTail net.now prices.now reach.now numbers.now rows.now (item + 1) tail.old.items }
     ensures tail { IsTail net.now prices.now reach.now numbers.now rows.now item tail.new.items }
-    ensures row { result ≡ row_at tail.new.items (stamp_at numbers.now item) }
+    ensures row { result ≡ row_at tail.new.items (entry_at numbers.now item) }
 {
     let number = numbers[item as usize] as usize;
     let mut row = tail[number];
@@ -295,19 +350,6 @@ fn out_of_reach(alloc: Global, count: usize) -> Result<Vec<Row>, Memory>
     Ok(rows)
 }
 
-/// No number is stamped.
-fn unstamped(alloc: Global, count: usize) -> Result<Vec<u32>, Memory>
-    requires { count ≤ 3000 }
-    ensures { IfOk result (λ met. AreStamped count count met.items) }
-{
-    let mut met = Vec::new(alloc);
-    met.reserve(count)?;
-    for _ in 0..count {
-        met.push(6_000)?;
-    }
-    Ok(met)
-}
-
 /// The rows of pieces, and for each piece the least of what going on with it or with a later piece of its number adds.
 #[derive(Drop)]
 pub(crate) struct Table {
@@ -321,7 +363,7 @@ pub(crate) struct Table {
 ///
 /// Pieces are numbered, those that begin at one point alike. Behind the first piece of a number to which there is a pause the later ones of
 /// that number are looked at together, by its row in the chain: whether there is a pause to each of them does not matter, since a bound may
-/// only be too low. So most time goes into a few pieces of each number.
+/// only be too low. So for each piece a few of each number are looked at, and no others: it takes time with the pieces and the points.
 pub(crate) fn bounds_over(
     alloc: Global,
     net: &DutyNet<'_>,
@@ -330,6 +372,8 @@ pub(crate) fn bounds_over(
     prices: &[Price],
     reach: &Reach,
     numbers: &[u32],
+    kinds: u32,
+    firsts: &[u32],
     first: usize,
 ) -> Result<Table, Memory>
     requires class { slice_get net.now.params.groups class ≡ Some group.now }
@@ -338,6 +382,9 @@ pub(crate) fn bounds_over(
     requires prices { length prices.now ≡ length net.now.pieces }
     requires moderate { AllWithin 10000000000000 prices.now }
     requires numbers { AreNumbered (length net.now.pieces) numbers.now }
+    requires kinds { (k : ℕ) → k < length net.now.pieces → entry_at numbers.now k < kinds }
+    requires firsts { AreFirsts 0 net.now.pieces numbers.now firsts.now }
+    requires slots { length firsts.now ≡ 200 * kinds }
     ensures rows { IfOk result (λ table. IsBoundFrom net.now prices.now group.now reach.now 0 reach.now.until first table.rows.items table.rows.items) }
     ensures chain { IfOk result (λ table. IsChain net.now prices.now reach.now numbers.now table.rows.items first table.chain.items) }
 {
@@ -346,12 +393,12 @@ pub(crate) fn bounds_over(
     let mut rows = out_of_reach(alloc, count)?;
     let mut chain = out_of_reach(alloc, count)?;
     let mut tail = out_of_reach(alloc, count)?;
-    let mut met = unstamped(alloc, count)?;
+    let mut links = unlinked(alloc, count, kinds)?;
     let mut item = count;
     while item > first {
         item -= 1;
         let so_far = rows.as_slice();
-        let links = chain.as_slice();
+        let chained = chain.as_slice();
         let row = bound_row(
             net,
             class,
@@ -361,17 +408,19 @@ pub(crate) fn bounds_over(
             0,
             reach.until,
             numbers,
+            firsts,
+            &links,
             so_far,
             so_far,
-            links,
-            links,
-            &mut met,
+            chained,
+            chained,
             item as u32,
         );
         rows[item] = row;
         let now = rows.as_slice();
-        let link = chain_row(net, prices, reach, numbers, now, &mut tail, item as u32);
-        chain[item] = link;
+        let least = chain_row(net, prices, reach, numbers, now, &mut tail, item as u32);
+        chain[item] = least;
+        link(&mut links, numbers, item as u32);
     }
     Ok(Table { rows, chain })
 }
@@ -386,6 +435,8 @@ pub(crate) fn bounds(
     reach: &Reach,
     last: i64,
     numbers: &[u32],
+    kinds: u32,
+    firsts: &[u32],
     over: &Table,
     first: usize,
 ) -> Result<Vec<Row>, Memory>
@@ -395,6 +446,9 @@ pub(crate) fn bounds(
     requires prices { length prices.now ≡ length net.now.pieces }
     requires moderate { AllWithin 10000000000000 prices.now }
     requires numbers { AreNumbered (length net.now.pieces) numbers.now }
+    requires kinds { (k : ℕ) → k < length net.now.pieces → entry_at numbers.now k < kinds }
+    requires firsts { AreFirsts 0 net.now.pieces numbers.now firsts.now }
+    requires slots { length firsts.now ≡ 200 * kinds }
     requires in_time { last ≤ℤ reach.now.until }
     requires over { IsBoundFrom net.now prices.now group.now reach.now 0 reach.now.until first over.now.rows.items over.now.rows.items }
     requires over_chain { IsChain net.now prices.now reach.now numbers.now over.now.rows.items first over.now.chain.items }
@@ -406,14 +460,14 @@ pub(crate) fn bounds(
     let mut rows = out_of_reach(alloc, count)?;
     let mut chain = out_of_reach(alloc, count)?;
     let mut tail = out_of_reach(alloc, count)?;
-    let mut met = unstamped(alloc, count)?;
+    let mut links = unlinked(alloc, count, kinds)?;
     let mut item = count;
     while item > first {
         item -= 1;
         let so_far = rows.as_slice();
-        let links = chain.as_slice();
+        let chained = chain.as_slice();
         let above = over.rows.as_slice();
-        let above_links = over.chain.as_slice();
+        let above_chained = over.chain.as_slice();
         let mut row = bound_row(
             net,
             class,
@@ -423,18 +477,20 @@ pub(crate) fn bounds(
             10_800,
             last,
             numbers,
+            firsts,
+            &links,
             so_far,
             above,
-            links,
-            above_links,
-            &mut met,
+            chained,
+            above_chained,
             item as u32,
         );
         raise(&mut row, &over.rows[item]);
         rows[item] = row;
         let now = rows.as_slice();
-        let link = chain_row(net, prices, reach, numbers, now, &mut tail, item as u32);
-        chain[item] = link;
+        let least = chain_row(net, prices, reach, numbers, now, &mut tail, item as u32);
+        chain[item] = least;
+        link(&mut links, numbers, item as u32);
     }
     Ok(rows)
 }

@@ -1,6 +1,6 @@
-//! The marks of a group of lists as labels.
+//! The marks of the lists whose first pieces are a range, as labels.
 
-ghost use Rattle.std.specs.Prelude.{◌≡◌, ◌<◌, ◌≤◌, ◌*◌, ◌≤ℤ◌, ◌<ℤ◌, ◌+ℤ◌, ◌-ℤ◌, neg_ℤ, pos, length, cond, int_le, int_lt, IfSome, Some, None, true, not, ◌||◌, slice_get};
+ghost use Rattle.std.specs.Prelude.{◌≡◌, ◌<◌, ◌≤◌, ◌≤ℤ◌, ◌<ℤ◌, ◌+ℤ◌, ◌-ℤ◌, neg_ℤ, pos, length, cond, int_le, int_lt, IfOk, IfSome, Some, None, true, not, ◌||◌, slice_get};
 ghost use Rattle.cover_core.specs.FirstLeast.{AllWithin};
 ghost use Rattle.cover_core.specs.Plans.{price_at};
 ghost use Rattle.label_search.specs.Limits.{is_low, passed};
@@ -8,35 +8,43 @@ ghost use Rattle.plan_params.specs.Limits.{IsGroup};
 ghost use Rattle.duty_network.specs.Duties.{limits_of, pause_at};
 ghost use Rattle.duty_network.specs.Marks.{closed_value, extended_mark, is_as_good};
 ghost use Rattle.duty_network.specs.Ranges.{NetFits};
-ghost use Rattle.duty_pricing.specs.Bounds.{AllWithin-prop, AreBounds, IsGroupMark, IsLatest, IsReach, cell_at, floor_of, units_left as left_of};
+ghost use Rattle.duty_pricing.specs.Bounds.{AllWithin-prop, AreBounds, IsLatest, IsNumbering, IsRangeMark, IsReach, cell_at, floor_of, units_left as left_of};
 ghost use Rattle.duty_pricing.specs.Laws.{duty-hides, duty-kept, duty-safe, duty-stepwise, duty-valued, duty_labels};
 
 use crate::bounds::pick;
-use crate::reach::{Reach, in_units, units_left};
+use crate::numbering::PieceNumbers;
+use crate::reach::{Reach, day_of, in_units, latest_start, reach_of, units_left};
 use crate::rows::{Row, cell};
+use crate::tables::{BoundTables, tables};
 use cover_core::Mark;
 use duty_network::DutyNet;
 use label_search::Labels;
-use plan_core::Price;
+use plan_core::{Memory, Price};
 use plan_params::Group;
+use std::alloc::Global;
 
-/// The marks of the lists of a class whose first item is in a group, with completion bounds for each piece of the group and behind it.
+/// The marks of the lists of a class whose first piece is one from a first one on and before an end, at some prices, with completion
+/// bounds for each piece from the first one on.
 #[derive(Drop)]
-pub(crate) struct DutyLabels<'a, 'p> {
+pub struct DutyLabels<'a, 'p> {
     pub net: &'a DutyNet<'p>,
     pub class: u32,
+    /// The group of drivers that the class is.
     pub crew: Group,
-    /// The most driving of a day of the group, in seconds.
-    pub day: u32,
     pub prices: &'a [Price],
-    pub reach: Reach,
+    /// The first piece with which lists may begin.
+    pub first: u32,
+    /// Lists begin with an earlier piece than this one.
+    pub end: u32,
+    /// The most driving of a day of the group, in seconds.
+    day: u32,
+    reach: Reach,
     /// Of lists without a long pause so far.
-    pub rows: &'a [Row],
+    rows: Vec<Row>,
     /// Of lists with a long pause.
-    pub over: &'a [Row],
-    pub group: u32,
-    /// No list of the group signs on later.
-    pub latest: i64,
+    over: Vec<Row>,
+    /// No list signs on later.
+    latest: i64,
     ghost fits: { NetFits net.now },
     ghost of_class: { slice_get net.now.params.groups class ≡ Some crew },
     ghost ranges: { IsGroup crew },
@@ -44,9 +52,9 @@ pub(crate) struct DutyLabels<'a, 'p> {
     ghost count: { length prices.now ≡ length net.now.pieces },
     ghost moderate: { AllWithin 10000000000000 prices.now } by { AllWithin-prop 10000000000000 prices.now },
     ghost in_reach: { IsReach reach },
-    ghost starts: { IsLatest net.now prices.now class crew group latest },
+    ghost starts: { IsLatest net.now prices.now class crew first end latest },
     ghost ends: { reach.until ≡ latest +ℤ pos 54000 },
-    ghost bound: { AreBounds net.now prices.now crew reach latest (16 * group) rows.now over.now },
+    ghost bound: { AreBounds net.now prices.now crew reach latest first rows.items over.items },
 }
 
 /// The price of a piece.
@@ -117,6 +125,58 @@ fn is_better(a: &Mark, b: &Mark) -> bool
         && a.value <= b.value
 }
 
+impl<'a, 'p> DutyLabels<'a, 'p> {
+    /// The marks of the lists of a class whose first piece is one from `first` on and before `end`, at some prices. The pieces are numbered
+    /// as `numbers_of` does.
+    ///
+    /// The completion bounds tell apart how much driving is left of a day's, in steps of 40 minutes, where `parted` says so. Then they are
+    /// sharper, and take sixteen times as long. They change the time of a search alone, and no answer. It takes memory with the pieces and
+    /// the points where they begin, and time mostly with the product of the two. `Memory` is the only error.
+    pub fn new(
+        alloc: Global,
+        net: &'a DutyNet<'p>,
+        class: u32,
+        prices: &'a [Price],
+        numbers: &PieceNumbers,
+        first: u32,
+        end: u32,
+        parted: bool,
+    ) -> Result<DutyLabels<'a, 'p>, Memory>
+        requires class { class < length net.now.params.groups }
+        requires prices { length prices.now ≡ length net.now.pieces }
+        requires moderate { AllWithin 10000000000000 prices.now }
+        requires numbers { IsNumbering (length net.now.pieces) numbers.now }
+        ensures net { IfOk result (λ labels. labels.net.now ≡ net.now) }
+        ensures class { IfOk result (λ labels. labels.class ≡ class) }
+        ensures crew { IfOk result (λ labels. slice_get net.now.params.groups class ≡ Some labels.crew) }
+        ensures prices { IfOk result (λ labels. labels.prices.now ≡ prices.now) }
+        ensures first { IfOk result (λ labels. labels.first ≡ first) }
+        ensures end { IfOk result (λ labels. labels.end ≡ end) }
+    {
+        net.fits();
+        let crew = *net.group(class);
+        let day = day_of(&crew);
+        let latest = latest_start(net, class, &crew, prices, first, end);
+        let reach = reach_of(parted, latest + 54_000);
+        let BoundTables { rows, over } = tables(
+            alloc, net, class, &crew, prices, &reach, latest, numbers, first,
+        )?;
+        Ok(DutyLabels {
+            net,
+            class,
+            crew,
+            prices,
+            first,
+            end,
+            day,
+            reach,
+            rows,
+            over,
+            latest,
+        })
+    }
+}
+
 impl DutyLabels<'_, '_> {
     /// How many units of driving are left of a day's.
     fn left(&self, total: u32) -> u32
@@ -128,13 +188,13 @@ impl DutyLabels<'_, '_> {
 
     /// What the rest of a mark's list adds to its value at least.
     pub(crate) fn rest(&self, mark: &Mark) -> i64
-        requires { IsGroupMark (length self.now.net.now.pieces) self.now.group self.now.latest mark.now }
-        ensures value { result ≡ cell_at (cond mark.now.three self.now.over.now self.now.rows.now) mark.now.piece (left_of self.now.reach self.now.crew mark.now.total) }
+        requires { IsRangeMark (length self.now.net.now.pieces) self.now.first self.now.latest mark.now }
+        ensures value { result ≡ cell_at (cond mark.now.three self.now.over.items self.now.rows.items) mark.now.piece (left_of self.now.reach self.now.crew mark.now.total) }
         ensures low { neg_ℤ (pos 30000000000000000) ≤ℤ result }
         ensures high { result ≤ℤ pos 7000000000000 }
     {
         cell(
-            pick(mark.three, self.over, self.rows),
+            pick(mark.three, self.over.as_slice(), self.rows.as_slice()),
             mark.piece,
             self.left(mark.total),
         )
@@ -142,8 +202,8 @@ impl DutyLabels<'_, '_> {
 
     /// A mark that may still close within the limit.
     fn within(&self, mark: Option<Mark>, limit: i64) -> Option<Mark>
-        requires { IfSome mark (IsGroupMark (length self.now.net.now.pieces) self.now.group self.now.latest) }
-        ensures { result ≡ passed (is_low (floor_of self.now.reach self.now.crew self.now.rows.now self.now.over.now) limit) mark }
+        requires { IfSome mark (IsRangeMark (length self.now.net.now.pieces) self.now.first self.now.latest) }
+        ensures { result ≡ passed (is_low (floor_of self.now.reach self.now.crew self.now.rows.items self.now.over.items) limit) mark }
     {
         let found = mark?;
         let rest = self.rest(&found);
@@ -155,12 +215,12 @@ impl DutyLabels<'_, '_> {
     fn is_too_high(&self, least: i64, item: u32, left: u32, limit: i64) -> bool
         requires item { item < length self.now.net.now.pieces }
         requires left { left < 16 }
-        ensures { result ≡ int_lt limit ((least -ℤ price_at self.now.prices.now item) +ℤ cell_at self.now.over.now item left) }
+        ensures { result ≡ int_lt limit ((least -ℤ price_at self.now.prices.now item) +ℤ cell_at self.now.over.items item left) }
     {
         is_above(
             least,
             price(self.prices, item),
-            cell(self.over, item, left),
+            cell(self.over.as_slice(), item, left),
             limit,
         )
     }
@@ -168,8 +228,8 @@ impl DutyLabels<'_, '_> {
     /// Whether a mark cannot go on with an item: too little driving is left, or it is above the limit then.
     fn is_over(&self, mark: &Mark, item: u32, limit: i64) -> bool
         requires item { item < length self.now.net.now.pieces }
-        requires sound { IsGroupMark (length self.now.net.now.pieces) self.now.group self.now.latest mark.now }
-        ensures { result ≡ true → passed (is_low (floor_of self.now.reach self.now.crew self.now.rows.now self.now.over.now) limit) (extended_mark self.now.net.now self.now.crew self.now.prices.now mark.now item) ≡ None }
+        requires sound { IsRangeMark (length self.now.net.now.pieces) self.now.first self.now.latest mark.now }
+        ensures { result ≡ true → passed (is_low (floor_of self.now.reach self.now.crew self.now.rows.items self.now.over.items) limit) (extended_mark self.now.net.now self.now.crew self.now.prices.now mark.now item) ≡ None }
     {
         let left = self.left(mark.total);
         let taken = in_units(&self.reach, self.net.piece(item).driving);
@@ -190,7 +250,7 @@ impl Labels for DutyLabels<'_, '_> {
 
     ghost count = { λ s. length s.net.now.pieces };
 
-    ghost labelling = { λ s. duty_labels s.net.now s.prices.now s.class s.crew s.group };
+    ghost labelling = { λ s. duty_labels s.net.now s.prices.now s.class s.crew s.first s.end };
 
     ghost good = { λ s. is_as_good };
 
@@ -200,26 +260,26 @@ impl Labels for DutyLabels<'_, '_> {
 
     ghost last = { λ s m. m.piece };
 
-    ghost sound = { λ s. IsGroupMark (length s.net.now.pieces) s.group s.latest };
+    ghost sound = { λ s. IsRangeMark (length s.net.now.pieces) s.first s.latest };
 
-    ghost may_close = { λ s. is_low (floor_of s.reach s.crew s.rows.now s.over.now) };
+    ghost may_close = { λ s. is_low (floor_of s.reach s.crew s.rows.items s.over.items) };
 
-    ghost kept = { λ s. duty-kept s.net.now s.prices.now s.class s.crew s.group };
+    ghost kept = { λ s. duty-kept s.net.now s.prices.now s.class s.crew s.first s.end };
 
-    ghost valued = { λ s. duty-valued s.net.now s.prices.now s.class s.crew s.group };
+    ghost valued = { λ s. duty-valued s.net.now s.prices.now s.class s.crew s.first s.end };
 
-    ghost stepwise = { λ s. duty-stepwise s.net.now s.prices.now s.class s.crew s.group };
+    ghost stepwise = { λ s. duty-stepwise s.net.now s.prices.now s.class s.crew s.first s.end };
 
-    ghost safe = { λ s. duty-safe s.net.now s.prices.now s.class s.crew s.group s.latest s.fits s.ranges s.moderate s.starts };
+    ghost safe = { λ s. duty-safe s.net.now s.prices.now s.class s.crew s.first s.end s.latest s.fits s.ranges s.moderate s.starts };
 
-    ghost hides_none = { λ s. duty-hides s.net.now s.prices.now s.class s.crew s.group s.reach s.latest s.rows.now s.over.now s.in_reach s.ends s.bound };
+    ghost hides_none = { λ s. duty-hides s.net.now s.prices.now s.class s.crew s.first s.end s.reach s.latest s.rows.items s.over.items s.in_reach s.ends s.bound };
 
     fn items(&self) -> u32 {
         self.net.pieces().len() as u32
     }
 
     fn start(&self, item: u32, limit: i64) -> Option<Mark> {
-        if item / 16 == self.group {
+        if self.first <= item && item < self.end {
             self.within(
                 self.net.first(self.class, &self.crew, self.prices, item),
                 limit,

@@ -1,15 +1,22 @@
 //! Pricing of duties for column generation in crew scheduling: a shortest path with resources over the pieces of a day, found by marks
-//! with dominance under a completion bound. Each answer is the first least of all lawful duties of a group of drivers.
+//! with dominance under a completion bound. Each answer is the first least of all lawful duties of a group of drivers. The labels of the
+//! search may be used alone too, for lists that begin with any range of pieces.
 #![tactic(auto)]
 
+mod begins;
 mod bounds;
 mod labels;
 mod likely;
+mod links;
+mod looked;
 mod numbering;
 mod pricer;
 mod reach;
 mod rows;
+mod tables;
 #[cfg(test)]
 mod tests;
 
+pub use labels::DutyLabels;
+pub use numbering::{PieceNumbers, numbers_of};
 pub use pricer::DutyPricer;

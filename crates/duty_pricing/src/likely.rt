@@ -1,7 +1,7 @@
 //! Limits under which the first least list is likely to be found: they change the time of a search alone.
 
 ghost use Rattle.std.specs.Prelude.{IfSome, length};
-ghost use Rattle.duty_pricing.specs.Bounds.{IsGroupMark};
+ghost use Rattle.duty_pricing.specs.Bounds.{IsRangeMark};
 
 use crate::labels::DutyLabels;
 use cover_core::Mark;
@@ -20,16 +20,16 @@ fn part_way(from: i64, to: i64, percent: i64) -> i64 {
 impl DutyLabels<'_, '_> {
     /// What a list closes with at least.
     fn floor(&self, mark: &Mark) -> i64
-        requires { IsGroupMark (length self.now.net.now.pieces) self.now.group self.now.latest mark.now }
+        requires { IsRangeMark (length self.now.net.now.pieces) self.now.first self.now.latest mark.now }
     {
         mark.value + self.rest(mark)
     }
 
     /// The lower of two marks by what their lists close with at least.
     fn lower_mark(&self, best: Option<Mark>, next: Option<Mark>) -> Option<Mark>
-        requires best { IfSome best (IsGroupMark (length self.now.net.now.pieces) self.now.group self.now.latest) }
-        requires next { IfSome next (IsGroupMark (length self.now.net.now.pieces) self.now.group self.now.latest) }
-        ensures { IfSome result (IsGroupMark (length self.now.net.now.pieces) self.now.group self.now.latest) }
+        requires best { IfSome best (IsRangeMark (length self.now.net.now.pieces) self.now.first self.now.latest) }
+        requires next { IfSome next (IsRangeMark (length self.now.net.now.pieces) self.now.first self.now.latest) }
+        ensures { IfSome result (IsRangeMark (length self.now.net.now.pieces) self.now.first self.now.latest) }
     {
         match (best, next) {
             (best, None) => best,
@@ -46,8 +46,8 @@ impl DutyLabels<'_, '_> {
 
     /// Of the extensions of a mark within a limit the one that closes with the least at least.
     fn dive_step(&self, mark: &Mark, limit: i64) -> Option<Mark>
-        requires { IsGroupMark (length self.now.net.now.pieces) self.now.group self.now.latest mark.now }
-        ensures { IfSome result (IsGroupMark (length self.now.net.now.pieces) self.now.group self.now.latest) }
+        requires { IsRangeMark (length self.now.net.now.pieces) self.now.first self.now.latest mark.now }
+        ensures { IfSome result (IsRangeMark (length self.now.net.now.pieces) self.now.first self.now.latest) }
     {
         let mut best = None;
         for item in mark.piece + 1..self.items() {
@@ -58,7 +58,7 @@ impl DutyLabels<'_, '_> {
 
     /// The least value with which some of the lists that a dive from a mark goes through close, or the limit.
     fn dive(&self, first: Mark, limit: i64) -> i64
-        requires { IsGroupMark (length self.now.net.now.pieces) self.now.group self.now.latest first }
+        requires { IsRangeMark (length self.now.net.now.pieces) self.now.first self.now.latest first }
     {
         let mut mark = first;
         let mut least = limit;
@@ -76,7 +76,7 @@ impl DutyLabels<'_, '_> {
 
     /// Of the marks of lists of one piece within a limit the one that closes with the least at least.
     pub(crate) fn first_mark(&self, limit: i64) -> Option<Mark>
-        ensures { IfSome result (IsGroupMark (length self.now.net.now.pieces) self.now.group self.now.latest) }
+        ensures { IfSome result (IsRangeMark (length self.now.net.now.pieces) self.now.first self.now.latest) }
     {
         let mut best = None;
         for item in 0..self.items() {
@@ -85,7 +85,7 @@ impl DutyLabels<'_, '_> {
         best
     }
 
-    /// The least value with which some of the lists close that dives from the pieces of the group go through, or the limit.
+    /// The least value with which some of the lists close that dives from the pieces of the range go through, or the limit.
     fn dive_all(&self, limit: i64) -> i64 {
         let mut least = limit;
         for item in 0..self.items() {

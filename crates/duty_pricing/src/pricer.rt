@@ -1,16 +1,12 @@
 //! The pricer of duties.
 
-ghost use Rattle.std.specs.Prelude.{◌≡◌, ◌<◌, ◌≤◌, ◌≤ℤ◌, neg_ℤ, pos, length, IfOk, IfSome, Some, slice_get};
+ghost use Rattle.std.specs.Prelude.{◌≡◌, ◌<◌, ◌≤◌, ◌*◌, length, IfOk, IfSome};
 ghost use Rattle.cover_core.specs.Best.{best_of, within};
 ghost use Rattle.cover_core.specs.FirstLeast.{AllWithin};
 ghost use Rattle.duty_network.specs.Duties.{duties};
-ghost use Rattle.duty_pricing.specs.Bounds.{AreNumbered, IsLatest};
-ghost use Rattle.plan_params.specs.declared.rows.group.Group.{Group as AnyGroup};
 
-use crate::bounds::{bounds, bounds_over};
 use crate::labels::DutyLabels;
 use crate::numbering::numbers_of;
-use crate::reach::{day_of, last_end, latest_start, one_unit, units_of_40_minutes};
 use cover_core::{Column, Columns, Pricer, Prices};
 use duty_network::DutyNet;
 use label_search::best_column;
@@ -41,72 +37,6 @@ impl<'n> DutyPricer<'n> {
     }
 }
 
-/// The first least duty of a class and group within the limit, where driving that is left is told apart.
-fn best_parted(
-    alloc: Global,
-    net: &DutyNet<'_>,
-    class: u32,
-    prices: &[Price],
-    numbers: &[u32],
-    group: u32,
-    latest: i64,
-    limit: i64,
-) -> Result<Option<Column>, Memory>
-    requires class { class < length net.now.params.groups }
-    requires prices { length prices.now ≡ length net.now.pieces }
-    requires moderate { AllWithin 10000000000000 prices.now }
-    requires numbers { AreNumbered (length net.now.pieces) numbers.now }
-    requires latest { (crew : AnyGroup) → slice_get net.now.params.groups class ≡ Some crew → IsLatest net.now prices.now class crew group latest }
-    requires early { neg_ℤ (pos 345600) ≤ℤ latest }
-    requires late { latest ≤ℤ pos 345600 }
-    ensures best { IfOk result (λ answer. answer ≡ within limit prices.now (best_of (duties net.now) prices.now class group)) }
-    ensures bound { IfOk result (λ answer. IfSome answer (λ column. column.worth ≤ 4000000000)) }
-{
-    net.fits();
-    let crew = *net.group(class);
-    let day = day_of(&crew);
-    let reach = units_of_40_minutes(latest + 54_000);
-    let over = bounds_over(
-        alloc,
-        net,
-        class,
-        &crew,
-        prices,
-        &reach,
-        numbers,
-        group as usize * 16,
-    )?;
-    let last = last_end(&crew, latest);
-    let rows = bounds(
-        alloc,
-        net,
-        class,
-        &crew,
-        prices,
-        &reach,
-        last,
-        numbers,
-        &over,
-        group as usize * 16,
-    )?;
-    let short = rows.as_slice();
-    let long = over.rows.as_slice();
-    let labels = DutyLabels {
-        net,
-        class,
-        crew,
-        day,
-        prices,
-        reach,
-        rows: short,
-        over: long,
-        group,
-        latest,
-    };
-    let likely = labels.likely(limit);
-    best_column(alloc, net, &labels, class, &likely, limit)
-}
-
 /// The first least duty of a class and group, where its value is at most the limit.
 ///
 /// Most calls end with the first bounds, which do not tell apart how much driving is left: no list of the group may close within the
@@ -122,66 +52,21 @@ fn best_duty(
     requires class { class < length net.now.params.groups }
     requires prices { length prices.now ≡ length net.now.pieces }
     requires moderate { AllWithin 10000000000000 prices.now }
+    requires group { 16 * group < length net.now.pieces }
     ensures best { IfOk result (λ answer. answer ≡ within limit prices.now (best_of (duties net.now) prices.now class group)) }
     ensures bound { IfOk result (λ answer. IfSome answer (λ column. column.worth ≤ 4000000000)) }
 {
     net.fits();
-    let crew = *net.group(class);
-    let day = day_of(&crew);
+    let first = 16 * group;
+    let end = first + 16;
     let numbers = numbers_of(alloc, net.pieces())?;
-    let latest = latest_start(net, class, &crew, prices, group);
-    let reach = one_unit(latest + 54_000);
-    let over = bounds_over(
-        alloc,
-        net,
-        class,
-        &crew,
-        prices,
-        &reach,
-        numbers.as_slice(),
-        group as usize * 16,
-    )?;
-    let last = last_end(&crew, latest);
-    let rows = bounds(
-        alloc,
-        net,
-        class,
-        &crew,
-        prices,
-        &reach,
-        last,
-        numbers.as_slice(),
-        &over,
-        group as usize * 16,
-    )?;
-    let short = rows.as_slice();
-    let long = over.rows.as_slice();
-    let labels = DutyLabels {
-        net,
-        class,
-        crew,
-        day,
-        prices,
-        reach,
-        rows: short,
-        over: long,
-        group,
-        latest,
-    };
-    if labels.first_mark(limit).is_some() {
-        best_parted(
-            alloc,
-            net,
-            class,
-            prices,
-            numbers.as_slice(),
-            group,
-            latest,
-            limit,
-        )
-    } else {
-        best_column(alloc, net, &labels, class, &[], limit)
+    let whole = DutyLabels::new(alloc, net, class, prices, &numbers, first, end, false)?;
+    if whole.first_mark(limit).is_none() {
+        return best_column(alloc, net, &whole, class, &[], limit);
     }
+    let parted = DutyLabels::new(alloc, net, class, prices, &numbers, first, end, true)?;
+    let likely = parted.likely(limit);
+    best_column(alloc, net, &parted, class, &likely, limit)
 }
 
 impl Columns for DutyPricer<'_> {

@@ -1,6 +1,6 @@
 //! How far lists are looked at, and how much driving is left of a day.
 
-ghost use Rattle.std.specs.Prelude.{◌≡◌, ◌<◌, ◌-◌, ◌/◌, ◌≤ℤ◌, ◌+ℤ◌, ℤ, neg_ℤ, pos, length, Some, slice_get};
+ghost use Rattle.std.specs.Prelude.{◌≡◌, ◌<◌, ◌≤◌, ◌-◌, ◌/◌, ◌≤ℤ◌, ◌+ℤ◌, ℤ, neg_ℤ, pos, length, Some, slice_get};
 ghost use Rattle.cover_core.specs.FirstLeast.{AllWithin};
 ghost use Rattle.plan_params.specs.Limits.{IsGroup};
 ghost use Rattle.cover_core.specs.declared.marks.Mark.{Mark as AnyMark};
@@ -25,7 +25,7 @@ pub(crate) struct Reach {
 }
 
 /// One unit for the whole day of driving: no amounts are told apart.
-pub(crate) const fn one_unit(until: i64) -> Reach
+const fn one_unit(until: i64) -> Reach
     ensures reach { spec.IsReach result }
     ensures until { result.until ≡ until }
 {
@@ -37,7 +37,7 @@ pub(crate) const fn one_unit(until: i64) -> Reach
 }
 
 /// Driving is told apart in steps of 40 minutes.
-pub(crate) const fn units_of_40_minutes(until: i64) -> Reach
+const fn units_of_40_minutes(until: i64) -> Reach
     ensures reach { spec.IsReach result }
     ensures until { result.until ≡ until }
 {
@@ -45,6 +45,18 @@ pub(crate) const fn units_of_40_minutes(until: i64) -> Reach
         unit: 2_400,
         width: 16,
         until,
+    }
+}
+
+/// How far lists are looked at, where driving that is left is told apart or is not.
+pub(crate) const fn reach_of(parted: bool, until: i64) -> Reach
+    ensures reach { spec.IsReach result }
+    ensures until { result.until ≡ until }
+{
+    if parted {
+        units_of_40_minutes(until)
+    } else {
+        one_unit(until)
     }
 }
 
@@ -94,13 +106,14 @@ fn greater(a: i64, b: i64) -> i64
     if a < b { b } else { a }
 }
 
-/// The later of a time and the sign-on of the list of one piece, where that piece is in a group of pieces.
+/// The later of a time and the sign-on of the list of one piece, where that piece is one from a first one on and before an end.
 fn later_start(
     net: &DutyNet<'_>,
     class: u32,
     crew: &Group,
     prices: &[Price],
-    group: u32,
+    first: u32,
+    end: u32,
     item: u32,
     latest: i64,
 ) -> i64
@@ -111,11 +124,11 @@ fn later_start(
     requires low { neg_ℤ (pos 345600) ≤ℤ latest }
     requires high { latest ≤ℤ pos 345600 }
     ensures kept { latest ≤ℤ result }
-    ensures own { (m : AnyMark) → item / 16 ≡ group → first_mark net.now prices.now class crew.now item ≡ Some m → m.start.0 ≤ℤ result }
+    ensures own { (m : AnyMark) → first ≤ item → item < end → first_mark net.now prices.now class crew.now item ≡ Some m → m.start.0 ≤ℤ result }
     ensures high { result ≤ℤ pos 345600 }
 {
     net.fits();
-    if item / 16 != group {
+    if item < first || end <= item {
         return latest;
     }
     match net.first(class, crew, prices, item) {
@@ -124,24 +137,25 @@ fn later_start(
     }
 }
 
-/// The latest sign-on of the lists of one piece of a group of pieces.
+/// The latest sign-on of the lists of one piece, of those from a first one on and before an end.
 pub(crate) fn latest_start(
     net: &DutyNet<'_>,
     class: u32,
     crew: &Group,
     prices: &[Price],
-    group: u32,
+    first: u32,
+    end: u32,
 ) -> i64
     requires class { slice_get net.now.params.groups class ≡ Some crew.now }
     requires ranges { IsGroup crew.now }
     requires moderate { AllWithin 10000000000000 prices.now }
-    ensures latest { spec.IsLatest net.now prices.now class crew.now group result }
+    ensures latest { spec.IsLatest net.now prices.now class crew.now first end result }
     ensures low { neg_ℤ (pos 345600) ≤ℤ result }
     ensures high { result ≤ℤ pos 345600 }
 {
     let mut latest = -345_600;
     for item in 0..net.pieces().len() as u32 {
-        latest = later_start(net, class, crew, prices, group, item, latest);
+        latest = later_start(net, class, crew, prices, first, end, item, latest);
     }
     latest
 }

@@ -6,9 +6,10 @@ ghost use Rattle.cover_core.specs.FirstLeast.{AllWithin};
 ghost use Rattle.plan_params.specs.Limits.{HaveRanges};
 ghost use Rattle.duty_network.specs.Ranges.{IsShift};
 
-use crate::DutyPricer;
+use crate::{DutyLabels, DutyPricer, numbers_of};
 use cover_core::{Column, Columns, Pricer, Prices, Worth};
 use duty_network::DutyNet;
+use label_search::{Found, search};
 use plan_core::{Memory, Piece, Point, Price, Sec, Seq};
 use plan_params::{Params, read_params};
 use std::alloc::Global;
@@ -348,6 +349,67 @@ fn the_best_duty_is_the_first_least(rt: HostRuntime) -> Result<(), Fail> {
     ];
     for (late, worth, prices, least, place) in cases {
         assert!(rt; agrees(rt.alloc(), &params, late, worth, prices, least, place)?);
+    }
+    Ok(())
+}
+
+/// The first least of the lists of value 0 at most whose first piece is one from a first one on and before an end.
+fn first_between(
+    alloc: Global,
+    net: &DutyNet<'_>,
+    prices: [u32; 3],
+    first: u32,
+    end: u32,
+) -> Result<Option<Found>, Memory> {
+    let prices = prices_of(alloc, prices)?;
+    if net.pieces().len() != 3 || net.groups().len() != 1 {
+        return Ok(None);
+    }
+    let numbers = numbers_of(alloc, net.pieces())?;
+    let prices = prices.items.as_slice();
+    let labels = DutyLabels::new(alloc, net, 0, prices, &numbers, first, end, true)?;
+    search(alloc, &labels, &[], 0)
+}
+
+/// Whether what was found is this list where there is a place, else nothing.
+fn is_found(found: &Option<Found>, place: Option<usize>) -> bool {
+    match (found, place) {
+        (None, None) => true,
+        (Some(found), Some(place)) => found.list.as_slice() == list_at(place),
+        _ => false,
+    }
+}
+
+/// Whether the first least of the lists that begin in a range is that at a place, if there is one.
+fn begins_with(
+    alloc: Global,
+    params: &Params,
+    first: u32,
+    end: u32,
+    place: Option<usize>,
+) -> Result<bool, Fail>
+    requires { HaveRanges params.now }
+{
+    let pieces = Seq::from_vec(pieces_of(alloc, false)?);
+    if !are_shifts(pieces.as_slice()) || pieces.len() > 3_000 {
+        return Ok(false);
+    }
+    let net = DutyNet::new(alloc, pieces, params, Worth::Count)?;
+    let found = first_between(alloc, &net, [0, 1_001, 0], first, end)?;
+    Ok(is_found(&found, place))
+}
+
+#[test]
+fn lists_begin_in_their_range(rt: HostRuntime) -> Result<(), Fail> {
+    let params = settings(rt.alloc(), SETTINGS)?;
+    let cases = [
+        (0, 1, Some(2)),
+        (1, 2, Some(1)),
+        (2, 3, None),
+        (0, 3, Some(1)),
+    ];
+    for (first, end, place) in cases {
+        assert!(rt; begins_with(rt.alloc(), &params, first, end, place)?);
     }
     Ok(())
 }

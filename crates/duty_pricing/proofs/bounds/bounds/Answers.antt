@@ -1,10 +1,12 @@
-use Rattle.std.proofs.Common.{◌≡◌, ◌≢◌, ◌-◌, ◌+◌, ◌≤◌, ◌∙◌, ℕ, ℤ, List, ap, set, subst, sym, refl, length, arith, rules, w64}
+use Rattle.std.proofs.Common.{◌≡◌, ◌-◌, ◌+◌, ◌≤◌, ◌∙◌, ℕ, ℤ, List, ap, set, subst, sym, refl, length, replicate, arith, rules, w64}
 use Rattle.std.proofs.lemmas.Int.{to_z-of_z}
 use Rattle.std.specs.Prelude.{FitsSigned}
 use Rattle.plan_core.specs.declared.types.Piece.{Piece}
-use Rattle.duty_pricing.specs.Bounds.{AreBelow, AreOut, AreRows, AreStamped, IsBoundFrom, IsBoundRow, IsChain, IsRaised, IsTail, row_at}
+use Rattle.duty_pricing.specs.Bounds.{AreBelow, AreOut, AreRows, IsBoundFrom, IsBoundRow, IsChain, IsRaised, IsTail, row_at}
 use Rattle.duty_pricing.proofs.Bounding.{bounded-from, chain-from, chain-kept, chained, more-rows, out-below, out-chain, out-tail, placed, raised-below, raised-falls, raised-low, raised-row, row-others, rows-from, tail-kept, unbounded}
-use Rattle.duty_pricing.proofs.Stamps.{row-read}
+use Rattle.duty_pricing.proofs.Entries.{row-read}
+use Rattle.duty_pricing.specs.Links.{AreLinked}
+use Rattle.duty_pricing.proofs.Looking.{count-replicate, none-linked}
 use Rattle.duty_pricing.proofs.bounds.bounds.Goals as goal
 
 pub bound_row-row-requires-clause-rows : goal.bound_row-row-requires-clause-rows
@@ -36,7 +38,7 @@ bound_row-row-requires-clause-chain c =
     let P : ℕ → Type 0 = λ m. IsChain d c.args.prices.now c.args.reach.now c.args.numbers.now c.loop-item.rows.items m c.loop-item.chain.items in
     let Q : List (List ℤ) → Type 0 = λ l. IsChain d c.args.prices.now c.args.reach.now c.args.numbers.now l ((c.loop-item.item - 1) + 1) c.loop-item.chain.items in
     let R : List (List ℤ) → Type 0 = λ l. IsChain d c.args.prices.now c.args.reach.now c.args.numbers.now c.as_slice-so_far.result.now ((c.loop-item.item - 1) + 1) l in
-    subst R (sym c.as_slice-links.ensures.value) (subst Q (sym c.as_slice-so_far.ensures.value) (subst P one c.loop-item.invariant.chain))
+    subst R (sym c.as_slice-chained.ensures.value) (subst Q (sym c.as_slice-so_far.ensures.value) (subst P one c.loop-item.invariant.chain))
 
 pub bound_row-row-requires-clause-over_chain : goal.bound_row-row-requires-clause-over_chain
 bound_row-row-requires-clause-over_chain c =
@@ -45,17 +47,29 @@ bound_row-row-requires-clause-over_chain c =
     let one : c.loop-item.item ≡ (c.loop-item.item - 1) + 1 = omega arith in
     let Q : List (List ℤ) → Type 0 = λ l. IsChain d c.args.prices.now c.args.reach.now c.args.numbers.now l ((c.loop-item.item - 1) + 1) c.args.over.now.chain.items in
     let R : List (List ℤ) → Type 0 = λ l. IsChain d c.args.prices.now c.args.reach.now c.args.numbers.now c.as_slice-above.result.now ((c.loop-item.item - 1) + 1) l in
-    subst R (sym c.as_slice-above_links.ensures.value) (subst Q (sym c.as_slice-above.ensures.value)
+    subst R (sym c.as_slice-above_chained.ensures.value) (subst Q (sym c.as_slice-above.ensures.value)
     (chain-from d c.args.prices.now c.args.reach.now c.args.numbers.now c.args.over.now.rows.items c.args.first ((c.loop-item.item - 1) + 1) c.args.over.now.chain.items c.requires.over_chain (omega arith)))
 
-pub bound_row-row-requires-clause-met : goal.bound_row-row-requires-clause-met
-bound_row-row-requires-clause-met c =
+pub bound_row-row-requires-clause-linked : goal.bound_row-row-requires-clause-linked
+bound_row-row-requires-clause-linked c =
     let one : c.loop-item.item ≡ (c.loop-item.item - 1) + 1 = (let more = c.loop-item-test.true in omega arith) in
-    let P : ℕ → Type 0 = λ m. AreStamped (length c.args.net.now.pieces) m c.loop-item.met.items in
-    subst P one c.loop-item.invariant.met
+    let P : ℕ → Type 0 = λ m. AreLinked c.args.numbers.now m c.loop-item.links in
+    subst P one c.loop-item.invariant.linked
 
-pub chain_row-link-requires-clause-rows : goal.chain_row-link-requires-clause-rows
-chain_row-link-requires-clause-rows c =
+pub bound_row-row-requires-clause-slots : goal.bound_row-row-requires-clause-slots
+bound_row-row-requires-clause-slots c =
+    let kinds = c.loop-item.invariant.kinds in
+    let slots = c.requires.slots in
+    omega arith
+
+pub link-requires-clause-later : goal.link-requires-clause-later
+link-requires-clause-later c =
+    let one : c.loop-item.item ≡ (c.loop-item.item - 1) + 1 = (let more = c.loop-item-test.true in omega arith) in
+    let P : ℕ → Type 0 = λ m. AreLinked c.args.numbers.now m c.loop-item.links in
+    subst P one c.loop-item.invariant.linked
+
+pub chain_row-least-requires-clause-rows : goal.chain_row-least-requires-clause-rows
+chain_row-least-requires-clause-rows c =
     let n = length c.args.net.now.pieces in
     let item = c.loop-item.item - 1 in
     let more = c.loop-item-test.true in
@@ -69,8 +83,8 @@ chain_row-link-requires-clause-rows c =
     subst Q (sym c.as_slice-now.ensures.value)
     (more-rows n item c.loop-item.rows.items c.raise.new.row (subst P one c.loop-item.invariant.rows.are) (omega arith) (raised-falls c.bound_row-row.result c.raise.new.row (row_at c.args.over.now.rows.items (c.loop-item.item - 1)) c.bound_row-row.ensures.falling (c.requires.over.are.falling (c.loop-item.item - 1)) raised) (raised-low _ c.bound_row-row.result c.raise.new.row (row_at c.args.over.now.rows.items (c.loop-item.item - 1)) c.bound_row-row.ensures.low raised))
 
-pub chain_row-link-requires-clause-tail : goal.chain_row-link-requires-clause-tail
-chain_row-link-requires-clause-tail c =
+pub chain_row-least-requires-clause-tail : goal.chain_row-least-requires-clause-tail
+chain_row-least-requires-clause-tail c =
     let d = c.args.net.now in
     let item = c.loop-item.item - 1 in
     let more = c.loop-item-test.true in
@@ -91,17 +105,19 @@ loop-item-init c =
     let rows : AreOut (length d.pieces) c.in_ok-rows.rows.items = (let P : ℕ → Type 0 = λ n. AreOut n c.in_ok-rows.rows.items in subst P same c.in_ok-rows.ensures) in
     let chain : AreOut (length d.pieces) c.in_ok-chain.chain.items = (let P : ℕ → Type 0 = λ n. AreOut n c.in_ok-chain.chain.items in subst P same c.in_ok-chain.ensures) in
     let tail : AreOut (length d.pieces) c.in_ok-tail.tail.items = (let P : ℕ → Type 0 = λ n. AreOut n c.in_ok-tail.tail.items in subst P same c.in_ok-tail.ensures) in
-    let met : AreStamped (length d.pieces) (length d.pieces) c.in_ok-met.met.items = (let P : ℕ → Type 0 = λ n. AreStamped n n c.in_ok-met.met.items in subst P same c.in_ok-met.ensures) in
     let A : ℕ → Type 0 = λ n. IsBoundFrom d c.args.prices.now c.args.group.now r 10800 c.args.last n c.in_ok-rows.rows.items c.args.over.now.rows.items in
     let B : ℕ → Type 0 = λ n. IsChain d c.args.prices.now r c.args.numbers.now c.in_ok-rows.rows.items n c.in_ok-chain.chain.items in
     let C : ℕ → Type 0 = λ n. IsTail d c.args.prices.now r c.args.numbers.now c.in_ok-rows.rows.items n c.in_ok-tail.tail.items in
-    let D : ℕ → Type 0 = λ n. AreStamped (length d.pieces) n c.in_ok-met.met.items in
     record {
       within = (omega arith);
       rows = rw (to_z-of_z w64 _ last_fits) (subst A (sym same) (unbounded d c.args.prices.now c.args.group.now r 10800 c.args.last c.in_ok-rows.rows.items c.args.over.now.rows.items rows));
       chain = subst B (sym same) (out-chain d c.args.prices.now r c.args.numbers.now c.in_ok-rows.rows.items c.in_ok-chain.chain.items chain);
       tail = subst C (sym same) (out-tail d c.args.prices.now r c.args.numbers.now c.in_ok-rows.rows.items c.in_ok-tail.tail.items few tail);
-      met = subst D (sym same) met;
+      linked = (let Q : ℕ → Type 0 = λ n. AreLinked c.args.numbers.now n c.in_ok-links.links in
+          subst Q (sym same) (none-linked c.args.numbers.now c.args.kinds (length d.pieces) c.in_ok-links.links c.requires.numbers.count c.requires.kinds
+          (let R : ℕ → Type 0 = λ n. c.in_ok-links.links.heads.items ≡ replicate c.args.kinds n in subst R same c.in_ok-links.ensures.heads)
+          (let R : ℕ → Type 0 = λ n. c.in_ok-links.links.after.items ≡ replicate n n in subst R same c.in_ok-links.ensures.after)));
+      kinds = (let Q : List ℕ → Type 0 = λ l. length l ≡ c.args.kinds in subst Q (sym c.in_ok-links.ensures.heads) (count-replicate c.args.kinds _));
       below = out-below (length d.pieces) c.args.over.now.rows.items c.in_ok-rows.rows.items c.requires.over.are.count c.requires.over.are.falling rows;
     }
 
@@ -128,16 +144,17 @@ loop-item-preserved c =
     c.loop-item.invariant.below c.requires.in_time
     (subst S c.as_slice-above.ensures.value (subst Q c.as_slice-so_far.ensures.value (rw (to_z-of_z w64 _ last_fits) at c.bound_row-row.ensures.row)))
     (c.requires.over.bounds item (omega arith) (omega arith)) raised) in
-    let T : List (List ℤ) → Type 0 = λ l. IsTail d c.args.prices.now r c.args.numbers.now l item c.chain_row-link.new.tail.items in
-    let tail = subst T c.as_slice-now.ensures.value c.chain_row-link.ensures.tail in
+    let T : List (List ℤ) → Type 0 = λ l. IsTail d c.args.prices.now r c.args.numbers.now l item c.chain_row-least.new.tail.items in
+    let tail = subst T c.as_slice-now.ensures.value c.chain_row-least.ensures.tail in
     record {
       within = (omega arith);
       rows = rw (to_z-of_z w64 _ last_fits) (placed d c.args.prices.now c.args.group.now r 10800 c.args.last item rows c.args.over.now.rows.items c.args.over.now.rows.items row (subst A one (rw (to_z-of_z w64 _ last_fits) at c.loop-item.invariant.rows)) (omega arith) bound (raised-falls c.bound_row-row.result c.raise.new.row (row_at c.args.over.now.rows.items (c.loop-item.item - 1)) c.bound_row-row.ensures.falling (c.requires.over.are.falling (c.loop-item.item - 1)) raised) (raised-low _ c.bound_row-row.result c.raise.new.row (row_at c.args.over.now.rows.items (c.loop-item.item - 1)) c.bound_row-row.ensures.low raised) (λ n order. refl));
-      chain = chained d c.args.prices.now r c.args.numbers.now (set rows item row) c.loop-item.chain.items c.chain_row-link.new.tail.items item c.chain_row-link.result (omega arith)
+      chain = chained d c.args.prices.now r c.args.numbers.now (set rows item row) c.loop-item.chain.items c.chain_row-least.new.tail.items item c.chain_row-least.result (omega arith)
           (chain-kept d c.args.prices.now r c.args.numbers.now rows (set rows item row) (item + 1) c.loop-item.chain.items (subst B one c.loop-item.invariant.chain) others) tail
-          c.chain_row-link.ensures.row;
+          c.chain_row-least.ensures.row;
       tail = tail;
-      met = c.bound_row-row.ensures.met;
+      linked = c.link.ensures.linked;
+      kinds = c.link.ensures.kinds ∙ c.loop-item.invariant.kinds;
       below = raised-below c.args.over.now.rows.items rows item c.bound_row-row.result row c.loop-item.invariant.below (let count = c.loop-item.invariant.rows.are.count in omega arith) raised;
     }
 

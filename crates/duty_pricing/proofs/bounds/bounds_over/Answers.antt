@@ -1,9 +1,11 @@
-use Rattle.std.proofs.Common.{◌≡◌, ◌≢◌, ◌-◌, ◌+◌, ◌≤◌, ◌∙◌, ℕ, ℤ, List, ap, set, subst, sym, refl, length, arith, rules, w64}
+use Rattle.std.proofs.Common.{◌≡◌, ◌∙◌, ◌-◌, ◌+◌, ◌≤◌, ℕ, ℤ, List, ap, set, subst, sym, length, replicate, arith, rules, w64}
 use Rattle.std.proofs.lemmas.Int.{to_z-of_z}
 use Rattle.std.specs.Prelude.{FitsSigned}
 use Rattle.plan_core.specs.declared.types.Piece.{Piece}
-use Rattle.duty_pricing.specs.Bounds.{AreBelow, AreOut, AreRows, AreStamped, IsBoundFrom, IsBoundRow, IsChain, IsTail, row_at}
+use Rattle.duty_pricing.specs.Bounds.{AreOut, AreRows, IsBoundFrom, IsBoundRow, IsChain, IsTail, row_at}
 use Rattle.duty_pricing.proofs.Bounding.{below-self, bounded-from, chain-from, chain-kept, chained, more-rows, out-chain, out-tail, placed, row-others, tail-kept, unbounded}
+use Rattle.duty_pricing.specs.Links.{AreLinked}
+use Rattle.duty_pricing.proofs.Looking.{count-replicate, none-linked}
 use Rattle.duty_pricing.proofs.bounds.bounds_over.Goals as goal
 
 pub bound_row-row-requires-clause-rows : goal.bound_row-row-requires-clause-rows
@@ -34,7 +36,7 @@ bound_row-row-requires-clause-chain c =
     let P : ℕ → Type 0 = λ m. IsChain d c.args.prices.now c.args.reach.now c.args.numbers.now c.loop-item.rows.items m c.loop-item.chain.items in
     let Q : List (List ℤ) → Type 0 = λ l. IsChain d c.args.prices.now c.args.reach.now c.args.numbers.now l ((c.loop-item.item - 1) + 1) c.loop-item.chain.items in
     let R : List (List ℤ) → Type 0 = λ l. IsChain d c.args.prices.now c.args.reach.now c.args.numbers.now c.as_slice-so_far.result.now ((c.loop-item.item - 1) + 1) l in
-    subst R (sym c.as_slice-links.ensures.value) (subst Q (sym c.as_slice-so_far.ensures.value) (subst P one c.loop-item.invariant.chain))
+    subst R (sym c.as_slice-chained.ensures.value) (subst Q (sym c.as_slice-so_far.ensures.value) (subst P one c.loop-item.invariant.chain))
 
 pub bound_row-row-requires-clause-over_chain : goal.bound_row-row-requires-clause-over_chain
 bound_row-row-requires-clause-over_chain c =
@@ -44,16 +46,28 @@ bound_row-row-requires-clause-over_chain c =
     let P : ℕ → Type 0 = λ m. IsChain d c.args.prices.now c.args.reach.now c.args.numbers.now c.loop-item.rows.items m c.loop-item.chain.items in
     let Q : List (List ℤ) → Type 0 = λ l. IsChain d c.args.prices.now c.args.reach.now c.args.numbers.now l ((c.loop-item.item - 1) + 1) c.loop-item.chain.items in
     let R : List (List ℤ) → Type 0 = λ l. IsChain d c.args.prices.now c.args.reach.now c.args.numbers.now c.as_slice-so_far.result.now ((c.loop-item.item - 1) + 1) l in
-    subst R (sym c.as_slice-links.ensures.value) (subst Q (sym c.as_slice-so_far.ensures.value) (subst P one c.loop-item.invariant.chain))
+    subst R (sym c.as_slice-chained.ensures.value) (subst Q (sym c.as_slice-so_far.ensures.value) (subst P one c.loop-item.invariant.chain))
 
-pub bound_row-row-requires-clause-met : goal.bound_row-row-requires-clause-met
-bound_row-row-requires-clause-met c =
+pub bound_row-row-requires-clause-linked : goal.bound_row-row-requires-clause-linked
+bound_row-row-requires-clause-linked c =
     let one : c.loop-item.item ≡ (c.loop-item.item - 1) + 1 = (let more = c.loop-item-test.true in omega arith) in
-    let P : ℕ → Type 0 = λ m. AreStamped (length c.args.net.now.pieces) m c.loop-item.met.items in
-    subst P one c.loop-item.invariant.met
+    let P : ℕ → Type 0 = λ m. AreLinked c.args.numbers.now m c.loop-item.links in
+    subst P one c.loop-item.invariant.linked
 
-pub chain_row-link-requires-clause-rows : goal.chain_row-link-requires-clause-rows
-chain_row-link-requires-clause-rows c =
+pub bound_row-row-requires-clause-slots : goal.bound_row-row-requires-clause-slots
+bound_row-row-requires-clause-slots c =
+    let kinds = c.loop-item.invariant.kinds in
+    let slots = c.requires.slots in
+    omega arith
+
+pub link-requires-clause-later : goal.link-requires-clause-later
+link-requires-clause-later c =
+    let one : c.loop-item.item ≡ (c.loop-item.item - 1) + 1 = (let more = c.loop-item-test.true in omega arith) in
+    let P : ℕ → Type 0 = λ m. AreLinked c.args.numbers.now m c.loop-item.links in
+    subst P one c.loop-item.invariant.linked
+
+pub chain_row-least-requires-clause-rows : goal.chain_row-least-requires-clause-rows
+chain_row-least-requires-clause-rows c =
     let n = length c.args.net.now.pieces in
     let item = c.loop-item.item - 1 in
     let more = c.loop-item-test.true in
@@ -64,8 +78,8 @@ chain_row-link-requires-clause-rows c =
     subst Q (sym c.as_slice-now.ensures.value)
     (more-rows n item c.loop-item.rows.items c.bound_row-row.result (subst P one c.loop-item.invariant.rows.are) (omega arith) c.bound_row-row.ensures.falling c.bound_row-row.ensures.low)
 
-pub chain_row-link-requires-clause-tail : goal.chain_row-link-requires-clause-tail
-chain_row-link-requires-clause-tail c =
+pub chain_row-least-requires-clause-tail : goal.chain_row-least-requires-clause-tail
+chain_row-least-requires-clause-tail c =
     let d = c.args.net.now in
     let item = c.loop-item.item - 1 in
     let more = c.loop-item-test.true in
@@ -85,17 +99,19 @@ loop-item-init c =
     let rows : AreOut (length d.pieces) c.in_ok-rows.rows.items = (let P : ℕ → Type 0 = λ n. AreOut n c.in_ok-rows.rows.items in subst P same c.in_ok-rows.ensures) in
     let chain : AreOut (length d.pieces) c.in_ok-chain.chain.items = (let P : ℕ → Type 0 = λ n. AreOut n c.in_ok-chain.chain.items in subst P same c.in_ok-chain.ensures) in
     let tail : AreOut (length d.pieces) c.in_ok-tail.tail.items = (let P : ℕ → Type 0 = λ n. AreOut n c.in_ok-tail.tail.items in subst P same c.in_ok-tail.ensures) in
-    let met : AreStamped (length d.pieces) (length d.pieces) c.in_ok-met.met.items = (let P : ℕ → Type 0 = λ n. AreStamped n n c.in_ok-met.met.items in subst P same c.in_ok-met.ensures) in
     let A : ℕ → Type 0 = λ n. IsBoundFrom d c.args.prices.now c.args.group.now r 0 r.until n c.in_ok-rows.rows.items c.in_ok-rows.rows.items in
     let B : ℕ → Type 0 = λ n. IsChain d c.args.prices.now r c.args.numbers.now c.in_ok-rows.rows.items n c.in_ok-chain.chain.items in
     let C : ℕ → Type 0 = λ n. IsTail d c.args.prices.now r c.args.numbers.now c.in_ok-rows.rows.items n c.in_ok-tail.tail.items in
-    let D : ℕ → Type 0 = λ n. AreStamped (length d.pieces) n c.in_ok-met.met.items in
     record {
       within = (omega arith);
       rows = subst A (sym same) (unbounded d c.args.prices.now c.args.group.now r 0 r.until c.in_ok-rows.rows.items c.in_ok-rows.rows.items rows);
       chain = subst B (sym same) (out-chain d c.args.prices.now r c.args.numbers.now c.in_ok-rows.rows.items c.in_ok-chain.chain.items chain);
       tail = subst C (sym same) (out-tail d c.args.prices.now r c.args.numbers.now c.in_ok-rows.rows.items c.in_ok-tail.tail.items few tail);
-      met = subst D (sym same) met;
+      linked = (let Q : ℕ → Type 0 = λ n. AreLinked c.args.numbers.now n c.in_ok-links.links in
+          subst Q (sym same) (none-linked c.args.numbers.now c.args.kinds (length d.pieces) c.in_ok-links.links c.requires.numbers.count c.requires.kinds
+          (let R : ℕ → Type 0 = λ n. c.in_ok-links.links.heads.items ≡ replicate c.args.kinds n in subst R same c.in_ok-links.ensures.heads)
+          (let R : ℕ → Type 0 = λ n. c.in_ok-links.links.after.items ≡ replicate n n in subst R same c.in_ok-links.ensures.after)));
+      kinds = (let Q : List ℕ → Type 0 = λ l. length l ≡ c.args.kinds in subst Q (sym c.in_ok-links.ensures.heads) (count-replicate c.args.kinds _));
     }
 
 pub loop-item-preserved : goal.loop-item-preserved
@@ -113,16 +129,17 @@ loop-item-preserved c =
     let A : ℕ → Type 0 = λ n. IsBoundFrom d c.args.prices.now c.args.group.now r 0 r.until n rows rows in
     let B : ℕ → Type 0 = λ n. IsChain d c.args.prices.now r c.args.numbers.now rows n c.loop-item.chain.items in
     let bound : IsBoundRow d c.args.prices.now c.args.group.now r 0 r.until rows rows item row = (let Q : List (List ℤ) → Type 0 = λ l. IsBoundRow d c.args.prices.now c.args.group.now r 0 r.until l l item row in subst Q c.as_slice-so_far.ensures.value (rw (to_z-of_z w64 _ until_fits) at c.bound_row-row.ensures.row)) in
-    let T : List (List ℤ) → Type 0 = λ l. IsTail d c.args.prices.now r c.args.numbers.now l item c.chain_row-link.new.tail.items in
-    let tail = subst T c.as_slice-now.ensures.value c.chain_row-link.ensures.tail in
+    let T : List (List ℤ) → Type 0 = λ l. IsTail d c.args.prices.now r c.args.numbers.now l item c.chain_row-least.new.tail.items in
+    let tail = subst T c.as_slice-now.ensures.value c.chain_row-least.ensures.tail in
     record {
       within = (omega arith);
       rows = placed d c.args.prices.now c.args.group.now r 0 r.until item rows rows (set rows item row) row (subst A one c.loop-item.invariant.rows) (omega arith) bound c.bound_row-row.ensures.falling c.bound_row-row.ensures.low (λ n order. others n (omega arith));
-      chain = chained d c.args.prices.now r c.args.numbers.now (set rows item row) c.loop-item.chain.items c.chain_row-link.new.tail.items item c.chain_row-link.result (omega arith)
+      chain = chained d c.args.prices.now r c.args.numbers.now (set rows item row) c.loop-item.chain.items c.chain_row-least.new.tail.items item c.chain_row-least.result (omega arith)
           (chain-kept d c.args.prices.now r c.args.numbers.now rows (set rows item row) (item + 1) c.loop-item.chain.items (subst B one c.loop-item.invariant.chain) others) tail
-          c.chain_row-link.ensures.row;
+          c.chain_row-least.ensures.row;
       tail = tail;
-      met = c.bound_row-row.ensures.met;
+      linked = c.link.ensures.linked;
+      kinds = c.link.ensures.kinds ∙ c.loop-item.invariant.kinds;
     }
 
 pub returns-clause-rows : goal.returns-clause-rows

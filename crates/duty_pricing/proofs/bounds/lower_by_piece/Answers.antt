@@ -1,7 +1,6 @@
-use Rattle.std.proofs.Common.{◌≡◌, ◌∙◌, ◌<◌, ◌≤ℤ◌, ◌/◌, ℕ, ℤ, sym, subst, arith, rules, w64}
+use Rattle.std.proofs.Common.{◌/◌, ℕ, ℤ, subst, arith, rules, w64}
 use Rattle.std.proofs.lemmas.Int.{ints, to_z-of_z}
 use Rattle.std.specs.Prelude.{FitsSigned}
-use Rattle.plan_core.specs.declared.types.Piece.{Piece}
 use Rattle.cover_core.proofs.Values.{price_at-within}
 use Rattle.duty_pricing.specs.Bounds.{IsRowLowered, row_at}
 use Rattle.duty_pricing.proofs.Bounding.{lowered-by, not-lowered}

@@ -1,16 +1,11 @@
-use Rattle.std.proofs.Common.{◌<◌, ◌≤◌, ℕ, ℤ, length, sym, subst, set, arith}
+use Rattle.std.proofs.Common.{arith}
 use Rattle.std.proofs.lemmas.Int.{ints}
-use Rattle.duty_pricing.specs.Bounds.{IsTaken}
-use Rattle.duty_pricing.proofs.Bounding.{taken-chain}
+use Rattle.duty_pricing.specs.Links.{IsTaken, looked_of}
+use Rattle.duty_pricing.specs.declared.looked.Looked.{Looked}
+use Rattle.std.proofs.Common.{sym, subst}
+use Rattle.duty_pricing.proofs.Looking.{taken-alone, taken-chain}
 use Rattle.duty_pricing.proofs.Lowering.{row-get}
-use Rattle.duty_pricing.proofs.Stamps.{stamp-get}
 use Rattle.duty_pricing.proofs.bounds.take_step.Goals as goal
-
-pub index_mut-requires : goal.index_mut-requires
-index_mut-requires c =
-    let there = c.requires.numbers.below c.args.next c.requires.next in
-    let count = c.requires.met in
-    rw (stamp-get c.args.numbers.now c.args.next) (omega arith)
 
 pub lower_row-requires-clause-low : goal.lower_row-requires-clause-low
 lower_row-requires-clause-low c = λ x less.
@@ -22,11 +17,16 @@ lower_row-requires-clause-high c = λ x.
     let high = c.requires.chain.high c.args.next x in
     rw (row-get c.args.chain.now c.args.next) (omega (arith, ints))
 
+pub returns-then-alone : goal.returns-then-alone
+returns-then-alone c =
+    taken-alone c.args.net.now c.args.prices.now c.args.reach.now c.args.numbers.now c.args.rows.now c.args.next (looked_of c.args.all) c.args.looked c.args.row.now c.lower_by_piece.new.row
+    c.lower_by_piece.ensures
+
 pub returns-else-alone : goal.returns-else-alone
 returns-else-alone c =
     let lowered = rw (row-get c.args.chain.now c.args.next) at c.lower_row.ensures in
-    let P : ℕ → Type 0 = λ n. IsTaken c.args.net.now c.args.prices.now c.args.reach.now c.args.numbers.now c.args.rows.now c.args.next c.args.stamp c.args.met.now.items
-    (set c.args.met.now.items n c.args.stamp) c.args.row.now c.lower_row.new.row in
-    subst P (sym (stamp-get c.args.numbers.now c.args.next))
-    (taken-chain c.args.net.now c.args.prices.now c.args.reach.now c.args.numbers.now c.args.rows.now c.args.chain.now c.args.next c.args.stamp c.args.met.now.items c.args.row.now
-    c.lower_row.new.row c.requires.reach c.requires.next c.requires.numbers c.requires.met c.requires.chain lowered)
+    let P : Looked → Type 0 = λ a. IsTaken c.args.net.now c.args.prices.now c.args.reach.now c.args.numbers.now c.args.rows.now c.args.next (looked_of c.args.all) c.args.looked a c.args.row.now
+    c.lower_row.new.row in
+    subst P (sym c.looked_of.ensures)
+    (taken-chain c.args.net.now c.args.prices.now c.args.reach.now c.args.numbers.now c.args.rows.now c.args.chain.now c.args.next (looked_of c.args.all) c.args.looked c.args.row.now
+    c.lower_row.new.row c.requires.reach c.requires.next c.requires.chain lowered)

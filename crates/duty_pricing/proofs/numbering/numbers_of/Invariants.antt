@@ -1,5 +1,5 @@
 use Rattle.std.proofs.Common.{◌≡◌, ◌<◌, ◌≤◌, ℕ, length}
-use Rattle.duty_pricing.specs.Bounds.{stamp_at}
+use Rattle.duty_pricing.specs.Bounds.{entry_at}
 use Rattle.duty_pricing.proofs.numbering.numbers_of.Given as goal
 
 -- the pieces so far have numbers
@@ -7,5 +7,6 @@ abbrev pub invariant-loop-item : goal.invariant-loop-item
 invariant-loop-item l = record {
   within : l.item ≤ length l.pieces;
   count : length l.numbers.items ≡ l.item;
-  below : (k : ℕ) → k < l.item → stamp_at l.numbers.items k < length l.pieces;
+  few : l.kinds ≤ l.item;
+  below : (k : ℕ) → k < l.item → entry_at l.numbers.items k < l.kinds;
 }

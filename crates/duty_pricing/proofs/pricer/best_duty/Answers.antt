@@ -1,57 +1,29 @@
-use Rattle.std.proofs.Common.{◌≡◌, ◌*◌, ◌+ℤ◌, ◌∙◌, ℕ, ℤ, pos, List, rules, sym, subst, arith, w64}
+use Rattle.std.proofs.Common.{◌≡◌, ℤ, rules, subst, w64}
 use Rattle.std.proofs.lemmas.Int.{to_z-of_z}
 use Rattle.std.specs.Prelude.{FitsSigned, IfOk}
 use Rattle.cover_core.specs.Best.{best_of, within}
 use Rattle.duty_network.specs.Duties.{duties}
-use Rattle.plan_params.specs.declared.rows.group.Group.{Group}
-use Rattle.duty_network.proofs.Better.{Some-same}
-use Rattle.duty_pricing.specs.Bounds.{IsLatest}
-use Rattle.duty_pricing.specs.Laws.{duty-tied}
-use Rattle.duty_pricing.proofs.Bounding.{bounds-of}
+use Rattle.duty_pricing.proofs.Ties.{made-tied}
 use Rattle.duty_pricing.proofs.pricer.best_duty.Goals as goal
 
-pub invariant_of-labels : goal.invariant_of-labels
-invariant_of-labels c =
+pub returns-then-is_none-clause-best : goal.returns-then-is_none-clause-best
+returns-then-is_none-clause-best c =
     let d = c.args.net.now in
-    let g = c.group.result.now in
-    let last_fits : FitsSigned w64 c.last_end-last.result = search rules in
-    let until_fits : FitsSigned w64 (c.latest_start-latest.result +ℤ pos 54000) = search rules in
-    let latest_fits : FitsSigned w64 c.latest_start-latest.result = search rules in
-    record {
-      fits = c.fits.ensures;
-      of_class = c.group.ensures.group;
-      ranges = c.group.ensures.ranges;
-      of_day = c.day_of-day.ensures;
-      count = c.requires.prices;
-      moderate = c.requires.moderate;
-      in_reach = c.one_unit-reach.ensures.reach;
-      starts = rw (to_z-of_z w64 c.latest_start-latest.result latest_fits) c.latest_start-latest.ensures.latest;
-      ends = rw (to_z-of_z w64 c.latest_start-latest.result latest_fits) (rw (to_z-of_z w64 c.latest_start-latest.result latest_fits, to_z-of_z w64 (c.latest_start-latest.result +ℤ pos 54000) until_fits) at c.one_unit-reach.ensures.until);
-      bound = rw (to_z-of_z w64 c.latest_start-latest.result latest_fits)
-          (bounds-of d c.args.prices.now g c.one_unit-reach.result c.latest_start-latest.result c.last_end-last.result (c.args.group * 16) (16 * c.args.group) c.in_ok-rows.rows.items c.in_ok-over.over.rows.items
-          c.as_slice-short.result.now c.as_slice-long.result.now (rw (to_z-of_z w64 _ last_fits) at c.in_ok-rows.ensures.rows) c.in_ok-over.ensures.rows c.in_ok-rows.ensures.below
-          (rw (to_z-of_z w64 c.latest_start-latest.result latest_fits) at c.last_end-last.ensures.value)
-          (rw (to_z-of_z w64 c.latest_start-latest.result latest_fits, to_z-of_z w64 (c.latest_start-latest.result +ℤ pos 54000) until_fits) at c.one_unit-reach.ensures.until) (omega arith) c.as_slice-short.ensures.value c.as_slice-long.ensures.value);
-    }
-
-pub best_parted-requires-clause-latest : goal.best_parted-requires-clause-latest
-best_parted-requires-clause-latest c = λ crew is.
-    let until_fits : FitsSigned w64 (c.latest_start-latest.result +ℤ pos 54000) = search rules in
-    let latest_fits : FitsSigned w64 c.latest_start-latest.result = search rules in
-    let same : c.group.result.now ≡ crew = Some-same c.group.result.now crew (sym c.group.ensures.group ∙ is) in
-    let P : Group → Type 0 = λ g. IsLatest c.args.net.now c.args.prices.now c.args.class g c.args.group c.latest_start-latest.result in
-    rw (to_z-of_z w64 c.latest_start-latest.result latest_fits) (subst P same c.latest_start-latest.ensures.latest)
+    let labels = c.in_ok-whole.whole in
+    let own = c.in_ok-whole.ensures in
+    let fits : FitsSigned w64 c.args.limit = search rules in
+    let P : ℤ → Type 0 = λ z. IfOk c.best_column.result (λ answer. answer ≡ within z c.args.prices.now (best_of (duties d) c.args.prices.now c.args.class c.args.group)) in
+    subst P (to_z-of_z w64 c.args.limit fits) (c.best_column.ensures.best c.args.prices.now c.args.group
+    (made-tied d labels.net.now c.args.prices.now labels.prices.now c.args.class labels.class labels.crew c.args.group labels.first labels.end own.net own.prices own.class own.first own.end own.crew
+    c.fits.ensures))
 
 pub returns-clause-best : goal.returns-clause-best
 returns-clause-best c =
     let d = c.args.net.now in
-    let g = c.group.result.now in
+    let labels = c.in_ok-parted.parted in
+    let own = c.in_ok-parted.ensures in
     let fits : FitsSigned w64 c.args.limit = search rules in
-    let P : ℤ → Type 0 = λ z. IfOk c.best_column.result (λ answer. answer ≡ within z c.args.prices.now (best_of (duties d) c.args.prices.now c.args.class c.args.group)) in
-    subst P (to_z-of_z w64 c.args.limit fits) (c.best_column.ensures.best c.args.prices.now c.args.group (duty-tied d c.args.prices.now c.args.class g c.args.group c.group.ensures.group c.fits.ensures))
-
-pub returns-then-is_some-clause-best : goal.returns-then-is_some-clause-best
-returns-then-is_some-clause-best c =
-    let fits : FitsSigned w64 c.args.limit = search rules in
-    let P : ℤ → Type 0 = λ z. IfOk c.best_parted.result (λ answer. answer ≡ within z c.args.prices.now (best_of (duties c.args.net.now) c.args.prices.now c.args.class c.args.group)) in
-    subst P (to_z-of_z w64 c.args.limit fits) c.best_parted.ensures.best
+    let P : ℤ → Type 0 = λ z. IfOk c.best_column-2.result (λ answer. answer ≡ within z c.args.prices.now (best_of (duties d) c.args.prices.now c.args.class c.args.group)) in
+    subst P (to_z-of_z w64 c.args.limit fits) (c.best_column-2.ensures.best c.args.prices.now c.args.group
+    (made-tied d labels.net.now c.args.prices.now labels.prices.now c.args.class labels.class labels.crew c.args.group labels.first labels.end own.net own.prices own.class own.first own.end own.crew
+    c.fits.ensures))

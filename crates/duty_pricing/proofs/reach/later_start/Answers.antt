@@ -7,7 +7,7 @@ use Rattle.duty_network.proofs.Sizes.{marking-safe}
 use Rattle.duty_pricing.proofs.reach.later_start.Goals as goal
 
 pub returns-in-Some-clause-own : goal.returns-in-Some-clause-own
-returns-in-Some-clause-own c = λ m own e.
+returns-in-Some-clause-own c = λ m from up e.
     let fits : FitsSigned w64 c.greater.result = search rules in
     let start_fits : FitsSigned w64 c.in-Some.mark.start.0 = search rules in
     let same : c.in-Some.mark ≡ m = Some-same c.in-Some.mark m (sym c.in-Some.is ∙ c.first.ensures ∙ e) in
@@ -25,4 +25,4 @@ returns-in-Some-clause-high c =
     ((rw (to_z-of_z w64 _ latest_fits, to_z-of_z w64 _ start_fits) at c.greater.ensures.least) (pos 345600) c.requires.high mark.late)
 
 pub returns-in-None-clause-own : goal.returns-in-None-clause-own
-returns-in-None-clause-own c = λ m own e. absurd (let bad : None ≡ Some m = sym c.in-None.is ∙ c.first.ensures ∙ e in cc)
+returns-in-None-clause-own c = λ m from up e. absurd (let bad : None ≡ Some m = sym c.in-None.is ∙ c.first.ensures ∙ e in cc)

@@ -1,4 +1,4 @@
-use Rattle.std.proofs.Common.{◌≡◌, ◌≤ℤ◌, ◌/◌, ℕ, length, ap, subst, arith, rules, w64, List}
+use Rattle.std.proofs.Common.{◌≡◌, ◌<◌, ◌≤◌, ◌≤ℤ◌, ℕ, length, ap, subst, arith, rules, w64, List}
 use Rattle.std.proofs.lemmas.Int.{ints, to_z-of_z}
 use Rattle.std.specs.Prelude.{FitsSigned, Some}
 use Rattle.plan_core.specs.declared.types.Piece.{Piece}
@@ -18,17 +18,18 @@ loop-item-preserved c =
     (record {
       low = omega (arith, ints);
       high = c.later_start-latest.ensures.high;
-      so_far = λ item m before own e. split (m.start.0 ≤ℤ next) item c.loop-item.item
+      so_far = λ item m before from up e. split (m.start.0 ≤ℤ next) item c.loop-item.item
           (λ same.
-          let P : ℕ → Type 0 = λ n. n / 16 ≡ c.args.group in
+          let P : ℕ → Type 0 = λ n. c.args.first ≤ n in
+          let R : ℕ → Type 0 = λ n. n < c.args.end in
           let Q : ℕ → Type 0 = λ n. first_mark d c.args.prices.now c.args.class c.args.crew.now n ≡ Some m in
-          c.later_start-latest.ensures.own m (subst P same own) (subst Q same e))
-          (λ apart. let early = c.loop-item.invariant.so_far item m (omega arith) own e in omega (arith, ints));
+          c.later_start-latest.ensures.own m (subst P same from) (subst R same up) (subst Q same e))
+          (λ apart. let early = c.loop-item.invariant.so_far item m (omega arith) from up e in omega (arith, ints));
     })
 
 pub returns-clause-latest : goal.returns-clause-latest
-returns-clause-latest c = λ item m own e.
+returns-clause-latest c = λ item m from up e.
     let (below, last) = (marking-stepwise c.args.net.now c.args.prices.now c.args.class c.args.crew.now).starts item m e in
     let same = ap (λ (l : List Piece). length l) c.pieces.ensures.pieces in
     let end = c.loop-item-test.false in
-    c.loop-item.invariant.so_far item m (omega arith) own e
+    c.loop-item.invariant.so_far item m (omega arith) from up e

@@ -1,4 +1,4 @@
-use Rattle.std.proofs.Common.{subst, arith, rules, pos, get_or, w64}
+use Rattle.std.proofs.Common.{subst, rules, pos, get_or, w64}
 use Rattle.std.proofs.lemmas.Int.{to_z-of_z}
 use Rattle.std.specs.Prelude.{FitsSigned, ℤ}
 use Rattle.duty_pricing.specs.Bounds.{IsLifted}

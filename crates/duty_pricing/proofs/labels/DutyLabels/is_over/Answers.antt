@@ -11,7 +11,7 @@ returns-then-taken-left c = λ over.
     let s = c.args.self.now in
     let P : ℕ → Type 0 = λ n. n < c.piece.result.now.driving / s.reach.unit in
     let Q : ℕ → Type 0 = λ n. c.left-left.result < n in
-    (none-left s.net.now s.prices.now s.crew s.reach s.latest _ s.rows.now s.over.now c.args.limit c.args.mark.now c.args.item c.piece.result.now s.in_reach s.bound c.piece.ensures.piece
+    (none-left s.net.now s.prices.now s.crew s.reach s.latest _ s.rows.items s.over.items c.args.limit c.args.mark.now c.args.item c.piece.result.now s.in_reach s.bound c.piece.ensures.piece
     (subst P c.left-left.ensures.value (subst Q c.in_units-taken.ensures c.if-taken-left.true)))
 
 pub returns-else-taken-left : goal.returns-else-taken-left
@@ -20,7 +20,7 @@ returns-else-taken-left c = λ is.
     let limit_fits : FitsSigned w64 c.args.limit = search rules in
     let value_fits : FitsSigned w64 c.args.mark.now.value = search rules in
     let high = too-high c.is_too_high.result c.args.limit c.args.mark.now.value _ _ limit_fits value_fits c.is_too_high.ensures is in
-    let P : ℕ → Type 0 = λ n. c.args.limit <ℤ ((c.args.mark.now.value -ℤ price_at s.prices.now c.args.item) +ℤ cell_at s.over.now c.args.item (n - c.piece.result.now.driving / s.reach.unit)) in
-    let Q : ℕ → Type 0 = λ n. c.args.limit <ℤ ((c.args.mark.now.value -ℤ price_at s.prices.now c.args.item) +ℤ cell_at s.over.now c.args.item (c.left-left.result - n)) in
-    (none-below s.net.now s.prices.now s.crew s.reach s.latest _ s.rows.now s.over.now c.args.limit c.args.mark.now c.args.item c.piece.result.now s.in_reach s.bound c.piece.ensures.piece
+    let P : ℕ → Type 0 = λ n. c.args.limit <ℤ ((c.args.mark.now.value -ℤ price_at s.prices.now c.args.item) +ℤ cell_at s.over.items c.args.item (n - c.piece.result.now.driving / s.reach.unit)) in
+    let Q : ℕ → Type 0 = λ n. c.args.limit <ℤ ((c.args.mark.now.value -ℤ price_at s.prices.now c.args.item) +ℤ cell_at s.over.items c.args.item (c.left-left.result - n)) in
+    (none-below s.net.now s.prices.now s.crew s.reach s.latest _ s.rows.items s.over.items c.args.limit c.args.mark.now c.args.item c.piece.result.now s.in_reach s.bound c.piece.ensures.piece
     (subst P c.left-left.ensures.value (subst Q c.in_units-taken.ensures high)))

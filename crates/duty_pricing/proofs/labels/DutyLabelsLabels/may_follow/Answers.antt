@@ -11,6 +11,6 @@ returns-else-not-is_too_high c = λ no.
     let s = c.args.self.now in
     let limit_fits : FitsSigned w64 c.args.limit = search rules in
     let least_fits : FitsSigned w64 c.args.least = search rules in
-    follows-none s.net.now s.prices.now s.class s.crew s.group s.latest (is_low (floor_of s.reach s.crew s.rows.now s.over.now) c.args.limit) c.args.before c.args.least c.args.item
-    (none-reaches s.net.now s.prices.now s.class s.crew s.group s.reach s.latest s.rows.now s.over.now c.args.limit c.args.least c.args.item s.in_reach s.bound
+    follows-none s.net.now s.prices.now s.class s.crew s.first s.end s.latest (is_low (floor_of s.reach s.crew s.rows.items s.over.items) c.args.limit) c.args.before c.args.least c.args.item
+    (none-reaches s.net.now s.prices.now s.class s.crew s.first s.end s.reach s.latest s.rows.items s.over.items c.args.limit c.args.least c.args.item s.in_reach s.bound
     (too-high c.is_too_high.result c.args.limit c.args.least _ _ limit_fits least_fits c.is_too_high.ensures c.if-not-is_too_high.false))

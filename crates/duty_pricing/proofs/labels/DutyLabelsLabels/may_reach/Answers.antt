@@ -10,5 +10,5 @@ returns c = λ no.
     let high : c.is_too_high.result ≡ true = not-false c.is_too_high.result no in
     let limit_fits : FitsSigned w64 c.args.limit = search rules in
     let least_fits : FitsSigned w64 c.args.least = search rules in
-    none-reaches s.net.now s.prices.now s.class s.crew s.group s.reach s.latest s.rows.now s.over.now c.args.limit c.args.least c.args.item s.in_reach s.bound
+    none-reaches s.net.now s.prices.now s.class s.crew s.first s.end s.reach s.latest s.rows.items s.over.items c.args.limit c.args.least c.args.item s.in_reach s.bound
     (too-high c.is_too_high.result c.args.limit c.args.least _ _ limit_fits least_fits c.is_too_high.ensures high)

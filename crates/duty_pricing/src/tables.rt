@@ -1,0 +1,83 @@
+//! The completion bounds of lists with and without a long pause.
+
+ghost use Rattle.std.specs.Prelude.{◌≡◌, ◌≤ℤ◌, ◌+ℤ◌, neg_ℤ, pos, length, IfOk, Some, slice_get};
+ghost use Rattle.cover_core.specs.FirstLeast.{AllWithin};
+ghost use Rattle.plan_params.specs.Limits.{IsGroup};
+ghost use Rattle.duty_pricing.specs.Bounds.{AreBounds, IsNumbering, IsReach};
+
+use crate::begins::firsts_of;
+use crate::bounds::{bounds, bounds_over};
+use crate::numbering::PieceNumbers;
+use crate::reach::{Reach, last_end};
+use crate::rows::Row;
+use duty_network::DutyNet;
+use plan_core::{Memory, Price};
+use plan_params::Group;
+use std::alloc::Global;
+
+/// The rows of lists that have had no long pause so far, and of lists that have had one.
+#[derive(Drop)]
+pub(crate) struct BoundTables {
+    pub rows: Vec<Row>,
+    pub over: Vec<Row>,
+}
+
+/// The rows of the pieces from a first one on, where no list signs on later than `latest`. `Memory` is the only error.
+pub(crate) fn tables(
+    alloc: Global,
+    net: &DutyNet<'_>,
+    class: u32,
+    group: &Group,
+    prices: &[Price],
+    reach: &Reach,
+    latest: i64,
+    numbers: &PieceNumbers,
+    first: u32,
+) -> Result<BoundTables, Memory>
+    requires class { slice_get net.now.params.groups class ≡ Some group.now }
+    requires ranges { IsGroup group.now }
+    requires reach { IsReach reach.now }
+    requires prices { length prices.now ≡ length net.now.pieces }
+    requires moderate { AllWithin 10000000000000 prices.now }
+    requires numbers { IsNumbering (length net.now.pieces) numbers.now }
+    requires until { reach.now.until ≡ latest +ℤ pos 54000 }
+    requires early { neg_ℤ (pos 345600) ≤ℤ latest }
+    requires late { latest ≤ℤ pos 345600 }
+    ensures { IfOk result (λ tables. AreBounds net.now prices.now group.now reach.now latest first tables.rows.items tables.over.items) }
+{
+    let kinds = numbers.kinds;
+    let numbers = numbers.numbers.as_slice();
+    let firsts = firsts_of(alloc, net, numbers, kinds)?;
+    let firsts = firsts.as_slice();
+    let over = bounds_over(
+        alloc,
+        net,
+        class,
+        group,
+        prices,
+        reach,
+        numbers,
+        kinds,
+        firsts,
+        first as usize,
+    )?;
+    let last = last_end(group, latest);
+    let rows = bounds(
+        alloc,
+        net,
+        class,
+        group,
+        prices,
+        reach,
+        last,
+        numbers,
+        kinds,
+        firsts,
+        &over,
+        first as usize,
+    )?;
+    Ok(BoundTables {
+        rows,
+        over: over.rows,
+    })
+}
