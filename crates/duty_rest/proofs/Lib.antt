@@ -4,3 +4,4 @@ pub mod Walking
 pub mod Worths
 pub mod Apart
 pub mod Belongs
+pub mod Pricings

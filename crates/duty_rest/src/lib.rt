@@ -12,6 +12,7 @@ mod bodies;
 mod earlier;
 mod head;
 mod laws;
+mod pricing;
 mod rest;
 #[cfg(test)]
 mod tests;

@@ -11,8 +11,9 @@ ghost use Rattle.duty_rest.specs.Rest.{begun_of, may_begin, rests};
 
 use crate::bodies::{begun, body};
 use crate::head::DutyHead;
+use crate::pricing::best_list;
 use crate::walk::written_worth;
-use cover_core::{Columns, Plan};
+use cover_core::{Column, Columns, Plan, Pricer, Prices};
 use cover_rest::{Begun, bodies, bodies_stand_for_all, is_rest_list, written_out};
 use duty_network::DutyNet;
 use plan_core::{Memory, Seq};
@@ -21,8 +22,8 @@ use std::marker::Model;
 
 /// What remains to be planned of the duties of a day from a moment on. Its items are first the heads, in their order, and then the pieces
 /// in no head, by number; its classes are the groups of drivers. A list of items is written out by putting a head's pieces in the head's
-/// place. The plans of the rest, written out, are the plans of the day's duties that keep what has begun. Only `new` and `expand` take
-/// memory.
+/// place. The plans of the rest, written out, are the plans of the day's duties that keep what has begun. Only `new`, `expand` and
+/// `best` take memory.
 #[derive(Drop)]
 pub struct DutyRest<'n> {
     net: &'n DutyNet<'n>,
@@ -174,6 +175,29 @@ impl Columns for DutyRest<'_> {
             self.bodies.as_slice(),
             class,
             list,
+        )
+    }
+}
+
+impl Pricer for DutyRest<'_> {
+    fn best(
+        &self,
+        alloc: Global,
+        class: u32,
+        prices: &Prices,
+        group: u32,
+        limit: i64,
+    ) -> Result<Option<Column>, Memory> {
+        best_list(
+            alloc,
+            self,
+            self.net,
+            self.begun.as_slice(),
+            self.bodies.as_slice(),
+            class,
+            prices.items.as_slice(),
+            group,
+            limit,
         )
     }
 }

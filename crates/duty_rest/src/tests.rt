@@ -4,15 +4,16 @@ ghost use Rattle.std.specs.Prelude.{◌≡◌, ◌<◌, ◌-ℤ◌, ◌≤◌, �
 ghost use Rattle.plan_params.specs.Limits.{HaveRanges};
 ghost use Rattle.duty_network.specs.Duties.{DutyFacts, duties};
 ghost use Rattle.duty_network.specs.Ranges.{IsShift};
+ghost use Rattle.cover_core.specs.FirstLeast.{AllWithin};
 ghost use Rattle.cover_rest.specs.Keeping.{AreHeads};
 ghost use Rattle.cover_rest.specs.Rest.{all_below};
-ghost use Rattle.duty_rest.specs.Rest.{begun_of};
+ghost use Rattle.duty_rest.specs.Rest.{begun_of, rests};
 
 use crate::{DutyHead, DutyRest, duty_heads, heads_are_heads, kept_leaves_none_begun};
-use cover_core::{Column, Columns, Items, Plan, Worth};
+use cover_core::{Column, Columns, Items, Plan, Pricer, Prices, Worth};
 use cover_rest::rest_is_kept;
 use duty_network::DutyNet;
-use plan_core::{Memory, Piece, Point, Sec, Seq};
+use plan_core::{Memory, Piece, Point, Price, Sec, Seq};
 use plan_params::{Params, read_params};
 use std::alloc::Global;
 use std::test::Fail;
@@ -317,6 +318,158 @@ fn expanded(
     Ok(numbers)
 }
 
+/// All lists of four items, in their order: by their last items backwards.
+const LISTS: [&[u32]; 15] = [
+    &[0],
+    &[1],
+    &[0, 1],
+    &[2],
+    &[0, 2],
+    &[1, 2],
+    &[0, 1, 2],
+    &[3],
+    &[0, 3],
+    &[1, 3],
+    &[0, 1, 3],
+    &[2, 3],
+    &[0, 2, 3],
+    &[1, 2, 3],
+    &[0, 1, 2, 3],
+];
+
+/// A class, with the prices of four items.
+#[derive(Clone, Copy)]
+struct Case {
+    class: u32,
+    prices: [i32; 4],
+}
+
+/// A list with its value.
+#[derive(Clone, Copy)]
+struct Found {
+    value: i64,
+    list: &'static [u32],
+}
+
+fn price_at(prices: &[i32; 4], item: u32) -> i64 {
+    match prices.get(item as usize) {
+        Some(price) => i64::from(*price),
+        None => 0,
+    }
+}
+
+fn value_of(rest: &DutyRest<'_>, case: &Case, list: &[u32]) -> Option<i64> {
+    let worth = worth_of(rest, case.class, list)?;
+    let mut value = (worth as i64).saturating_mul(1000);
+    for item in list {
+        value = value.saturating_sub(price_at(&case.prices, *item));
+    }
+    Some(value)
+}
+
+/// The first least of all lists, by trying each.
+fn searched(rest: &DutyRest<'_>, case: &Case) -> Option<Found> {
+    let mut best: Option<Found> = None;
+    for list in LISTS {
+        match (best, value_of(rest, case, list)) {
+            (_, None) => {}
+            (Some(found), Some(value)) if found.value <= value => {}
+            (_, Some(value)) => best = Some(Found { value, list }),
+        }
+    }
+    best
+}
+
+fn four_prices(alloc: Global, prices: &[i32; 4]) -> Result<Prices, Memory>
+    ensures four { IfOk result (λ prices. length prices.items ≡ 4) }
+    ensures moderate { IfOk result (λ prices. AllWithin 10000000000000 prices.items) }
+{
+    let [first, second, third, fourth] = *prices;
+    let prices = vec![in alloc;
+        Price(i64::from(first)),
+        Price(i64::from(second)),
+        Price(i64::from(third)),
+        Price(i64::from(fourth)),
+    ]?;
+    Ok(Prices {
+        items: Seq::from_vec(prices),
+    })
+}
+
+/// Whether the best list of a class under a limit is this one, or there is none.
+fn is_best(
+    alloc: Global,
+    rest: &DutyRest<'_>,
+    class: u32,
+    prices: &Prices,
+    limit: i64,
+    list: Option<&[u32]>,
+) -> Result<bool, Memory>
+    requires class { class < length (rests rest.now).caps }
+    requires prices { length prices.now.items ≡ (rests rest.now).items }
+    requires some { (rests rest.now).items ≡ 4 }
+    requires moderate { AllWithin 10000000000000 prices.now.items }
+{
+    let best = rest.best(alloc, class, prices, 0, limit)?;
+    Ok(match (best, list) {
+        (None, None) => true,
+        (Some(column), Some(list)) => column.items.as_slice() == list,
+        _ => false,
+    })
+}
+
+/// Whether the pricer finds what a search over all lists does, under a limit above its value and at it, and nothing under one below it.
+fn agrees(alloc: Global, rest: &DutyRest<'_>, case: &Case) -> Result<bool, Memory> {
+    if rest.items() != 4 || case.class >= rest.classes() {
+        return Ok(false);
+    }
+    let prices = four_prices(alloc, &case.prices)?;
+    match searched(rest, case) {
+        None => is_best(alloc, rest, case.class, &prices, 0, None),
+        Some(Found { value, list }) => {
+            let more = value.saturating_add(1);
+            let less = value.saturating_sub(1);
+            Ok(
+                is_best(alloc, rest, case.class, &prices, more, Some(list))?
+                    && is_best(alloc, rest, case.class, &prices, value, Some(list))?
+                    && is_best(alloc, rest, case.class, &prices, less, None)?,
+            )
+        }
+    }
+}
+
+/// Whether the best lists of the rest are those of a search over all lists.
+fn has_bests(alloc: Global, rest: &DutyRest<'_>) -> Result<bool, Memory> {
+    let cases = [
+        Case {
+            class: 0,
+            prices: [2_000_000; 4],
+        },
+        Case {
+            class: 1,
+            prices: [3_000_000; 4],
+        },
+        Case {
+            class: 0,
+            prices: [0, 0, 0, 9_000_000],
+        },
+        Case {
+            class: 1,
+            prices: [9_000_000, -1, 800_000, 3_000_000],
+        },
+        Case {
+            class: 1,
+            prices: [0, 0, 9_000_000, 9_000_000],
+        },
+    ];
+    for case in cases {
+        if !agrees(alloc, rest, &case)? {
+            return Ok(false);
+        }
+    }
+    Ok(true)
+}
+
 fn has_rest(alloc: Global, net: &DutyNet<'_>) -> Result<bool, Memory> {
     if net.pieces().len() != 4 {
         return Ok(false);
@@ -326,6 +479,7 @@ fn has_rest(alloc: Global, net: &DutyNet<'_>) -> Result<bool, Memory> {
     let written = expanded(alloc, &rest, 0, &[0, 3])?;
     Ok(
         has_worths(&rest)
+            && has_bests(alloc, &rest)?
             && items.as_slice() == [2_100, 4, 0, 1, 0, 2, 1, 3].as_slice()
             && written.as_slice() == [0, 3_660, 0, 3].as_slice(),
     )
