@@ -24,11 +24,11 @@ use Rattle.planner_cli.specs.Tasks.{Task, asked_by, is_check, make_task, task_fo
 use Rattle.planner_cli.specs.Tasks.{Certify, Check, Day, Make, MakeRun, Plan, Trips, Week}
 
 -- the parts of planning files, of a plan and of a certificate are found again by how many planning files there are
-front_of : {A : Type 0} (xs : List A) (y z : A) → take (length xs) (xs ++ y ∷ z ∷ []) ≡ xs
+pub front_of : {A : Type 0} (xs : List A) (y z : A) → take (length xs) (xs ++ y ∷ z ∷ []) ≡ xs
 front_of [] y z = refl
 front_of (x ∷ xs) y z = ap (λ (t : List _). x ∷ t) (front_of xs y z)
 
-plan_of : {A : Type 0} (xs : List A) (y z d : A) → slice_index_or (xs ++ y ∷ z ∷ []) (length xs) d ≡ y
+pub plan_of : {A : Type 0} (xs : List A) (y z d : A) → slice_index_or (xs ++ y ∷ z ∷ []) (length xs) d ≡ y
 plan_of [] y z d = refl
 plan_of (x ∷ xs) y z d = plan_of xs y z d
 
@@ -39,7 +39,7 @@ last_of (x ∷ xs) y z d = last_of xs y z d
 one_more : (n : ℕ) → suc n ≡ n + 1
 one_more n = omega arith
 
-cert_of : {A : Type 0} (xs : List A) (y z d : A) → slice_index_or (xs ++ y ∷ z ∷ []) (length xs + 1) d ≡ z
+pub cert_of : {A : Type 0} (xs : List A) (y z d : A) → slice_index_or (xs ++ y ∷ z ∷ []) (length xs + 1) d ≡ z
 cert_of xs y z d = let P : ℕ → Type 0 = λ n. slice_index_or (xs ++ y ∷ z ∷ []) n d ≡ z in subst P (one_more (length xs)) (last_of xs y z d)
 
 two_more : {A : Type 0} (xs : List A) (y z : A) → length (xs ++ y ∷ z ∷ []) ≡ length xs + 2
@@ -49,7 +49,7 @@ two_more (x ∷ xs) y z = let rest = two_more xs y z in omega (arith, rest)
 count_is : (xs : List (List Table)) (y z : List Table) (count : ℕ) → length (xs ++ y ∷ z ∷ []) ≡ count + 2 → length xs ≡ count
 count_is xs y z count e = let both : length xs + 2 ≡ count + 2 = sym (two_more xs y z) ∙ e in omega (arith, both)
 
-whole_at : (planning : List (List Table)) (plan cert : List Table) (day : ℕ) (ending : Status) (bytes : List ℕ) → IsCheckText (joined planning) plan cert day ending bytes
+pub whole_at : (planning : List (List Table)) (plan cert : List Table) (day : ℕ) (ending : Status) (bytes : List ℕ) → IsCheckText (joined planning) plan cert day ending bytes
     → IsWhole (Check (length planning)) (planning ++ plan ∷ cert ∷ []) day ending bytes
 whole_at planning plan cert day ending bytes h =
     let parts : List (List Table) = planning ++ plan ∷ cert ∷ [] in

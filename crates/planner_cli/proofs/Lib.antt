@@ -14,3 +14,12 @@ pub mod OneText
 pub mod WeekOutcomes
 pub mod CertOutcomes
 pub mod CheckLemmas
+pub mod TextsBack
+pub mod GivenWords
+pub mod FactNumbers
+pub mod LegNumbers
+pub mod PlanNumbers
+pub mod ClassPrices
+pub mod CertNumbers
+pub mod FilesBack
+pub mod Accepting

@@ -1,3 +1,4 @@
+pub mod Accepted
 pub mod CertText
 pub mod CheckText
 pub mod Codes

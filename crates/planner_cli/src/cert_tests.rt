@@ -1,5 +1,6 @@
 //! The commands `certify` and `check`: a plan and its certificate are made, and checked with and without changes.
 
+use crate::laws::written_texts_are_accepted;
 use crate::plan_tests::{
     Change, GROUP, NO_CHANGE, ONE_FOR_BOTH, TOGETHER, TOO_SOON, changed, demo,
 };
@@ -144,6 +145,8 @@ fn a_certificate_is_written(rt: HostRuntime) -> Result<(), Fail> {
 #[test]
 fn plans_and_certificates_are_checked(rt: HostRuntime) -> Result<(), Fail> {
     let alloc = rt.alloc();
+    // What is made by fixed rounds is accepted, of this network and of every other one.
+    written_texts_are_accepted();
     // Changes of the planning files, of the plan and of the certificate, and what the check says.
     let rows: [(&[Change], &[Change], &[Change], &str, [u64; 5]); 25] = [
         // As they were made.

@@ -12,6 +12,7 @@ mod day;
 mod flow_tests;
 #[cfg(test)]
 mod hostile_tests;
+mod laws;
 mod lines;
 mod made;
 #[cfg(test)]
