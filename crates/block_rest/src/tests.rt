@@ -448,8 +448,8 @@ fn price_at(prices: &[i32; 4], item: u32) -> i64 {
 }
 
 fn value_of(rest: &BlockRest<'_>, case: &Case, list: &[u32]) -> Option<i64> {
-    let worth = worth_of(rest, case.class, list)?;
-    let mut value = (worth as i64).saturating_mul(1000);
+    let worth = i64::try_from(worth_of(rest, case.class, list)?).ok()?;
+    let mut value = worth.saturating_mul(1000);
     for item in list {
         value = value.saturating_sub(price_at(&case.prices, *item));
     }
