@@ -22,9 +22,12 @@ use cover_core::Column;
 use cover_rest::Begun;
 use day_model::Day;
 use depot_network::PoolNet;
+use label_dive::{dive_from_least, likely};
 use path_pricing::{BlockLabels, rests_from};
 use plan_core::{Memory, Price, Seq};
-use rest_labels::{RestLabels, best_of_rest, ended_heads, spread_prices, starting_items};
+use rest_labels::{
+    RestLabels, best_of_rest, ended_heads, first_items, spread_prices, starting_items,
+};
 use std::alloc::Global;
 
 /// For each item of a rest whether a block of a pool with what it stands for first leaves its depot at the moment or later.
@@ -65,7 +68,7 @@ fn best_of_labels<'a>(
     requires class { class < length (rests rest.now).caps }
     requires bodies { StandForAll (length labels.now.net.now.day.trips) bodies.now }
     requires items { length bodies.now ≤ (rests rest.now).items }
-    ensures best { (p : Problem) (heads : List Begun) (may : ℕ → List ℕ → Bool) (prices : List Price) → PricesRest p heads may class (rests rest.now) bodies.now starts.now ended.now (block_labels labels.now.net.now.day labels.now.net.now.counts labels.now.prices.now labels.now.pool labels.now.first labels.now.end) (closed_open labels.now.net.now.day labels.now.net.now.counts labels.now.pool) prices labels.now.prices.now → IfOk result (λ answer. answer ≡ within limit prices (best_of (rests rest.now) prices class group)) }
+    ensures best { (p : Problem) (heads : List Begun) (may : ℕ → List ℕ → Bool) (prices : List Price) → PricesRest p heads may class group (rests rest.now) bodies.now starts.now ended.now (block_labels labels.now.net.now.day labels.now.net.now.counts labels.now.prices.now labels.now.pool labels.now.first labels.now.end) (closed_open labels.now.net.now.day labels.now.net.now.counts labels.now.pool) prices labels.now.prices.now → IfOk result (λ answer. answer ≡ within limit prices (best_of (rests rest.now) prices class group)) }
     ensures bound { IfOk result (λ answer. IfSome answer (λ column. column.worth ≤ 4000000000)) }
 {
     // Trips are few: the day says so.
@@ -77,12 +80,13 @@ fn best_of_labels<'a>(
         ended,
         group,
     };
-    best_of_rest(alloc, rest, &listed, class, &[], limit)
+    let likely = likely(dive_from_least(&listed, limit), limit, [0, 33]);
+    best_of_rest(alloc, rest, &listed, class, &likely, limit)
 }
 
 /// The first least list of a rest in a pool and group within a limit. The labels of lists are those of the day's open blocks, a head's being
-/// made by folding the steps over its trips; the completion bound goes over all trips, since heads begin anywhere. It takes memory in
-/// proportion to the trips, beside that of the search.
+/// made by folding the steps over its trips; the completion bound goes over the trips from the first one on with which a list of the group
+/// begins. It takes memory in proportion to the trips, beside that of the search.
 pub(crate) fn best_list(
     alloc: Global,
     rest: &BlockRest<'_>,
@@ -108,15 +112,16 @@ pub(crate) fn best_list(
     let count = day.trips().len() as u32;
     let pool = *pool_of(day, class);
     let spread = spread_prices(alloc, bodies, prices, count)?;
-    let rests = rests_from(alloc, &*net, class, &pool, spread.as_slice(), 0)?;
+    let range = first_items(bodies, group, count);
+    let rests = rests_from(alloc, &*net, class, &pool, spread.as_slice(), range.first)?;
     let labels = BlockLabels {
         net: &*net,
         class,
         pool,
         prices: spread.as_slice(),
         rests: rests.as_slice(),
-        first: 0,
-        end: count,
+        first: range.first,
+        end: range.end,
     };
     let free = leaving_later(alloc, day, rest.moment(), class, bodies)?;
     let starts = starting_items(alloc, begun, class, free.as_slice())?;

@@ -12,9 +12,9 @@ use Rattle.cover_core.specs.declared.marks.Mark.{Mark}
 use Rattle.label_search.specs.Laws.{GoodAs, HidesNone, IsFloor, IsSafe, IsStepwise}
 use Rattle.label_search.specs.Levels.{NoneFollows, NoneReaches}
 use Rattle.label_search.specs.Limits.{is_low, passed}
-use Rattle.label_search.specs.Pricing.{IsTied, IsTiedInGroup, is_between, of_range}
+use Rattle.label_search.specs.Pricing.{IsTiedInGroup, is_between, of_range}
 use Rattle.label_search.proofs.Limits.{floor-hides}
-use Rattle.label_search.proofs.Pricing.{of_range-tied, of_range-tied-all, of_start-hides, of_start-kept, of_start-stepwise, of_start-valued, start-parts}
+use Rattle.label_search.proofs.Pricing.{of_range-tied, of_start-hides, of_start-kept, of_start-stepwise, of_start-valued, start-parts}
 use Rattle.plan_params.specs.declared.rows.group.Group.{Group}
 use Rattle.plan_params.specs.Limits.{IsGroup}
 use Rattle.eu561_rules.proofs.Runs.{both_true}
@@ -210,13 +210,6 @@ duty-hides d prices class g first end r latest rows over reach until bound =
 pub duty-tied : (d : DutyFacts) (prices : List Price) (class : ℕ) (g : Group) (group : ℕ) → slice_get d.params.groups class ≡ Some g → NetFits d →
     IsTiedInGroup (duty_labels d prices class g (16 * group) (16 * group + 16)) (closed_value d g) prices group (duty_worth d class)
 duty-tied d prices class g group is_g f = of_range-tied (marking d prices class g) (closed_value d g) prices group (duty_worth d class) (marking-tied d prices class g is_g (timed-from d.pieces f.shifts))
-
--- where lists begin with any piece, each list has a worth exactly where it has a mark that closes
-pub duty-tied-all : (d : DutyFacts) (prices : List Price) (class : ℕ) (g : Group) (end : ℕ) → slice_get d.params.groups class ≡ Some g → NetFits d → length d.pieces ≤ end →
-    IsTied (duty_labels d prices class g 0 end) (closed_value d g) prices (duty_worth d class)
-duty-tied-all d prices class g end is_g f all =
-    of_range-tied-all (marking d prices class g) (length d.pieces) end (λ m. m.piece) (closed_value d g) prices (duty_worth d class) (marking-stepwise d prices class g) all
-    (marking-tied d prices class g is_g (timed-from d.pieces f.shifts))
 
 over-limit : (x y : ℤ) → y <ℤ x → int_le x y ≡ false
 over-limit x y h = grind (arith, ints)

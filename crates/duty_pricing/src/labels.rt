@@ -18,6 +18,7 @@ use crate::rows::{Row, cell};
 use crate::tables::{BoundTables, tables};
 use cover_core::Mark;
 use duty_network::DutyNet;
+use label_dive::Floors;
 use label_search::Labels;
 use plan_core::{Memory, Price};
 use plan_params::Group;
@@ -187,7 +188,7 @@ impl DutyLabels<'_, '_> {
     }
 
     /// What the rest of a mark's list adds to its value at least.
-    pub(crate) fn rest(&self, mark: &Mark) -> i64
+    fn rest(&self, mark: &Mark) -> i64
         requires { IsRangeMark (length self.now.net.now.pieces) self.now.first self.now.latest mark.now }
         ensures value { result ≡ cell_at (cond mark.now.three self.now.over.items self.now.rows.items) mark.now.piece (left_of self.now.reach self.now.crew mark.now.total) }
         ensures low { neg_ℤ (pos 30000000000000000) ≤ℤ result }
@@ -314,5 +315,12 @@ impl Labels for DutyLabels<'_, '_> {
 
     fn close(&self, label: &Mark) -> Option<i64> {
         self.net.close(self.class, &self.crew, label)
+    }
+}
+
+impl Floors for DutyLabels<'_, '_> {
+    /// The value so far and the completion bound of a mark.
+    fn floor(&self, label: &Mark) -> i64 {
+        label.value + self.rest(label)
     }
 }

@@ -6,7 +6,6 @@
 mod begins;
 mod bounds;
 mod labels;
-mod likely;
 mod links;
 mod looked;
 mod numbering;

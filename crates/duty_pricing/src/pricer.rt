@@ -9,6 +9,7 @@ use crate::labels::DutyLabels;
 use crate::numbering::numbers_of;
 use cover_core::{Column, Columns, Pricer, Prices};
 use duty_network::DutyNet;
+use label_dive::{begins_within, dive_from_each, likely};
 use label_search::best_column;
 use plan_core::{Memory, Price};
 use std::alloc::Global;
@@ -61,11 +62,11 @@ fn best_duty(
     let end = first + 16;
     let numbers = numbers_of(alloc, net.pieces())?;
     let whole = DutyLabels::new(alloc, net, class, prices, &numbers, first, end, false)?;
-    if whole.first_mark(limit).is_none() {
+    if !begins_within(&whole, limit) {
         return best_column(alloc, net, &whole, class, &[], limit);
     }
     let parted = DutyLabels::new(alloc, net, class, prices, &numbers, first, end, true)?;
-    let likely = parted.likely(limit);
+    let likely = likely(dive_from_each(&parted, limit), limit, [60, 80]);
     best_column(alloc, net, &parted, class, &likely, limit)
 }
 

@@ -1,11 +1,13 @@
 -- The heads of a plan hold no piece twice. A piece stands in the head of a duty at most as often as the part that stands for it is named by
 -- the duty, and each head comes once, at its first piece; so a piece stands in heads at most as often as its part stands in all duties,
--- which is once, and a piece for which no part stands is in none.
+-- which is once where it has begun, and a piece for which no part stands is in none.
 use Rattle.std.proofs.Common.{◌≡◌, ◌==◌, ℕ, ◌+◌, ◌<◌, ◌≤◌, true, false, cond, ◌||◌, zero, suc, List, [], ◌∷◌, ◌++◌, length, refl, ap, arith, inl, inr, Option, Some, None, slice_get, nat_eq}
 use Rattle.std.specs.Option.{option_map, option_map_or}
 use Rattle.std.specs.Prelude.{option_and_then}
 use Rattle.std.proofs.lemmas.Bool.{cases_lt}
 use Rattle.std.proofs.lemmas.Bool.Decides.{nat_tests}
+use Rattle.plan_core.specs.declared.types.Piece.{Piece}
+use Rattle.cover_core.specs.declared.Column.{Column}
 use Rattle.cover_core.specs.Cover.{AllBelow}
 use Rattle.cover_core.specs.Plans.{times}
 use Rattle.cover_core.proofs.Parts.{times-append}
@@ -14,7 +16,7 @@ use Rattle.umlauf_write.specs.declared.text.DutyRow.{DutyRow}
 use Rattle.cover_rest.specs.Rest.{begun_lists, joined}
 use Rattle.cover_rest.specs.Keeping.{NoneEmpty}
 use Rattle.duty_rest.specs.declared.head.DutyHead.{DutyHead}
-use Rattle.duty_rest.specs.Heads.{begun_from, begun_parts, by_first, class_of, duty_head, duty_heads_of, head_of, heads_at, is_finished, is_one_of, last_of, listed, row_heads, same_part, starts_at}
+use Rattle.duty_rest.specs.Heads.{begun_from, begun_part, begun_parts, by_first, class_of, duty_head, duty_heads_of, head_of, heads_at, is_finished, is_one_of, last_of, listed, row_heads, same_part, starts_at}
 use Rattle.duty_rest.specs.Rest.{begun_of}
 use Rattle.duty_rest.specs.Laws.{HeadsAreHeads, all_parts, part_times}
 use Rattle.duty_rest.proofs.Found.{parts-length}
@@ -45,6 +47,13 @@ past-at : (os : List (Option (ℕ × ℕ))) (i : ℕ) → length os ≤ i → pa
 past-at [] i past = refl
 past-at (o ∷ os) zero past = absurd (omega (arith, past))
 past-at (o ∷ os) (suc i) past = past-at os i (omega (arith, past))
+
+-- where it is there the piece is, which has begun
+part-there : (blocks earlier : List Column) (moment : ℕ) (ps : List Piece) (i : ℕ) (x : ℕ × ℕ) → part_at (begun_parts blocks earlier moment ps) i ≡ Some x →
+    (p : Piece) × (slice_get ps i ≡ Some p) × (begun_part blocks earlier moment p ≡ Some x)
+part-there blocks earlier moment [] i x is = absurd (cc)
+part-there blocks earlier moment (p ∷ ps) zero x is = (p, refl, is)
+part-there blocks earlier moment (p ∷ ps) (suc i) x is = part-there blocks earlier moment ps i x is
 
 -- how often it is named
 abbrev named : Option (ℕ × ℕ) → List (ℕ × ℕ) → ℕ
@@ -246,9 +255,11 @@ heads-are d blocks earlier moment each =
                 let most = few j in
                 absurd (omega (arith, none, most, some))
           ]);
-      once = λ i. let most = few i in let one = once-named (part_at begun i) in omega (arith, most, one);
+      once = λ i. let most = few i in let one = once-named i (part_at begun i) refl in omega (arith, most, one);
     }
   where
-    once-named : (o : Option (ℕ × ℕ)) → named o (all_parts earlier.duties) ≤ 1
-    once-named None = omega arith
-    once-named (Some x) = each x
+    once-named : (i : ℕ) (o : Option (ℕ × ℕ)) → part_at (begun_parts blocks earlier.blocks.columns moment d.pieces) i ≡ o → named o (all_parts earlier.duties) ≤ 1
+    once-named i None is = omega arith
+    once-named i (Some x) is =
+        let (p, at, begun) = part-there blocks earlier.blocks.columns moment d.pieces i x is in
+        each i p x at begun

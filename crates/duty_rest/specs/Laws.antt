@@ -1,5 +1,5 @@
 -- What holds of the heads of plans of duties.
-use Rattle.std.specs.Prelude.{ℕ, ◌+◌, ◌≤◌, ◌&&◌, ◌||◌, Bool, true, false, cond, not, List, [], ◌∷◌, ◌++◌, Option, slice_get}
+use Rattle.std.specs.Prelude.{◌≡◌, ℕ, ◌+◌, ◌≤◌, ◌&&◌, ◌||◌, Bool, true, false, cond, not, List, [], ◌∷◌, ◌++◌, Option, Some, slice_get}
 use Rattle.std.specs.Option.{option_map_or}
 use Rattle.plan_core.specs.declared.types.Piece.{Piece}
 use Rattle.plan_params.specs.declared.rows.group.Group.{Group}
@@ -22,14 +22,16 @@ abbrev pub all_parts : List DutyRow → List (ℕ × ℕ)
 all_parts [] = []
 all_parts (row ∷ rows) = row.parts ++ all_parts rows
 
--- no part stands twice in duties
-abbrev pub IsAtMostOnce : List DutyRow → Type 0
-IsAtMostOnce rows = (part : ℕ × ℕ) → part_times part (all_parts rows) ≤ 1
+-- the part that stands for a begun piece stands at most once in the duties of an earlier plan
+abbrev pub IsBegunOnce : DutyFacts → List Column → PlanText → ℕ → Type 0
+IsBegunOnce d blocks earlier moment =
+    (k : ℕ) (p : Piece) (part : ℕ × ℕ) → slice_get d.pieces k ≡ Some p → begun_part blocks earlier.blocks.columns moment p ≡ Some part →
+    part_times part (all_parts earlier.duties) ≤ 1
 
 -- the heads of an earlier plan are heads of the day's duties: none is empty, their pieces are there, and no piece stands twice
 abbrev pub HeadsAreHeads : Type 0
 HeadsAreHeads =
-    (d : DutyFacts) (blocks : List Column) (earlier : PlanText) (moment : ℕ) → IsAtMostOnce earlier.duties →
+    (d : DutyFacts) (blocks : List Column) (earlier : PlanText) (moment : ℕ) → IsBegunOnce d blocks earlier moment →
     AreHeads (duties d) (begun_of (duty_heads_of d blocks earlier moment))
 
 -- whether a piece has begun and belongs to a duty: a part of the duty stands for it, and the duty's group is there

@@ -2,8 +2,9 @@
 
 ghost use Rattle.duty_rest.specs.Laws.{HeadsAreHeads, KeptLeavesNoneBegun};
 
-/// Where no piece of an earlier plan stands twice in its duties, the heads of that plan are what columns of the day's duties may begin
-/// with: none is empty, their pieces are there, and no piece stands twice.
+/// Where no part that stands for a begun piece is twice in the duties of an earlier plan, the heads of that plan are what columns of the
+/// day's duties may begin with: none is empty, their pieces are there, and no piece stands twice. Other parts may stand as often as they
+/// like.
 pub fn heads_are_heads()
     ensures { HeadsAreHeads }
 {}

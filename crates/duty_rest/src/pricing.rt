@@ -21,9 +21,11 @@ use cover_core::Column;
 use cover_rest::Begun;
 use duty_network::DutyNet;
 use duty_pricing::{DutyLabels, numbers_of};
-use label_search::Labels;
+use label_dive::{dive_from_each, likely};
 use plan_core::{Memory, Price, Seq};
-use rest_labels::{RestLabels, best_of_rest, ended_heads, spread_prices, starting_items};
+use rest_labels::{
+    RestLabels, best_of_rest, ended_heads, first_items, spread_prices, starting_items,
+};
 use std::alloc::Global;
 
 /// So many marks, all set: a duty may begin with any piece.
@@ -55,12 +57,7 @@ fn begins_within<'a>(
         ended,
         group,
     };
-    for item in 0..listed.items() {
-        if listed.start(item, limit).is_some() {
-            return true;
-        }
-    }
-    false
+    label_dive::begins_within(&listed, limit)
 }
 
 /// The first least list of a rest in a class and group within a limit, by the labels of duties of the class, what the rest's items stand
@@ -79,7 +76,7 @@ fn best_of_labels<'a>(
     requires class { class < length (rests rest.now).caps }
     requires bodies { StandForAll (length labels.now.net.now.pieces) bodies.now }
     requires items { length bodies.now ≤ (rests rest.now).items }
-    ensures best { (p : Problem) (heads : List Begun) (may : ℕ → List ℕ → Bool) (prices : List Price) → PricesRest p heads may class (rests rest.now) bodies.now starts.now ended.now (duty_labels labels.now.net.now labels.now.prices.now labels.now.class labels.now.crew labels.now.first labels.now.end) (closed_value labels.now.net.now labels.now.crew) prices labels.now.prices.now → IfOk result (λ answer. answer ≡ within limit prices (best_of (rests rest.now) prices class group)) }
+    ensures best { (p : Problem) (heads : List Begun) (may : ℕ → List ℕ → Bool) (prices : List Price) → PricesRest p heads may class group (rests rest.now) bodies.now starts.now ended.now (duty_labels labels.now.net.now labels.now.prices.now labels.now.class labels.now.crew labels.now.first labels.now.end) (closed_value labels.now.net.now labels.now.crew) prices labels.now.prices.now → IfOk result (λ answer. answer ≡ within limit prices (best_of (rests rest.now) prices class group)) }
     ensures bound { IfOk result (λ answer. IfSome answer (λ column. column.worth ≤ 4000000000)) }
 {
     // Pieces are few: the net says so.
@@ -91,7 +88,8 @@ fn best_of_labels<'a>(
         ended,
         group,
     };
-    best_of_rest(alloc, rest, &listed, class, &[], limit)
+    let likely = likely(dive_from_each(&listed, limit), limit, [60, 80]);
+    best_of_rest(alloc, rest, &listed, class, &likely, limit)
 }
 
 /// The first least list of a rest in a class and group within a limit, by prices that are spread over the pieces, with which items lists may
@@ -122,21 +120,40 @@ fn best_marked(
     net.fits();
     let count = net.pieces().len() as u32;
     let numbers = numbers_of(alloc, net.pieces())?;
-    let whole = DutyLabels::new(alloc, &*net, class, &*spread, &numbers, 0, count, false)?;
+    let range = first_items(&*bodies, group, count);
+    let whole = DutyLabels::new(
+        alloc,
+        &*net,
+        class,
+        &*spread,
+        &numbers,
+        range.first,
+        range.end,
+        false,
+    )?;
     if !begins_within(&whole, &*bodies, &*starts, &*ended, group, limit) {
         return best_of_labels(
             alloc, &*rest, &whole, &*bodies, &*starts, &*ended, class, group, limit,
         );
     }
-    let parted = DutyLabels::new(alloc, &*net, class, &*spread, &numbers, 0, count, true)?;
+    let parted = DutyLabels::new(
+        alloc,
+        &*net,
+        class,
+        &*spread,
+        &numbers,
+        range.first,
+        range.end,
+        true,
+    )?;
     best_of_labels(
         alloc, &*rest, &parted, &*bodies, &*starts, &*ended, class, group, limit,
     )
 }
 
 /// The first least list of a rest in a class and group within a limit. The labels of lists are the marks of duties, a head's being made by
-/// folding the steps over its pieces; the completion bounds go over all pieces, since heads begin anywhere. It takes memory in proportion
-/// to the pieces, beside that of the search.
+/// folding the steps over its pieces; the completion bounds go over the pieces from the first one on with which a list of the group begins.
+/// It takes memory in proportion to the pieces, beside that of the search.
 pub(crate) fn best_list(
     alloc: Global,
     rest: &DutyRest<'_>,

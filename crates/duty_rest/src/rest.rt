@@ -77,9 +77,9 @@ fn list_worth(
 
 impl<'n> DutyRest<'n> {
     /// The rest of the duties of a net, of which these heads have begun before a moment, in seconds. No head is empty, its pieces are
-    /// there, and no piece stands in heads twice: the heads of an earlier plan are so, where no piece stands twice in its duties. A duty
-    /// without a head may sign on at any time, so the moment is kept and bears on no worth. It takes time in proportion to the pieces.
-    /// `Memory` is the only error.
+    /// there, and no piece stands in heads twice: the heads of an earlier plan are so, where no begun piece stands twice in its duties. A
+    /// duty without a head may sign on at any time, so the moment is kept and bears on no worth. It takes time in proportion to the
+    /// pieces. `Memory` is the only error.
     pub fn new(
         alloc: Global,
         net: &'n DutyNet<'n>,

@@ -1,7 +1,5 @@
 -- The rests behind trips are bounds.
-use Rattle.std.proofs.Common.{◌≡◌, ℕ, ℤ, pos, neg_ℤ, ◌+◌, ◌-◌, ◌*◌, ◌+ℤ◌, ◌-ℤ◌, ◌≤ℤ◌, ◌<◌, inl, inr, Bool, true, false, List, length, Some, refl, sym, subst, ap, ◌∙◌, arith, slice_get, slice_index_or, slice_set, zero, suc, [], ◌∷◌}
-use Rattle.std.specs.Prelude.{Option, None, cond, IfSome}
-use Rattle.label_search.specs.Limits.{passed}
+use Rattle.std.proofs.Common.{◌≡◌, ℕ, ℤ, pos, neg_ℤ, ◌+◌, ◌-◌, ◌*◌, ◌+ℤ◌, ◌-ℤ◌, ◌≤ℤ◌, ◌<◌, inl, inr, Bool, List, length, Some, refl, sym, subst, ap, ◌∙◌, arith, slice_get, slice_index_or, slice_set, zero, suc, [], ◌∷◌}
 use Rattle.std.proofs.Math.Nat.{eq-or-lt_of_le}
 use Rattle.std.proofs.lemmas.Int.{ints}
 use Rattle.std.specs.Option.{option_map}
@@ -126,15 +124,3 @@ rests_end day counts prices pool rests long = record {
     ended_within t cost e =
         let (trip, there, e1) = and_then_some (λ (trip : Trip). option_map (λ inward. pool.dead_rate * inward) (pull_in day pool trip)) (slice_get day.trips t) cost e in
         slice_get_within day.trips t trip there
-
--- a fact of all labels holds of one that passes a test
-pub passed_all : {A : Type 0} (P : A → Type 0) (test : A → Bool) (o shown : Option A) → shown ≡ passed test o → ((a : A) → o ≡ Some a → P a) → IfSome shown P
-passed_all {A = A} P test o shown is all = let Q : Option A → Type 0 = λ x. IfSome x P in subst Q (sym is) (each o all)
-  where
-    tested : (t : Bool) (a : A) → P a → IfSome (cond t (Some a) None) P
-    tested true a h = h
-    tested false a h = tt
-
-    each : (o : Option A) → ((a : A) → o ≡ Some a → P a) → IfSome (passed test o) P
-    each None all = tt
-    each (Some a) all = tested (test a) a (all a refl)

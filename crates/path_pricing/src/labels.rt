@@ -11,6 +11,7 @@ ghost use Rattle.path_pricing.specs.Blocks.{AreBoundsFrom, AllWithin-prop, IsInR
 ghost use Rattle.path_pricing.specs.Laws.{labels_hide, labels_kept, labels_safe, labels_stepwise, labels_valued};
 
 use depot_network::{OpenBlock, PoolNet, price};
+use label_dive::Floors;
 use label_search::{Labels, rest};
 use plan_core::Price;
 use plan_params::Pool;
@@ -178,5 +179,12 @@ impl Labels for BlockLabels<'_> {
 
     fn close(&self, label: &OpenBlock) -> Option<i64> {
         self.net.close_open(self.class, &self.pool, label)
+    }
+}
+
+impl Floors for BlockLabels<'_> {
+    /// The value so far and the completion bound behind the last trip.
+    fn floor(&self, label: &OpenBlock) -> i64 {
+        label.value.saturating_add(rest(self.rests, label.trip))
     }
 }

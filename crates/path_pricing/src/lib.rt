@@ -4,7 +4,6 @@
 #![tactic(auto)]
 
 mod behind;
-mod dive;
 mod labels;
 mod pricer;
 #[cfg(test)]

@@ -8,10 +8,10 @@ ghost use Rattle.depot_network.specs.Network.{blocks, caps_of};
 ghost use Rattle.path_pricing.specs.Blocks.{AreBoundsFrom};
 
 use crate::behind::rests_from;
-use crate::dive::{dive, likely};
 use crate::labels::BlockLabels;
 use cover_core::{Column, Columns, Pricer, Prices};
 use depot_network::PoolNet;
+use label_dive::{dive_from_least, likely};
 use label_search::best_column;
 use plan_core::{Memory, Price};
 use plan_params::Pool;
@@ -97,7 +97,7 @@ fn best_of_pool(
         first: 16 * group,
         end: 16 * group + 16,
     };
-    let likely = likely(dive(&labels), limit);
+    let likely = likely(dive_from_least(&labels, limit), limit, [0, 33]);
     best_column(alloc, net, &labels, class, &likely, limit)
 }
 

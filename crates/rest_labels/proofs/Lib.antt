@@ -4,3 +4,4 @@ pub mod Steps
 pub mod Grouped
 pub mod Spread
 pub mod Marked
+pub mod Ranges

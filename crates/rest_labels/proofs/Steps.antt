@@ -58,3 +58,9 @@ last-at (x ∷ y ∷ rest) h =
 pub ends-with : (bs : List (List ℕ)) (x y last : ℕ) (list : List ℕ) → list ≡ body_at bs y → x ≡ y → 1 ≤ length list → ((t : ℕ) → last_of (body_at bs x) ≡ Some t → last ≡ t) →
     last ≡ get_or list (length list - 1) 0
 ends-with bs x y last list is same some ends = ends (get_or list (length list - 1) 0) (ap (λ x. last_of (body_at bs x)) same ∙ ap last_of (sym is) ∙ last-at list some)
+
+-- an item that stands for something is there
+pub body-there : (bs : List (List ℕ)) (x y : ℕ) (ys : List ℕ) → body_at bs x ≡ y ∷ ys → x < length bs
+body-there [] x y ys e = absurd (cc)
+body-there (b ∷ bs) zero y ys e = omega arith
+body-there (b ∷ bs) (suc x) y ys e = let h = body-there bs x y ys e in omega (arith, h)

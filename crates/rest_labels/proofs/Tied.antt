@@ -1,18 +1,21 @@
--- The labels of a rest are tied to its worths.
+-- The labels of a rest are tied to its worths, group by group.
 use Rattle.std.proofs.Common.{◌≡◌, ◌≢◌, ℕ, ℤ, pos, ◌*◌, ◌-ℤ◌, ◌<◌, ◌≤◌, ◌&&◌, ◌||◌, Bool, true, false, not, nat_lt, nat_le, nat_eq, zero, suc, List, [], ◌∷◌, ◌++◌, length, Option, Some, None, refl, sym, ap, subst, ◌∙◌, arith, slice_get}
 use Rattle.std.specs.Option.{option_map}
 use Rattle.std.proofs.lemmas.Bool.Decides.{nat_tests}
 use Rattle.plan_core.specs.declared.Price.{Price}
 use Rattle.cover_core.specs.Cover.{Problem}
 use Rattle.cover_core.specs.Plans.{price_of, value_of}
+use Rattle.cover_core.specs.FirstLeast.{InGroup}
 use Rattle.cover_core.specs.Labels.{Labelling, label_after, label_of}
-use Rattle.label_search.specs.Pricing.{IsTied}
+use Rattle.label_search.specs.Pricing.{IsTiedInGroup, of_group}
+use Rattle.label_search.proofs.Pricing.{from-group, onto-group}
 use Rattle.label_search.proofs.Reached.{label_after-append}
 use Rattle.cover_rest.specs.declared.begun.Begun.{Begun}
 use Rattle.cover_rest.specs.Rest.{all_below, body_at, is_empty, may_go_on, none_below, rest_worth, rises, written}
 use Rattle.cover_rest.proofs.Lists.{both-true, from-cond, onto-cond, parts-rest, rest-parts, some-same, true-both}
 use Rattle.rest_labels.specs.declared.label.RestLabel.{RestLabel}
 use Rattle.rest_labels.specs.Labels.{ending, is_next, labels_of_rest, may_follow, may_start}
+use Rattle.rest_labels.specs.Laws.{BeginWithin, IsTiedWithin}
 use Rattle.rest_labels.specs.Kept.{after-none, parts-step, start-parts, step-parts}
 
 not-head : (hs : List Begun) (k : ℕ) → length hs ≤ k → slice_get hs k ≡ None
@@ -109,22 +112,30 @@ module _ {L : Type 0} (w : Labelling L) (heads : List Begun) (bs : List (List �
   of-append [] ys some = absurd (some refl)
   of-append (x ∷ xs) ys some = label_after-append w (w.start x) xs ys
 
-  module _ (p : Problem) (close : L → Option ℤ) (prices spread : List Price) (tied : IsTied w close spread (p.worth class))
+  -- a list that begins with a body begins with the body's first item
+  onto-body : {worth_of : List ℕ → Option ℕ} {close : L → Option ℤ} {prices : List Price} (first end : ℕ) (body more : List ℕ) (worth : ℕ) →
+      IsTiedWithin first end w close prices worth_of → body ≢ [] → ((y : ℕ) (ys : List ℕ) → body ≡ y ∷ ys → (first ≤ y) × (y < end)) →
+      worth_of (body ++ more) ≡ Some worth → (a : L) × (label_of w (body ++ more) ≡ Some a) × (close a ≡ Some (value_of prices worth (body ++ more)))
+  onto-body first end [] more worth tied some begin e = absurd (some refl)
+  onto-body first end (y ∷ ys) more worth tied some begin e = let (from, before) = begin y ys refl in tied.onto y (ys ++ more) worth from before e
+
+  module _ (p : Problem) (close : L → Option ℤ) (prices spread : List Price) (group start end : ℕ) (begin : BeginWithin bs group start end)
+      (tied : IsTiedWithin start end w close spread (p.worth class))
       (alike : (list : List ℕ) → all_below (length bs) list ≡ true → price_of spread (written bs list) ≡ price_of prices list)
       (first : (x : ℕ) (ys : List ℕ) → x < length bs → may class (body_at bs x ++ ys) ≡ may class (body_at bs x))
       (some : (x : ℕ) → x < length bs → body_at bs x ≢ []) where
     values : (worth : ℕ) (list : List ℕ) → all_below (length bs) list ≡ true → value_of spread worth (written bs list) ≡ value_of prices worth list
     values worth list below = ap (λ z. pos (1000 * worth) -ℤ z) (alike list below)
 
-    onto : (list : List ℕ) (worth : ℕ) → rest_worth p heads bs may class list ≡ Some worth → (a : RestLabel L) × (label_of r list ≡ Some a) × (close a.label ≡ Some (value_of prices worth list))
-    onto [] worth e = let bad = (rest-parts p heads bs may class [] worth e).keeps in absurd (cc)
-    onto (x ∷ xs) worth e =
+    onto : (list : List ℕ) (worth : ℕ) → rest_worth p heads bs may class list ≡ Some worth → InGroup group list → (a : RestLabel L) × (label_of r list ≡ Some a) × (close a.label ≡ Some (value_of prices worth list))
+    onto [] worth e inside = let bad = (rest-parts p heads bs may class [] worth e).keeps in absurd (cc)
+    onto (x ∷ xs) worth e inside =
         let parts = rest-parts p heads bs may class (x ∷ xs) worth e in
         let (there, below) = both-true (nat_lt x (length bs)) (all_below (length bs) xs) parts.below in
         let (past, goes) = both-true (none_below (length heads) xs) (may_go_on may class (slice_get heads x) xs (written bs (x ∷ xs))) parts.keeps in
         let within : x < length bs = grind (arith, nat_tests) in
         let (starts, follow) = goes-start (slice_get heads x) (body_at bs x) (written bs (x ∷ xs)) xs (first x (written bs xs) within) goes in
-        let (l, is, closes) = tied.onto (written bs (x ∷ xs)) worth parts.same in
+        let (l, is, closes) = onto-body start end (body_at bs x) (written bs xs) worth tied (some x within) (λ y ys is. begin x y ys inside is) parts.same in
         let split : label_after w (label_of w (body_at bs x)) (written bs xs) ≡ Some l = sym (of-append (body_at bs x) (written bs xs) (some x within)) ∙ is in
         let test = true-both (nat_lt x (length bs)) (begins x) there (begins-is x within ∙ starts) in
         elim (label_of w (body_at bs x)) as (λ o. label_of w (body_at bs x) ≡ o → label_after w o (written bs xs) ≡ Some l →
@@ -166,5 +177,8 @@ module _ {L : Type 0} (w : Labelling L) (heads : List Begun) (bs : List (List �
               )
         ] refl e
 
-    pub rest-tied : IsTied r (λ a. close a.label) prices (rest_worth p heads bs may class)
-    rest-tied = record { onto = onto; from = from }
+    pub rest-tied : IsTiedInGroup (of_group r group) (λ a. close a.label) prices group (rest_worth p heads bs may class)
+    rest-tied = record {
+      onto = λ list worth e inside. let (a, has, closes) = onto list worth e inside in (a, onto-group r group list inside ∙ has, closes);
+      from = λ list a v e closes. let (has, inside) = from-group r group list a e in let (worth, worth_is, value) = from list a v has closes in (inside, worth, worth_is, value);
+    }

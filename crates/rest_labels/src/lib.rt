@@ -5,6 +5,7 @@
 //! prices the rest too.
 #![tactic(auto)]
 
+mod begins;
 mod best;
 mod label;
 mod laws;
@@ -14,6 +15,7 @@ mod pricing;
 #[cfg(test)]
 mod tests;
 
+pub use begins::{ItemRange, first_items};
 pub use best::best_of_rest;
 pub use label::RestLabel;
 pub use laws::rest_is_tied;

@@ -11,6 +11,7 @@ ghost use Rattle.rest_labels.specs.Labels.{RestSound, ending, is_next, is_set, m
 ghost use Rattle.rest_labels.specs.Groups.{group-hides, group-kept, group-safe, group-stepwise, group-valued, group_labels};
 
 use crate::label::RestLabel;
+use label_dive::Floors;
 use label_search::Labels;
 use plan_core::Seq;
 
@@ -221,5 +222,12 @@ impl<W: Labels> Labels for RestLabels<'_, W> {
 
     fn close(&self, label: &RestLabel<W::Label>) -> Option<i64> {
         self.labels.close(&label.label)
+    }
+}
+
+impl<W: Floors> Floors for RestLabels<'_, W> {
+    /// That of the written-out list.
+    fn floor(&self, label: &RestLabel<W::Label>) -> i64 {
+        self.labels.floor(&label.label)
     }
 }

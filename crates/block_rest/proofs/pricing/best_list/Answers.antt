@@ -13,17 +13,16 @@ use Rattle.cover_rest.specs.Laws.{StandForAll}
 use Rattle.cover_rest.specs.Rest.{bodies, body_at, free_lists, rest_of}
 use Rattle.cover_rest.proofs.Kept.{many-bodies}
 use Rattle.trip_times.specs.declared.trip.Trip.{Trip}
-use Rattle.label_search.specs.Pricing.{IsTied}
-use Rattle.label_search.proofs.Pricing.{of_range-tied-all}
 use Rattle.day_model.specs.Facts.{DayFacts}
 use Rattle.day_model.specs.Blocks.{block_worth}
-use Rattle.depot_network.specs.declared.open.OpenBlock.{OpenBlock}
 use Rattle.depot_network.specs.Network.{blocks_of}
 use Rattle.depot_network.specs.Open.{closed_open, opening}
-use Rattle.depot_network.proofs.Opens.{opening_stepwise, opening_tied}
+use Rattle.depot_network.proofs.Opens.{opening_tied}
 use Rattle.path_pricing.specs.Blocks.{AreBoundsFrom, block_labels}
 use Rattle.rest_labels.specs.Labels.{is_set, may_follow, may_start, more_after}
+use Rattle.rest_labels.specs.Laws.{IsTiedWithin}
 use Rattle.rest_labels.specs.Prices.{AreAlike}
+use Rattle.rest_labels.proofs.Ranges.{range-tied-within}
 use Rattle.block_rest.specs.Rest.{begun_of, may_begin, rests}
 use Rattle.block_rest.proofs.Pricings.{first-alone}
 use Rattle.block_rest.proofs.pricing.best_list.Goals as goal
@@ -59,8 +58,8 @@ invariant_of-labels-clause-daily c =
 pub invariant_of-labels-clause-bounds : goal.invariant_of-labels-clause-bounds
 invariant_of-labels-clause-bounds c =
     let net = c.args.net.now in
-    let P : List Price → Type 0 = λ l. AreBoundsFrom net.day net.counts l c.pool_of.result.now c.in_ok-rests.rests.items 0 in
-    let Q : List ℤ → Type 0 = λ l. AreBoundsFrom net.day net.counts c.as_slice-2.result.now c.pool_of.result.now l 0 in
+    let P : List Price → Type 0 = λ l. AreBoundsFrom net.day net.counts l c.pool_of.result.now c.in_ok-rests.rests.items c.first_items-range.result.first in
+    let Q : List ℤ → Type 0 = λ l. AreBoundsFrom net.day net.counts c.as_slice-2.result.now c.pool_of.result.now l c.first_items-range.result.first in
     subst Q (sym c.as_slice-3.ensures.value) (subst P (c.as_slice.ensures.value ∙ sym c.as_slice-2.ensures.value) c.in_ok-rests.ensures)
 
 pub returns-clause-best : goal.returns-clause-best
@@ -107,10 +106,11 @@ returns-clause-best c =
     let alike : AreAlike bs c.args.prices.now spread = subst L (sym same) (c.in_ok-spread.ensures.alike stands) in
     let G : DayFacts → Type 0 = λ d. slice_get d.params.pools class ≡ Some pool in
     let there : slice_get day.params.pools class ≡ Some pool = subst G c.day-day.ensures c.pool_of.ensures.pool in
-    let few : length day.trips ≤ length c.trips.result.now = (let e : length c.trips.result.now ≡ length day.trips = ap length trips in omega (arith, e)) in
-    let tied : IsTied (block_labels day net.counts spread pool 0 (length c.trips.result.now)) (closed_open day net.counts pool) spread (block_worth day net.counts class) =
-    of_range-tied-all (opening day net.counts spread pool) (length day.trips) (length c.trips.result.now) (λ (a : OpenBlock). a.trip) (closed_open day net.counts pool) spread (block_worth day net.counts class)
-    (opening_stepwise day net.counts spread pool) few (opening_tied day net.counts spread pool class there) in
+    let first : ℕ = c.first_items-range.result.first in
+    let end : ℕ = c.first_items-range.result.end in
+    let tied : IsTiedWithin first end (block_labels day net.counts spread pool first end) (closed_open day net.counts pool) spread (block_worth day net.counts class) =
+    range-tied-within (opening day net.counts spread pool) first end (closed_open day net.counts pool) spread (block_worth day net.counts class)
+    (opening_tied day net.counts spread pool class there) in
     let fits : FitsSigned w64 c.args.limit = search rules in
     let limit : to_z w64 (of_z w64 c.args.limit) ≡ c.args.limit = to_z-of_z w64 c.args.limit fits in
     let W : ℤ → Type 0 = λ z. IfOk c.best_of_labels.result (λ (answer : Option Column). answer ≡ within z c.args.prices.now (best_of (rests rest) c.args.prices.now class c.args.group)) in
@@ -120,5 +120,15 @@ returns-clause-best c =
       bodies_are = stand;
       marks = record { starts_is = starts; ended_is = λ x within. ended x; each = count };
       are = record { some = all.some; first = λ x more within. first-alone day rest.moment class (body_at bs x) more (all.some x within); alike = alike };
+      first = first;
+      end = end;
+      begin = c.first_items-range.ensures.within;
       tied = tied;
     }))
+
+pub first_items-range-requires : goal.first_items-range-requires
+first_items-range-requires c =
+    let bs : List (List ℕ) = c.args.bodies.now in
+    let D : DayFacts → Type 0 = λ d. StandForAll (length d.trips) bs in
+    let T : List Trip → Type 0 = λ ts. StandForAll (length ts) bs in
+    subst T (sym c.trips.ensures.trips) (subst D (sym (c.day-day.ensures ∙ c.requires.day)) c.requires.made.all)

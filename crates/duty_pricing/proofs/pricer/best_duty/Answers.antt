@@ -6,8 +6,8 @@ use Rattle.duty_network.specs.Duties.{duties}
 use Rattle.duty_pricing.proofs.Ties.{made-tied}
 use Rattle.duty_pricing.proofs.pricer.best_duty.Goals as goal
 
-pub returns-then-is_none-clause-best : goal.returns-then-is_none-clause-best
-returns-then-is_none-clause-best c =
+pub returns-then-not-begins_within-clause-best : goal.returns-then-not-begins_within-clause-best
+returns-then-not-begins_within-clause-best c =
     let d = c.args.net.now in
     let labels = c.in_ok-whole.whole in
     let own = c.in_ok-whole.ensures in
