@@ -5,22 +5,25 @@ use Rattle.std.proofs.lemmas.Option.{slice_get_within, get_or_from_slice_get}
 use Rattle.plan_core.specs.declared.types.Point.{Point}
 use Rattle.trip_times.specs.declared.trip.Trip.{Trip}
 use Rattle.deadheads.specs.declared.moves.Ends.{Ends}
+use Rattle.deadheads.specs.DeadTimes.{dead_on}
 use Rattle.plan_params.specs.declared.rows.ParamRows.{ParamRows}
 use Rattle.plan_params.specs.declared.rows.pool.Pool.{Pool}
 use Rattle.plan_params.specs.LookUps.{admits_in}
-use Rattle.day_model.specs.declared.grid.Grid.{Grid}
 use Rattle.day_model.specs.declared.layout.Layout.{Layout}
-use Rattle.day_model.specs.declared.numbering.Numbering.{Numbering}
+use Rattle.point_grid.specs.declared.grid.Grid.{Grid}
+use Rattle.point_grid.specs.declared.numbering.Numbering.{Numbering}
+use Rattle.point_grid.specs.Grid.{IsGrid, told}
+use Rattle.point_grid.specs.Numbering.{AreNumbered}
+use Rattle.point_grid.proofs.Flat.{cell_told, cell_within, flat_at, grid_cell, mapped_at, there}
 use Rattle.day_model.specs.Facts.{DayFacts, admits, dead}
-use Rattle.day_model.specs.Layout.{AreLaidOut, AreNumbered, IsGrid, admissions_of, told}
+use Rattle.day_model.specs.Layout.{AreLaidOut, admissions_of}
 use Rattle.day_model.specs.Links.{admits_at, given, pull_in_at, with_pool, with_trip}
-use Rattle.day_model.proofs.Flat.{cell_told, cell_within, flat_at, grid_cell, mapped_at, there}
 
 -- a layout is made of its parts
 laid_of : (trips : List Trip) (params : ParamRows) (deads : List (Ends × ℕ)) (begins ends : Numbering) (between outward inward : Grid) (admitted : List Bool) →
     AreNumbered (map (λ (trip : Trip). trip.from) trips) begins → AreNumbered (map (λ (trip : Trip). trip.to) trips) ends →
-    IsGrid deads ends.points begins.points between → IsGrid deads (map (λ (pool : Pool). pool.depot) params.pools) begins.points outward →
-    IsGrid deads ends.points (map (λ (pool : Pool). pool.depot) params.pools) inward → admitted ≡ admissions_of params params.pools trips →
+    IsGrid (dead_on deads) ends.points begins.points between → IsGrid (dead_on deads) (map (λ (pool : Pool). pool.depot) params.pools) begins.points outward →
+    IsGrid (dead_on deads) ends.points (map (λ (pool : Pool). pool.depot) params.pools) inward → admitted ≡ admissions_of params params.pools trips →
     AreLaidOut trips params deads (record { begins = begins.numbers; ends = ends.numbers; between = between; outward = outward; inward = inward; admitted = admitted })
 laid_of trips params deads begins ends between outward inward admitted first last are_between are_outward are_inward are_admitted =
     let from : Trip → Point = λ trip. trip.from in
@@ -29,9 +32,9 @@ laid_of trips params deads begins ends between outward inward admitted first las
     record {
       begins = first.count ∙ length-map trips from;
       ends = last.count ∙ length-map trips to;
-      between = λ t u trip next at at'. grid_cell deads ends.points begins.points between (slice_index ends.numbers t) (slice_index begins.numbers u) trip.to next.from are_between (last.points t trip.to (mapped_at to trips t trip at)) (first.points u next.from (mapped_at from trips u next at'));
-      outward = λ class u pool next at at'. grid_cell deads (map depot params.pools) begins.points outward class (slice_index begins.numbers u) pool.depot next.from are_outward (mapped_at depot params.pools class pool at) (first.points u next.from (mapped_at from trips u next at'));
-      inward = λ class t pool trip at at'. grid_cell deads ends.points (map depot params.pools) inward (slice_index ends.numbers t) class trip.to pool.depot are_inward (last.points t trip.to (mapped_at to trips t trip at')) (mapped_at depot params.pools class pool at);
+      between = λ t u trip next at at'. grid_cell (dead_on deads) ends.points begins.points between (slice_index ends.numbers t) (slice_index begins.numbers u) trip.to next.from are_between (last.points t trip.to (mapped_at to trips t trip at)) (first.points u next.from (mapped_at from trips u next at'));
+      outward = λ class u pool next at at'. grid_cell (dead_on deads) (map depot params.pools) begins.points outward class (slice_index begins.numbers u) pool.depot next.from are_outward (mapped_at depot params.pools class pool at) (first.points u next.from (mapped_at from trips u next at'));
+      inward = λ class t pool trip at at'. grid_cell (dead_on deads) ends.points (map depot params.pools) inward (slice_index ends.numbers t) class trip.to pool.depot are_inward (last.points t trip.to (mapped_at to trips t trip at')) (mapped_at depot params.pools class pool at);
       admitted = are_admitted;
     }
 
@@ -39,15 +42,15 @@ laid_of trips params deads begins ends between outward inward admitted first las
 pub laid_out : (trips : List Trip) (params : ParamRows) (deads : List (Ends × ℕ)) (begins ends : Numbering) (between outward inward : Grid) (admitted : List Bool) (firsts lasts depots from to : List Point) →
     firsts ≡ map (λ (trip : Trip). trip.from) trips → lasts ≡ map (λ (trip : Trip). trip.to) trips → depots ≡ map (λ (pool : Pool). pool.depot) params.pools →
     from ≡ begins.points → to ≡ ends.points →
-    AreNumbered firsts begins → AreNumbered lasts ends → IsGrid deads to from between → IsGrid deads depots from outward → IsGrid deads to depots inward → admitted ≡ admissions_of params params.pools trips →
+    AreNumbered firsts begins → AreNumbered lasts ends → IsGrid (dead_on deads) to from between → IsGrid (dead_on deads) depots from outward → IsGrid (dead_on deads) to depots inward → admitted ≡ admissions_of params params.pools trips →
     AreLaidOut trips params deads (record { begins = begins.numbers; ends = ends.numbers; between = between; outward = outward; inward = inward; admitted = admitted })
 laid_out trips params deads begins ends between outward inward admitted firsts lasts depots from to e1 e2 e3 e4 e5 first last are_between are_outward are_inward are_admitted =
     laid_of trips params deads begins ends between outward inward admitted
     (let P : List Point → Type 0 = λ ps. AreNumbered ps begins in subst P e1 first)
     (let P : List Point → Type 0 = λ ps. AreNumbered ps ends in subst P e2 last)
-    (let P : List Point → Type 0 = λ ps. IsGrid deads ends.points ps between in let Q : List Point → Type 0 = λ ps. IsGrid deads ps from between in subst P e4 (subst Q e5 are_between))
-    (let P : List Point → Type 0 = λ ps. IsGrid deads (map (λ (pool : Pool). pool.depot) params.pools) ps outward in let Q : List Point → Type 0 = λ ps. IsGrid deads ps from outward in subst P e4 (subst Q e3 are_outward))
-    (let P : List Point → Type 0 = λ ps. IsGrid deads ends.points ps inward in let Q : List Point → Type 0 = λ ps. IsGrid deads ps depots inward in subst P e3 (subst Q e5 are_inward))
+    (let P : List Point → Type 0 = λ ps. IsGrid (dead_on deads) ends.points ps between in let Q : List Point → Type 0 = λ ps. IsGrid (dead_on deads) ps from between in subst P e4 (subst Q e5 are_between))
+    (let P : List Point → Type 0 = λ ps. IsGrid (dead_on deads) (map (λ (pool : Pool). pool.depot) params.pools) ps outward in let Q : List Point → Type 0 = λ ps. IsGrid (dead_on deads) ps from outward in subst P e4 (subst Q e3 are_outward))
+    (let P : List Point → Type 0 = λ ps. IsGrid (dead_on deads) ends.points ps inward in let Q : List Point → Type 0 = λ ps. IsGrid (dead_on deads) ps depots inward in subst P e3 (subst Q e5 are_inward))
     are_admitted
 
 abbrev pub place : Grid → ℕ → ℕ → ℕ

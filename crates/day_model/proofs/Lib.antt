@@ -1,5 +1,4 @@
 pub mod Timed
 pub mod Outcomes
 pub mod Same
-pub mod Flat
 pub mod Laid

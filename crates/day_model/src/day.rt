@@ -10,13 +10,13 @@ ghost use Rattle.day_model.specs.Links.{admits_at, link_at, pull_in_at, pull_out
 ghost use Rattle.day_model.specs.Ranges.{AreInRange, IsDaily, IsShort};
 
 use crate::going::{by_depot, direct, leaving};
-use crate::grid::time_at;
 use crate::layout::Layout;
 use crate::link::Link;
 use day_calendar::DayKind;
 use deadheads::Deadheads;
 use plan_core::{Memory, Seq};
 use plan_params::Params;
+use point_grid::time_at;
 use std::alloc::Global;
 use std::marker::Model;
 use trip_times::Trip;

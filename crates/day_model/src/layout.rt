@@ -1,15 +1,15 @@
 //! What is asked of a day's trips and pools, laid out flat.
 
 ghost use Rattle.std.specs.Prelude.{◌≡◌, ◌≤◌, ◌++◌, IfOk, OnOk, length, map};
+ghost use Rattle.deadheads.specs.DeadTimes.{dead_on};
 ghost use Rattle.plan_params.specs.LookUps.{admits_in};
 ghost use Rattle.day_model.specs.Building.{most_trips};
 ghost use Rattle.day_model.specs.Layout.{AreLaidOut, admissions_of};
 
-use crate::grid::{Grid, grid_of};
-use crate::numbering::numbering_of;
 use deadheads::Deadheads;
 use plan_core::{Memory, Point, Seq};
 use plan_params::{Params, Pool};
+use point_grid::{Grid, PointTimes, grid_of, numbering_of};
 use std::alloc::Global;
 use trip_times::Trip;
 
@@ -28,6 +28,20 @@ pub struct Layout {
     pub inward: Grid,
     /// Whether pools admit trips, pool by pool.
     pub admitted: Seq<bool>,
+}
+
+/// How long deadheads take.
+#[derive(Drop)]
+struct DeadTimes<'d> {
+    deads: &'d Deadheads,
+}
+
+impl PointTimes for DeadTimes<'_> {
+    ghost times = { λ s from to. dead_on s.deads.now from to };
+
+    fn time(&self, from: Point, to: Point) -> Option<u32> {
+        self.deads.dead(from, to)
+    }
 }
 
 fn first_points(alloc: Global, trips: &[Trip]) -> Result<Vec<Point>, Memory>
@@ -91,9 +105,10 @@ pub(crate) fn layout_of(
     let from = begins.points.as_slice();
     let to = ends.points.as_slice();
     let depots = places.as_slice();
-    let between = grid_of(alloc, deads, to, from)?;
-    let outward = grid_of(alloc, deads, depots, from)?;
-    let inward = grid_of(alloc, deads, to, depots)?;
+    let times = DeadTimes { deads };
+    let between = grid_of(alloc, &times, to, from)?;
+    let outward = grid_of(alloc, &times, depots, from)?;
+    let inward = grid_of(alloc, &times, to, depots)?;
     let admitted = admissions(alloc, params, trips)?;
     Ok(Layout {
         begins: begins.numbers,

@@ -10,10 +10,8 @@ mod building;
 mod day;
 mod fault;
 mod going;
-mod grid;
 mod layout;
 mod link;
-mod numbering;
 #[cfg(test)]
 mod tests;
 

@@ -14,7 +14,7 @@ use Rattle.plan_params.specs.declared.rows.group.Group.{Group}
 use Rattle.cover_core.specs.declared.marks.Mark.{Mark}
 use Rattle.duty_network.specs.Duties.{DutyFacts, limits_of, pause, pause_at, sign_off, sign_on}
 use Rattle.duty_network.specs.Ranges.{off_value}
-use Rattle.duty_network.proofs.Flat.{there}
+use Rattle.point_grid.proofs.Flat.{there}
 use Rattle.duty_network.specs.Marks.{first_mark, is_open, next_mark, one_mark, extended_mark, marking, IsAtLeastAsGood, closes_lawfully, closed_value}
 
 pub Some-same : {A : Type 0} (x y : A) → Some x ≡ Some y → x ≡ y

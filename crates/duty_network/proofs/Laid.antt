@@ -1,23 +1,25 @@
 -- What is read in the layout of a net is what the settings say.
-use Rattle.std.proofs.Common.{◌≡◌, ℕ, ◌+◌, ◌*◌, ◌<◌, List, length, map, Some, refl, sym, subst, ◌∙◌, slice_get, slice_index}
+use Rattle.std.proofs.Common.{◌≡◌, ℕ, ◌+◌, ◌*◌, ◌<◌, List, length, map, refl, sym, subst, ◌∙◌, slice_index}
 use Rattle.std.proofs.lemmas.List.{length-map}
 use Rattle.plan_core.specs.declared.types.Point.{Point}
 use Rattle.plan_core.specs.declared.types.Piece.{Piece}
 use Rattle.plan_params.specs.declared.rows.ParamRows.{ParamRows}
 use Rattle.plan_params.specs.declared.rows.group.Group.{Group}
 use Rattle.plan_params.specs.LookUps.{way_in}
-use Rattle.duty_network.specs.declared.grid.Grid.{Grid}
 use Rattle.duty_network.specs.declared.layout.Layout.{Layout}
-use Rattle.duty_network.specs.declared.numbering.Numbering.{Numbering}
-use Rattle.duty_network.specs.Duties.{DutyFacts, from_home_at, to_home_at, with_group, with_piece}
-use Rattle.duty_network.specs.Layout.{AreLaidOut, AreNumbered, IsGrid, told}
-use Rattle.duty_network.proofs.Flat.{cell_told, cell_within, grid_cell, mapped_at, there}
+use Rattle.point_grid.specs.declared.grid.Grid.{Grid}
+use Rattle.point_grid.specs.declared.numbering.Numbering.{Numbering}
+use Rattle.point_grid.specs.Grid.{IsGrid, told}
+use Rattle.point_grid.specs.Numbering.{AreNumbered}
+use Rattle.point_grid.proofs.Flat.{cell_told, cell_within, grid_cell, mapped_at, there}
+use Rattle.duty_network.specs.Duties.{DutyFacts, to_home_at, with_group, with_piece}
+use Rattle.duty_network.specs.Layout.{AreLaidOut}
 
 -- a layout is made of its parts
 laid_of : (pieces : List Piece) (params : ParamRows) (begins ends : Numbering) (between outward inward : Grid) →
     AreNumbered (map (λ (piece : Piece). piece.from) pieces) begins → AreNumbered (map (λ (piece : Piece). piece.to) pieces) ends →
-    IsGrid params ends.points begins.points between → IsGrid params (map (λ (group : Group). group.home) params.groups) begins.points outward →
-    IsGrid params ends.points (map (λ (group : Group). group.home) params.groups) inward →
+    IsGrid (way_in params) ends.points begins.points between → IsGrid (way_in params) (map (λ (group : Group). group.home) params.groups) begins.points outward →
+    IsGrid (way_in params) ends.points (map (λ (group : Group). group.home) params.groups) inward →
     AreLaidOut pieces params (record { begins = begins.numbers; ends = ends.numbers; between = between; outward = outward; inward = inward })
 laid_of pieces params begins ends between outward inward first last are_between are_outward are_inward =
     let from : Piece → Point = λ piece. piece.from in
@@ -26,24 +28,24 @@ laid_of pieces params begins ends between outward inward first last are_between 
     record {
       begins = first.count ∙ length-map pieces from;
       ends = last.count ∙ length-map pieces to;
-      between = λ t u piece next at at'. grid_cell params ends.points begins.points between (slice_index ends.numbers t) (slice_index begins.numbers u) piece.to next.from are_between (last.points t piece.to (mapped_at to pieces t piece at)) (first.points u next.from (mapped_at from pieces u next at'));
-      outward = λ class u group next at at'. grid_cell params (map home params.groups) begins.points outward class (slice_index begins.numbers u) group.home next.from are_outward (mapped_at home params.groups class group at) (first.points u next.from (mapped_at from pieces u next at'));
-      inward = λ class t group piece at at'. grid_cell params ends.points (map home params.groups) inward (slice_index ends.numbers t) class piece.to group.home are_inward (last.points t piece.to (mapped_at to pieces t piece at')) (mapped_at home params.groups class group at);
+      between = λ t u piece next at at'. grid_cell (way_in params) ends.points begins.points between (slice_index ends.numbers t) (slice_index begins.numbers u) piece.to next.from are_between (last.points t piece.to (mapped_at to pieces t piece at)) (first.points u next.from (mapped_at from pieces u next at'));
+      outward = λ class u group next at at'. grid_cell (way_in params) (map home params.groups) begins.points outward class (slice_index begins.numbers u) group.home next.from are_outward (mapped_at home params.groups class group at) (first.points u next.from (mapped_at from pieces u next at'));
+      inward = λ class t group piece at at'. grid_cell (way_in params) ends.points (map home params.groups) inward (slice_index ends.numbers t) class piece.to group.home are_inward (last.points t piece.to (mapped_at to pieces t piece at')) (mapped_at home params.groups class group at);
     }
 
 -- the same, where its parts are over lists of points that are read first
 pub laid_out : (pieces : List Piece) (params : ParamRows) (begins ends : Numbering) (between outward inward : Grid) (firsts lasts homes from to : List Point) →
     firsts ≡ map (λ (piece : Piece). piece.from) pieces → lasts ≡ map (λ (piece : Piece). piece.to) pieces → homes ≡ map (λ (group : Group). group.home) params.groups →
     from ≡ begins.points → to ≡ ends.points →
-    AreNumbered firsts begins → AreNumbered lasts ends → IsGrid params to from between → IsGrid params homes from outward → IsGrid params to homes inward →
+    AreNumbered firsts begins → AreNumbered lasts ends → IsGrid (way_in params) to from between → IsGrid (way_in params) homes from outward → IsGrid (way_in params) to homes inward →
     AreLaidOut pieces params (record { begins = begins.numbers; ends = ends.numbers; between = between; outward = outward; inward = inward })
 laid_out pieces params begins ends between outward inward firsts lasts homes from to e1 e2 e3 e4 e5 first last are_between are_outward are_inward =
     laid_of pieces params begins ends between outward inward
     (let P : List Point → Type 0 = λ ps. AreNumbered ps begins in subst P e1 first)
     (let P : List Point → Type 0 = λ ps. AreNumbered ps ends in subst P e2 last)
-    (let P : List Point → Type 0 = λ ps. IsGrid params ends.points ps between in let Q : List Point → Type 0 = λ ps. IsGrid params ps from between in subst P e4 (subst Q e5 are_between))
-    (let P : List Point → Type 0 = λ ps. IsGrid params (map (λ (group : Group). group.home) params.groups) ps outward in let Q : List Point → Type 0 = λ ps. IsGrid params ps from outward in subst P e4 (subst Q e3 are_outward))
-    (let P : List Point → Type 0 = λ ps. IsGrid params ends.points ps inward in let Q : List Point → Type 0 = λ ps. IsGrid params ps homes inward in subst P e3 (subst Q e5 are_inward))
+    (let P : List Point → Type 0 = λ ps. IsGrid (way_in params) ends.points ps between in let Q : List Point → Type 0 = λ ps. IsGrid (way_in params) ps from between in subst P e4 (subst Q e5 are_between))
+    (let P : List Point → Type 0 = λ ps. IsGrid (way_in params) (map (λ (group : Group). group.home) params.groups) ps outward in let Q : List Point → Type 0 = λ ps. IsGrid (way_in params) ps from outward in subst P e4 (subst Q e3 are_outward))
+    (let P : List Point → Type 0 = λ ps. IsGrid (way_in params) ends.points ps inward in let Q : List Point → Type 0 = λ ps. IsGrid (way_in params) ps homes inward in subst P e3 (subst Q e5 are_inward))
 
 abbrev pub place : Grid → ℕ → ℕ → ℕ
 place grid row column = row * grid.columns + column

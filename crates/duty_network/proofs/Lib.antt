@@ -1,4 +1,3 @@
-pub mod Flat
 pub mod Laid
 pub mod Better
 pub mod Lists

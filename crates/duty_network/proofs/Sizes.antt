@@ -1,9 +1,9 @@
 -- The numbers of marks fit.
-use Rattle.std.proofs.Common.{◌≡◌, ℕ, ℤ, pos, negsuc, neg_ℤ, ◌-ℤ◌, ◌*ℤ◌, ◌≤ℤ◌, ◌*◌, ◌≤◌, Bool, true, false, cond, zero, suc, List, [], ◌∷◌, refl, arith, subst}
+use Rattle.std.proofs.Common.{◌≡◌, ℕ, ℤ, pos, negsuc, neg_ℤ, ◌-ℤ◌, ◌*ℤ◌, ◌≤ℤ◌, ◌*◌, ◌≤◌, Bool, true, false, cond, zero, suc, List, [], ◌∷◌, arith, subst}
 use Rattle.std.proofs.lemmas.Int.{ints}
 use Rattle.std.proofs.Math.Nat.{mul-le-mul}
 use lib.IntN.{pos-*ℤ-pos, pos-*ℤ-negsuc}
-use Rattle.std.specs.Prelude.{All, Option, Some, None, ◌<◌, ◌+◌, ◌&&◌, nat_lt, slice_get, length, if◌then◌else◌}
+use Rattle.std.specs.Prelude.{All, Some, ◌&&◌, nat_lt, slice_get, length, if◌then◌else◌}
 use Rattle.std.specs.List.{find}
 use Rattle.std.specs.Option.{option_map}
 use Rattle.std.proofs.lemmas.List.Elements.{All-head, All-tail}

@@ -1,6 +1,6 @@
 -- Lists of pieces that are walked drive by drive.
-use Rattle.std.proofs.Common.{◌≡◌, ℕ, ℤ, ◌-ℤ◌, ◌+◌, ◌*◌, ◌<◌, ◌≤◌, Bool, true, false, cond, zero, suc, List, [], ◌∷◌, ◌++◌, length, refl, sym, ap, subst, ◌∙◌, arith, append_assoc, add-one, drop, drop-cons, slice_get}
-use Rattle.std.specs.Prelude.{Option, Some, None, option_and_then, nat_lt, ◌↔◌, IfNone, IfSome, slice_index_or}
+use Rattle.std.proofs.Common.{◌≡◌, ℕ, ◌+◌, ◌*◌, ◌<◌, ◌≤◌, Bool, true, false, cond, zero, suc, List, [], ◌∷◌, ◌++◌, length, refl, sym, ap, subst, ◌∙◌, arith, append_assoc, add-one, drop, drop-cons, slice_get}
+use Rattle.std.specs.Prelude.{Option, Some, None, option_and_then, nat_lt, IfNone, IfSome, slice_index_or}
 use Rattle.std.proofs.lemmas.Bool.Decides.{nat_tests}
 use Rattle.std.specs.Option.{option_map}
 use Rattle.std.proofs.lemmas.Iterator.Adapters.{option_map_id}
@@ -11,12 +11,12 @@ use Rattle.eu561_rules.specs.declared.rules.Drive.{Drive}
 use Rattle.eu561_rules.specs.declared.rules.Limits.{Limits}
 use Rattle.eu561_rules.specs.declared.rules.Verdict.{Verdict}
 use Rattle.eu561_rules.specs.declared.rules.Verdict.TheVariants.{Lawful}
-use Rattle.eu561_rules.specs.Duty.{IsLawful, Judged}
+use Rattle.eu561_rules.specs.Duty.{Judged}
 use Rattle.eu561_rules.specs.Lawful.{is_lawful}
 use Rattle.eu561_rules.specs.Summary.{StandsFor, Summary}
 use Rattle.eu561_rules.proofs.Runs.{both_true, and_true, lawful-test, test-lawful}
 use Rattle.eu561_rules.proofs.Verdicts.{judged-lawful}
-use Rattle.duty_network.specs.Times.{given, rises, seconds}
+use Rattle.duty_network.specs.Times.{given, rises}
 use Rattle.duty_network.specs.Duties.{Duty, DutyFacts, cost_of, drives_after, duty_of, duty_worth, last_piece, limits_of, pause, pause_at, pieces_at, sign_off, sign_on}
 use Rattle.duty_network.specs.Courses.{HasNoSpan, IsCourse, IsSpanned, IsTallied, IsTallying, IsWalked, drive_of, drives_on, last_number}
 use Rattle.duty_network.specs.declared.courses.Course.{Course}

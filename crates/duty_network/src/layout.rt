@@ -1,12 +1,12 @@
 //! What is asked of pieces and groups of drivers, laid out flat.
 
 ghost use Rattle.std.specs.Prelude.{◌≡◌, ◌≤◌, IfOk, length, map};
+ghost use Rattle.plan_params.specs.LookUps.{way_in};
 ghost use Rattle.duty_network.specs.Layout.{AreLaidOut};
 
-use crate::grid::{Grid, grid_of};
-use crate::numbering::numbering_of;
 use plan_core::{Memory, Piece, Point, Seq};
 use plan_params::{Group, Params};
+use point_grid::{Grid, PointTimes, grid_of, numbering_of};
 use std::alloc::Global;
 
 /// The ways of drivers by the numbers of pieces and groups.
@@ -22,6 +22,20 @@ pub struct Layout {
     pub outward: Grid,
     /// From last points to homes.
     pub inward: Grid,
+}
+
+/// How long drivers are on their ways.
+#[derive(Drop)]
+struct WayTimes<'p> {
+    params: &'p Params,
+}
+
+impl PointTimes for WayTimes<'_> {
+    ghost times = { λ s from to. way_in s.params.now from to };
+
+    fn time(&self, from: Point, to: Point) -> Option<u32> {
+        self.params.way(from, to)
+    }
 }
 
 fn first_points(alloc: Global, pieces: &[Piece]) -> Result<Vec<Point>, Memory>
@@ -55,9 +69,10 @@ pub(crate) fn layout_of(alloc: Global, pieces: &[Piece], params: &Params) -> Res
     let from = begins.points.as_slice();
     let to = ends.points.as_slice();
     let homes = places.as_slice();
-    let between = grid_of(alloc, params, to, from)?;
-    let outward = grid_of(alloc, params, homes, from)?;
-    let inward = grid_of(alloc, params, to, homes)?;
+    let times = WayTimes { params };
+    let between = grid_of(alloc, &times, to, from)?;
+    let outward = grid_of(alloc, &times, homes, from)?;
+    let inward = grid_of(alloc, &times, to, homes)?;
     Ok(Layout {
         begins: begins.numbers,
         ends: ends.numbers,

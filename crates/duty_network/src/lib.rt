@@ -4,12 +4,10 @@
 
 mod columns;
 mod courses;
-mod grid;
 mod laws;
 mod layout;
 mod marks;
 mod net;
-mod numbering;
 #[cfg(test)]
 mod tests;
 

@@ -9,11 +9,11 @@ ghost use Rattle.duty_network.specs.Duties.{follows, from_home_at, is_count, pau
 ghost use Rattle.duty_network.specs.Layout.{AreLaidOut};
 ghost use Rattle.duty_network.specs.Ranges.{IsShift, NetFits};
 
-use crate::grid::time_at;
 use crate::layout::{Layout, layout_of};
 use cover_core::Worth;
 use plan_core::{Memory, Piece, Seq};
 use plan_params::{Group, Params};
+use point_grid::time_at;
 use std::alloc::Global;
 use std::marker::Model;
 

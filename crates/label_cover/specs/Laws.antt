@@ -24,7 +24,7 @@ use Rattle.duty_network.specs.Duties.{DutyFacts, caps_of, duties, duty_worth, li
 use Rattle.duty_network.specs.Marks.{closed_value, extended_mark, first_mark, is_as_good, is_open, marking, next_mark, one_mark, IsAtLeastAsGood}
 use Rattle.duty_network.specs.Ranges.{NetFits}
 use Rattle.duty_network.proofs.Better.{Some-same, and_then-Some, from-extended, given-Some, good-kept, good-valued}
-use Rattle.duty_network.proofs.Flat.{there}
+use Rattle.point_grid.proofs.Flat.{there}
 use Rattle.duty_network.proofs.Sizes.{on-fits, on-range, shift-at, timed-from}
 use Rattle.duty_network.proofs.Tied.{at-below, good-test, later-piece, marking-stepwise, marking-tied, test-good}
 use Rattle.unpaid_list.specs.Laws.{AreValued}

@@ -1,5 +1,5 @@
 use Rattle.std.proofs.Common.{◌∙◌}
-use Rattle.duty_network.proofs.Flat.{there}
+use Rattle.point_grid.proofs.Flat.{there}
 use Rattle.label_cover.proofs.Shapes.{close-parts}
 use Rattle.label_cover.proofs.steps.close.Goals as goal
 

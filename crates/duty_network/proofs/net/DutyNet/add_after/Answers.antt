@@ -1,7 +1,7 @@
-use Rattle.std.proofs.Common.{◌≡◌, ◌<◌, ◌≤◌, ◌∙◌, sym, refl, arith, length, ◌∷◌, None}
+use Rattle.std.proofs.Common.{◌≡◌, ◌∙◌, sym, refl, arith, ◌∷◌, None}
 use Rattle.cover_core.proofs.Values.{AllBelow-get}
-use Rattle.duty_network.specs.Courses.{IsTallying, drive_of, drives_on}
-use Rattle.duty_network.proofs.Flat.{there}
+use Rattle.duty_network.specs.Courses.{drive_of, drives_on}
+use Rattle.point_grid.proofs.Flat.{there}
 use Rattle.duty_network.proofs.Walked.{if-none, tallying-all, tallying-falls, tallying-next, tallying-none, tallying-stops}
 use Rattle.duty_network.proofs.net.DutyNet.add_after.Goals as goal
 

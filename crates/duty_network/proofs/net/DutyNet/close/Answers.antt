@@ -1,5 +1,5 @@
 use Rattle.std.proofs.Common.{◌∙◌}
-use Rattle.duty_network.proofs.Flat.{there}
+use Rattle.point_grid.proofs.Flat.{there}
 use Rattle.duty_network.proofs.Better.{close-shape}
 use Rattle.duty_network.proofs.net.DutyNet.close.Goals as goal
 

@@ -1,11 +1,11 @@
-use Rattle.std.proofs.Common.{◌≡◌, ◌<◌, ◌∙◌, ◌∷◌, None, Some, ap, refl, sym, subst, length, slice_get}
+use Rattle.std.proofs.Common.{◌≡◌, ◌∙◌, ◌∷◌, None, Some, ap, sym, subst, slice_get}
 use Rattle.plan_core.specs.declared.types.Piece.{Piece}
 use Rattle.plan_params.specs.declared.rows.group.Group.{Group}
-use Rattle.duty_network.specs.Courses.{HasNoSpan, IsCourse, IsSpanned, IsTallied, drive_of, drives_on}
+use Rattle.duty_network.specs.Courses.{HasNoSpan, IsCourse, IsSpanned}
 use Rattle.duty_network.specs.Duties.{Duty, duty_of}
 use Rattle.duty_network.specs.declared.courses.Course.{Course}
 use Rattle.duty_network.proofs.Better.{Some-same}
-use Rattle.duty_network.proofs.Flat.{there}
+use Rattle.point_grid.proofs.Flat.{there}
 use Rattle.duty_network.proofs.Walked.{course-of, if-none, none-map, none-span, none-walk, some-map}
 use Rattle.duty_network.proofs.net.DutyNet.course_from.Goals as goal
 

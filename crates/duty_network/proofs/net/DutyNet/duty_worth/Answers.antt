@@ -1,4 +1,4 @@
-use Rattle.std.proofs.Common.{◌≡◌, ◌∙◌, sym, ap, subst, ℕ, Bool, Some, None, cond, ◌+◌, ◌*◌}
+use Rattle.std.proofs.Common.{◌≡◌, ◌∙◌, sym, ap, subst, ℕ, Bool, Some, cond, ◌+◌, ◌*◌}
 use Rattle.eu561_rules.specs.declared.rules.Verdict.{Verdict}
 use Rattle.eu561_rules.specs.Duty.{Judged}
 use Rattle.duty_network.proofs.Walked.{worth-lawful, worth-unlawful}

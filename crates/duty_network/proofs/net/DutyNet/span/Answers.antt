@@ -1,11 +1,8 @@
-use Rattle.std.proofs.Common.{◌≡◌, ◌∙◌, ℤ, ap, sym, rules, w64, to_z, of_z, Some, refl}
+use Rattle.std.proofs.Common.{◌≡◌, ◌∙◌, ℤ, rules, w64, to_z, of_z, refl}
 use Rattle.std.proofs.lemmas.Int.{to_z-of_z}
 use Rattle.std.specs.Prelude.{FitsSigned}
-use Rattle.duty_network.specs.Courses.{span_of}
-use Rattle.duty_network.specs.Duties.{duty_of}
-use Rattle.std.specs.Option.{option_map}
 use Rattle.plan_core.specs.declared.types.Sec.{Sec}
-use Rattle.duty_network.proofs.Flat.{there}
+use Rattle.point_grid.proofs.Flat.{there}
 use Rattle.duty_network.proofs.net.DutyNet.span.Goals as goal
 
 abbrev sec : ℤ → Sec

@@ -2,7 +2,7 @@ use Rattle.std.proofs.Common.{◌≡◌, ◌∙◌, ap, sym, subst, ℕ}
 use Rattle.eu561_rules.specs.declared.rules.Limits.{Limits}
 use Rattle.eu561_rules.specs.Duty.{Judged}
 use Rattle.duty_network.specs.Duties.{limits_of}
-use Rattle.duty_network.proofs.Flat.{there}
+use Rattle.point_grid.proofs.Flat.{there}
 use Rattle.duty_network.proofs.net.DutyNet.verdict.Goals as goal
 
 pub returns-clause-some : goal.returns-clause-some

@@ -4,10 +4,8 @@ use Rattle.std.specs.List.{flat_map}
 use Rattle.std.proofs.lemmas.List.{length-map, get_or-map}
 use Rattle.std.proofs.lemmas.Option.{same_Some, slice_get_within, get_or_from_slice_get}
 use Rattle.plan_core.specs.declared.types.Point.{Point}
-use Rattle.deadheads.specs.declared.moves.Ends.{Ends}
-use Rattle.deadheads.specs.DeadTimes.{dead_on}
-use Rattle.day_model.specs.declared.grid.Grid.{Grid}
-use Rattle.day_model.specs.Layout.{IsCell, IsGrid, told}
+use Rattle.point_grid.specs.declared.grid.Grid.{Grid}
+use Rattle.point_grid.specs.Grid.{IsCell, IsGrid, told}
 
 pub there : {A : Type 0} (xs : List A) (i : ℕ) → i < length xs → (x : A) × (slice_get xs i ≡ Some x)
 there [] i within = absurd (omega (arith, within))
@@ -47,12 +45,13 @@ mapped_at f (y ∷ xs) zero x e = ap (λ z. Some (f z)) (same_Some y x e)
 mapped_at f (y ∷ xs) (suc i) x e = mapped_at f xs i x e
 
 -- the cell of a grid
-pub grid_cell : (deads : List (Ends × ℕ)) (rows columns : List Point) (grid : Grid) (r c : ℕ) (from to : Point) → IsGrid deads rows columns grid →
-    slice_get rows r ≡ Some from → slice_get columns c ≡ Some to → IsCell grid r c (dead_on deads from to)
-grid_cell deads rows columns grid r c from to is at at' =
-    let row : Point → List (Option ℕ) = λ a. map (λ (b : Point). dead_on deads a b) columns in
+pub grid_cell : (time : Point → Point → Option ℕ) (rows columns : List Point) (grid : Grid) (r c : ℕ) (from to : Point) → IsGrid time rows columns grid →
+    slice_get rows r ≡ Some from → slice_get columns c ≡ Some to → IsCell grid r c (time from to)
+grid_cell time rows columns grid r c from to is at at' =
+    let row : Point → List (Option ℕ) = λ a. map (λ (b : Point). time a b) columns in
     ap (λ (cells : List (Option ℕ)). slice_get cells (r * grid.columns + c)) is.cells
-    ∙ flat_at row (length columns) (λ a. length-map columns (λ (b : Point). dead_on deads a b)) rows r from at c (dead_on deads from to) (mapped_at (λ (b : Point). dead_on deads from b) columns c to at') (r * grid.columns + c) (ap (λ n. r * n + c) is.width)
+    ∙ flat_at row (length columns) (λ a. length-map columns (λ (b : Point). time a b)) rows r from at c (time from to)
+    (mapped_at (λ (b : Point). time from b) columns c to at') (r * grid.columns + c) (ap (λ n. r * n + c) is.width)
 
 pub cell_within : (grid : Grid) (r c : ℕ) (time : Option ℕ) → IsCell grid r c time → r * grid.columns + c < length grid.cells
 cell_within grid r c time is =

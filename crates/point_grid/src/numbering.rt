@@ -1,7 +1,7 @@
 //! Points by dense numbers.
 
 ghost use Rattle.std.specs.Prelude.{◌≡◌, ◌<◌, ◌≤◌, ◌+◌, ◌^◌, IfOk, IfSome, OnOk, Some, length, slice_get};
-ghost use Rattle.day_model.specs.Layout.{AreKept, AreNumbered};
+ghost use Rattle.point_grid.specs.Numbering.{AreKept, AreNumbered};
 
 use indexmap::IndexMap;
 use plan_core::{Memory, Point, Seq};
@@ -10,7 +10,9 @@ use std::alloc::Global;
 /// The points of a list, and for each place of the list the number of its point.
 #[derive(Drop)]
 pub struct Numbering {
+    /// The points, by their numbers.
     pub points: Seq<Point>,
+    /// For each place of the list the number of its point.
     pub numbers: Seq<u32>,
 }
 
@@ -44,8 +46,8 @@ fn number_of(
     Ok(number)
 }
 
-/// The points of a list by their numbers.
-pub(crate) fn numbering_of(alloc: Global, given: &[Point]) -> Result<Numbering, Memory>
+/// The points of a list by their numbers: equal points have one, unless the index loses them, so numbers are few. `Memory` is the only error.
+pub fn numbering_of(alloc: Global, given: &[Point]) -> Result<Numbering, Memory>
     requires { length given.now < 2 ^ 32 }
     ensures { IfOk result (AreNumbered given.now) }
 {

@@ -1,6 +1,6 @@
 use Rattle.std.proofs.Common.{◌≡◌, ℕ, ◌<◌, ◌≤◌, Some, length, slice_get, slice_index}
 use Rattle.plan_core.specs.declared.types.Point.{Point}
-use Rattle.duty_network.proofs.numbering.numbering_of.Given as goal
+use Rattle.point_grid.proofs.numbering.numbering_of.Given as goal
 
 -- the points that are passed stand at their numbers
 abbrev pub invariant-loop-point : goal.invariant-loop-point

@@ -1,14 +1,24 @@
-//! The ways of drivers between points by their numbers.
+//! The times between points by their numbers.
 
-ghost use Rattle.std.specs.Prelude.{◌≡◌, ◌+◌, ◌*◌, ◌<◌, ◌++◌, IfOk, IfSome, OnOk, length, map, slice_index};
+ghost use Rattle.std.specs.Prelude.{◌≡◌, ◌+◌, ◌*◌, ◌<◌, ◌++◌, ℕ, Option, IfOk, IfSome, OnOk, length, map, slice_index};
+ghost use Rattle.plan_core.specs.declared.types.Point.{Point as AnyPoint};
 ghost use Rattle.vdv452_tables.specs.Ranges.{IsTime};
-ghost use Rattle.plan_params.specs.LookUps.{way_in};
-ghost use Rattle.duty_network.specs.Layout.{IsGrid, told};
+ghost use Rattle.point_grid.specs.Grid.{IsGrid, told};
 
 use plan_core::{Memory, Point, Seq};
-use plan_params::Params;
 use std::alloc::Global;
 use vdv452_tables::GREATEST_SECONDS;
+
+/// How long it takes from one point to another.
+pub trait PointTimes {
+    /// The seconds from a point to another; none where there is no way.
+    ghost times: { Self → AnyPoint → AnyPoint → Option ℕ };
+
+    /// The seconds from a point to another, 0 to 172,800; none where there is no way.
+    fn time(&self, from: Point, to: Point) -> Option<u32>
+        ensures value { result ≡ times self.now from to }
+        ensures range { IfSome result IsTime };
+}
 
 /// The times from each of some points to each of others.
 #[derive(Drop)]
@@ -33,32 +43,32 @@ fn coded(time: Option<u32>) -> u32
 }
 
 /// Puts the times from a point behind those that are there.
-fn add_row(
+fn add_row<T: PointTimes>(
     cells: &mut Seq<u32>,
-    params: &Params,
+    times: &T,
     from: Point,
     columns: &[Point],
 ) -> Result<(), Memory>
-    ensures { OnOk result (map told cells.new ≡ map told cells.old ++ map (λ to. way_in params.now from to) columns.now) }
+    ensures { OnOk result (map told cells.new ≡ map told cells.old ++ map (λ to. T.times times.now from to) columns.now) }
 {
     for to in columns {
-        cells.push(coded(params.way(from, *to)))?;
+        cells.push(coded(times.time(from, *to)))?;
     }
     Ok(())
 }
 
-/// The times from each of the points of the rows to each of those of the columns.
-pub(crate) fn grid_of(
+/// The times from each of the points of the rows to each of those of the columns. It asks for each time once. `Memory` is the only error.
+pub fn grid_of<T: PointTimes>(
     alloc: Global,
-    params: &Params,
+    times: &T,
     rows: &[Point],
     columns: &[Point],
 ) -> Result<Grid, Memory>
-    ensures { IfOk result (IsGrid params.now rows.now columns.now) }
+    ensures { IfOk result (IsGrid (T.times times.now) rows.now columns.now) }
 {
     let mut cells = Seq::new(alloc);
     for from in rows {
-        add_row(&mut cells, params, *from, columns)?;
+        add_row(&mut cells, times, *from, columns)?;
     }
     Ok(Grid {
         columns: columns.len(),
@@ -66,8 +76,8 @@ pub(crate) fn grid_of(
     })
 }
 
-/// The time of a row and a column.
-pub(crate) fn time_at(grid: &Grid, row: usize, column: usize) -> Option<u32>
+/// The time of a row and a column; none where there is no way. It takes no memory.
+pub fn time_at(grid: &Grid, row: usize, column: usize) -> Option<u32>
     requires { row * grid.now.columns + column < length grid.now.cells }
     ensures value { result ≡ told (slice_index grid.now.cells (row * grid.now.columns + column)) }
     ensures range { IfSome result IsTime }

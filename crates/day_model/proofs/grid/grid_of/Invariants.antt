@@ -1,7 +1,0 @@
-use Rattle.std.proofs.Common.{◌≡◌, map, take}
-use Rattle.day_model.specs.Layout.{times_of, told}
-use Rattle.day_model.proofs.grid.grid_of.Given as goal
-
--- the rows that are passed stand there
-abbrev pub invariant-loop-from : goal.invariant-loop-from
-invariant-loop-from l = map told l.cells ≡ times_of l.deads (take l.from-index l.rows) l.columns
