@@ -1,4 +1,4 @@
-//! The tables of all files, and those of a plan and a certificate behind the planning files.
+//! The tables of all files, and those of a plan and a certificate behind the planning files, or of an earlier plan behind them.
 
 ghost use Rattle.std.specs.Prelude.{◌≡◌, ◌≤◌, ◌<◌, ◌^◌, ◌++◌, ◌∷◌, [], All, IsTrue, IfOk, length};
 ghost use Rattle.vdv451_text.specs.Plain.{are_plain};
@@ -51,5 +51,29 @@ pub fn split_plan(parts: Seq<Seq<Table>>) -> CheckParts
         planning: Seq::from_vec(files),
         plan,
         cert,
+    }
+}
+
+/// What planning anew reads: the tables of the planning files, file by file, and those of an earlier plan.
+#[derive(Drop)]
+pub struct EarlierParts {
+    /// The tables of each planning file.
+    pub planning: Seq<Seq<Table>>,
+    /// The tables of the earlier plan.
+    pub plan: Seq<Table>,
+}
+
+/// Takes the last file off the others: an earlier plan.
+pub fn split_earlier(parts: Seq<Seq<Table>>) -> EarlierParts
+    requires { 1 ≤ length parts }
+    ensures parts { parts ≡ result.planning ++ result.plan ∷ [] }
+    ensures plain { All (λ tables. IsTrue (are_plain tables)) parts → All (λ tables. IsTrue (are_plain tables)) result.planning × IsTrue (are_plain result.plan) }
+    ensures sized { All (λ tables. All (λ table. length table.rows < 2 ^ 32) tables) parts → All (λ tables. All (λ table. length table.rows < 2 ^ 32) tables) result.planning × All (λ table. length table.rows < 2 ^ 32) result.plan }
+{
+    let mut files = parts.into_vec();
+    let earlier = files.remove(files.len() - 1);
+    EarlierParts {
+        planning: Seq::from_vec(files),
+        plan: earlier,
     }
 }

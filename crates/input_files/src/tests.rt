@@ -5,7 +5,7 @@ ghost use Rattle.input_files.specs.Stages.{IsStage};
 
 use crate::fault::FileFault;
 use crate::inputs::read_files;
-use crate::parts::{CheckParts, join_tables, split_plan};
+use crate::parts::{CheckParts, EarlierParts, join_tables, split_earlier, split_plan};
 use crate::stage::{MOST_BYTES, Stage};
 use crate::transfer::{ReadRefusal, read_whole, write_whole};
 use plan_core::{Bytes, Failed, Files, MemFile, MemFiles, MemSink, Seq, Sink};
@@ -247,6 +247,23 @@ fn a_plan_and_a_certificate_stand_behind_the_planning_files(rt: HostRuntime) -> 
     assert!(rt; names_of(alloc, cert.as_slice())?.as_slice() == b"BC".as_slice());
     let tables = join_tables(alloc, planning).map_err(|_| "memory")?;
     assert!(rt; names_of(alloc, tables.as_slice())?.as_slice() == b"BCA".as_slice());
+    Ok(())
+}
+
+#[test]
+fn an_earlier_plan_stands_behind_the_planning_files(rt: HostRuntime) -> Result<(), Fail> {
+    let alloc = rt.alloc();
+    let parts = match read_named(alloc, &["two", "none", "one"], planning(1, 105), &[])? {
+        Ok(parts) => parts,
+        Err(_) => return Err(Fail::from("refused")),
+    };
+    if parts.is_empty() {
+        return Err(Fail::from("too few files"));
+    }
+    let EarlierParts { planning, plan } = split_earlier(parts);
+    let counts = counts_of(alloc, &planning)?;
+    assert!(rt; counts.as_slice() == [2, 0].as_slice());
+    assert!(rt; names_of(alloc, plan.as_slice())?.as_slice() == b"A".as_slice());
     Ok(())
 }
 

@@ -1,3 +1,2 @@
 pub mod LineLemmas
-pub mod PieceLemmas
 pub mod RunLemmas

@@ -1,11 +1,11 @@
 -- Lines that are written part by part.
 use Rattle.std.proofs.Common.{◌≡◌, ℕ, ◌+◌, ◌≤◌, inl, inr, Bool, true, false, List, [], ◌++◌, length, take, Option, Some, None, IfSome, refl, sym, ap, ◌∙◌, subst, append_assoc, arith}
 use Rattle.plan_core.specs.Outside.{Rose}
-use Rattle.plan_chart.specs.Taken.{TakesFront}
+use Rattle.input_files.specs.Taken.{TakesFront}
 use Rattle.plan_chart.specs.Lines.{IsLeft, IsTelling, IsTold}
 use Rattle.std.proofs.Math.Seq.{take-append-add, take-length}
 use Rattle.std.proofs.lemmas.List.{length-append, take-append-le}
-use Rattle.plan_chart.proofs.PieceLemmas.{append_nothing}
+use Rattle.input_files.proofs.PieceLemmas.{append_nothing}
 
 -- nothing of the line is written yet
 pub telling_begins : (old : Option (List ℕ)) (faults : ℕ) (line : List ℕ) → IsTelling old old faults faults line line true

@@ -6,7 +6,7 @@ use Rattle.vdv451_text.specs.declared.fault.TextKind.TheVariants as texts
 use Rattle.plan_rows.specs.Names.{name_of}
 use Rattle.plan_chart.specs.declared.status.Status.{Status}
 use Rattle.plan_chart.specs.declared.status.Status.TheVariants as statuses
-use Rattle.plan_chart.specs.Taken.{TakesFront}
+use Rattle.input_files.specs.Taken.{TakesFront}
 
 abbrev pub text_kind : TextKind → List ℕ
 text_kind texts.Keyword = codes "Keyword"

@@ -1,5 +1,5 @@
 -- What a run answers, from what the file holds and from the counts of faults.
-use Rattle.std.specs.Prelude.{◌≡◌, ℕ, ◌⊎◌, List, ◌++◌, Option, Some, IfSome, Result, Ok, Err}
+use Rattle.std.specs.Prelude.{◌≡◌, ℕ, ◌⊎◌, List, ◌++◌, Option, Some, IfSome, Ok, Err}
 use Rattle.plan_core.specs.Outside.{Rose}
 use Rattle.vdv451_text.specs.declared.table.Table.{Table}
 use Rattle.vdv451_text.specs.declared.fault.TextFault.{TextFault}
@@ -11,9 +11,9 @@ use Rattle.plan_rows.specs.declared.fault.RowFault.TheVariants as charts
 use Rattle.chart_page.specs.Page.{chart_of}
 use Rattle.plan_chart.specs.declared.status.Status.{Status}
 use Rattle.plan_chart.specs.declared.status.Status.TheVariants as statuses
-use Rattle.plan_chart.specs.declared.transfer.ReadRefusal.{ReadRefusal}
-use Rattle.plan_chart.specs.declared.transfer.ReadRefusal.TheVariants as refusals
-use Rattle.plan_chart.specs.Taken.{TakesFront}
+use Rattle.input_files.specs.declared.transfer.ReadRefusal.{ReadRefusal}
+use Rattle.input_files.specs.declared.transfer.ReadRefusal.TheVariants as refusals
+use Rattle.input_files.specs.Taken.{TakesFront}
 
 -- the bytes that a plan may have
 abbrev pub most_bytes : ℕ

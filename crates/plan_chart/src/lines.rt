@@ -4,7 +4,7 @@ ghost use Rattle.std.specs.Prelude.{◌≡◌, ◌≢◌, ◌++◌, ℕ, List, O
 ghost use Rattle.plan_chart.specs.Lines as spec;
 
 use crate::status::Status;
-use crate::transfer::write_whole;
+use input_files::write_whole;
 use itoa::Buffer;
 use plan_core::Sink;
 use plan_rows::Place;

@@ -1,17 +1,15 @@
 //! A picture of a plan as a program: the page of a file that is handed in, and the real files and streams at its edge.
 #![tactic(auto)]
 
-mod adapters;
 mod lines;
 mod run;
 mod status;
 #[cfg(test)]
 mod tests;
-mod transfer;
 mod words;
 
-use adapters::{DiskFiles, Stream, longest_of, words_of};
 use std::process::ExitCode;
+use system_files::{DiskFiles, Stream, longest_of, words_of};
 
 /// The status number where there is no memory for the words, or for the room in which the file is read.
 const NO_MEMORY: u8 = 9;

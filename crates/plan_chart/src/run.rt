@@ -10,9 +10,9 @@ ghost use Rattle.plan_chart.specs.Words.{asked as asked_by};
 
 use crate::lines::tell;
 use crate::status::Status;
-use crate::transfer::{ReadRefusal, read_whole, write_whole};
 use crate::words::asked;
 use chart_page::chart;
+use input_files::{ReadRefusal, read_whole, write_whole};
 use plan_core::{Bytes, Files, Sink};
 use plan_rows::RowFault;
 use std::alloc::Global;

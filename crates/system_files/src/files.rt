@@ -1,13 +1,12 @@
-//! The real files, streams and words, behind the traits that the commands take. They tell no content, and count each error.
+//! The files of the operating system.
 
 ghost use Rattle.std.specs.Prelude.{◌≡◌, ◌≤◌, None, IfOk, length, drop};
 ghost use Rattle.std.specs.Io.{ReadsAtMost};
 
-use crate::transfer::{PIECE, zeros};
-use plan_core::{Bytes, Failed, Memory, Sink};
+use input_files::{PIECE, zeros};
+use plan_core::{Failed, Memory};
 use std::alloc::Global;
-use std::env::{Env, FillError};
-use std::io::{Read, Seek, SeekFrom, Write};
+use std::io::{Read, Seek, SeekFrom};
 use std::rt::Files as Disk;
 use std::{fs, io};
 
@@ -53,8 +52,8 @@ fn read_front<F: Read + Seek>(
     read_opened(file, at, &mut piece.as_mut_slice()[..most])
 }
 
-/// Copies so many bytes into the front of a buffer.
-fn copy_front(piece: &[u8], count: usize, buf: &mut [u8])
+/// Copies so many bytes into the front of a buffer, and leaves what is behind them.
+pub fn copy_front(piece: &[u8], count: usize, buf: &mut [u8])
     requires read { count ≤ length piece.now }
     requires room { count ≤ length buf.old }
     ensures len { length buf.new ≡ length buf.old }
@@ -64,7 +63,7 @@ fn copy_front(piece: &[u8], count: usize, buf: &mut [u8])
 }
 
 impl<'r, R: Disk> DiskFiles<'r, R> {
-    /// Files of which none was read, with room for names of at most so many bytes.
+    /// Files of which none was read, with room for names of at most so many bytes. `Memory` is the only error; no read takes memory.
     pub fn new(rt: &'r R, alloc: Global, longest: usize) -> Result<DiskFiles<'r, R>, Memory> {
         Ok(DiskFiles {
             rt,
@@ -127,70 +126,4 @@ impl<'r, R: Disk> plan_core::Files for DiskFiles<'r, R> {
             }
         }
     }
-}
-
-/// A stream that is written, as standard output.
-#[derive(Drop)]
-pub struct Stream<W: Write + Drop> {
-    writer: W,
-    faults: u64,
-}
-
-impl<W: Write + Drop> Stream<W> {
-    /// A stream to which nothing was written.
-    pub fn new(writer: W) -> Stream<W> {
-        Stream { writer, faults: 0 }
-    }
-}
-
-impl<W: Write + Drop> Sink for Stream<W> {
-    ghost taken = { λ _. None };
-
-    ghost faults = { λ stream. stream.faults };
-
-    fn write(&mut self, piece: &[u8]) -> Result<usize, Failed> {
-        match self.writer.write(piece) {
-            Ok(count) if count > 0 || piece.is_empty() => Ok(count),
-            _ => {
-                self.faults = self.faults.saturating_add(1);
-                Err(Failed)
-            }
-        }
-    }
-}
-
-/// The word of a number, where 0 is the program's name, and none behind the last one.
-fn word_at<R: Env>(rt: &R, alloc: Global, number: usize) -> Result<Option<Bytes>, Memory> {
-    let mut room = 256usize;
-    for _ in 0..32 {
-        let mut buffer = zeros(alloc, room)?;
-        match rt.arg(number, buffer.as_mut_slice()) {
-            Ok(count) => {
-                buffer.truncate(count);
-                return Ok(Some(Bytes::from_vec(buffer)));
-            }
-            Err(FillError::NotPresent) => return Ok(None),
-            Err(FillError::TooLong) => room = room.saturating_mul(2),
-        }
-    }
-    Err(Memory)
-}
-
-/// The words behind the program's name.
-pub fn words_of<R: Env>(rt: &R, alloc: Global) -> Result<Vec<Bytes>, Memory> {
-    let mut words = Vec::new(alloc);
-    for number in 1..usize::MAX {
-        match word_at(rt, alloc, number)? {
-            Some(word) => words.push(word)?,
-            None => break,
-        }
-    }
-    Ok(words)
-}
-
-/// How many bytes the longest word has.
-pub fn longest_of(words: &[Bytes]) -> usize {
-    words
-        .iter()
-        .fold(0, |longest, word| longest.max(word.len()))
 }
