@@ -1,2 +1,3 @@
 pub mod OptionLemmas
 pub mod RequestLemmas
+pub mod MadeRequests

@@ -7,7 +7,7 @@ use Rattle.std.specs.Str.{bytes_eq}
 use Rattle.std.specs.Str.Parse.{digits_value}
 use Rattle.price_rounds.specs.declared.effort.Effort.{Effort}
 use Rattle.command_words.specs.declared.options.Allowed.{Allowed}
-use Rattle.command_words.specs.declared.options.Allowed.TheVariants.{Nothing, Planning, Making}
+use Rattle.command_words.specs.declared.options.Allowed.TheVariants.{Nothing, Planning, Replanning, Making}
 use Rattle.command_words.specs.declared.options.Given.{Given}
 use Rattle.command_words.specs.declared.options.Settings.{Settings}
 
@@ -123,10 +123,11 @@ plans_nothing given = is_none given.workers && (is_none given.rounds && (is_none
 abbrev pub makes_nothing : Given → Bool
 makes_nothing given = is_none given.trips && not given.run
 
--- a command takes no options, those of planning, or those of making a day: all but the flow
+-- a command takes no options, those of planning, those of planning but the flow, or those of making a day: all but the flow
 abbrev pub is_allowed : Allowed → Given → Bool
 is_allowed Nothing given = plans_nothing given && makes_nothing given
 is_allowed Planning given = makes_nothing given
+is_allowed Replanning given = makes_nothing given && not given.flow
 is_allowed Making given = not given.flow
 
 -- the effort that options ask for: 1 worker, 40 rounds, 20 lowering rounds and 20 exchange steps unless said; and climbing where it is said

@@ -8,12 +8,12 @@ use Rattle.std.specs.Str.Parse.{digits_value}
 use Rattle.price_rounds.specs.declared.effort.Effort.{Effort}
 use Rattle.command_words.specs.Options.{plain_of, said, settings_said}
 use Rattle.command_words.specs.declared.options.Allowed.{Allowed}
-use Rattle.command_words.specs.declared.options.Allowed.TheVariants.{Nothing, Planning, Making}
+use Rattle.command_words.specs.declared.options.Allowed.TheVariants.{Nothing, Planning, Replanning, Making}
 use Rattle.command_words.specs.declared.options.Settings.{Settings}
 use Rattle.command_words.specs.declared.command.Command.{Command}
 use Rattle.command_words.specs.declared.command.Command.TheVariants as commands
 use Rattle.command_words.specs.declared.words.CommandName.{CommandName}
-use Rattle.command_words.specs.declared.words.CommandName.TheVariants.{Trips, Day, Plan, Certify, Check, Make, Week}
+use Rattle.command_words.specs.declared.words.CommandName.TheVariants.{Trips, Day, Plan, Certify, Check, Replan, Make, Week}
 use Rattle.command_words.specs.declared.request.Request.{Request}
 
 -- the word that ends the options
@@ -52,6 +52,10 @@ are_day_and_files (day ∷ files) = day_word day && (list_all file_word files &&
 abbrev pub seed_word : List ℕ → Bool
 seed_word word = list_all is_ascii_digit word && (nat_le 1 (length word) && nat_le (length word) 9)
 
+-- a moment of the operating day: one to six ASCII digits that spell at most 172,800
+abbrev pub moment_word : List ℕ → Bool
+moment_word word = list_all is_ascii_digit word && ((nat_le 1 (length word) && nat_le (length word) 6) && nat_le (digits_value 10 word) 172800)
+
 -- there are no words
 abbrev pub no_words : List (List ℕ) → Bool
 no_words [] = true
@@ -70,16 +74,18 @@ name_of word =
     (if bytes_eq word (codes "plan") then Some Plan else
     (if bytes_eq word (codes "certify") then Some Certify else
     (if bytes_eq word (codes "check") then Some Check else
+    (if bytes_eq word (codes "replan") then Some Replan else
     (if bytes_eq word (codes "make") then Some Make else
-    (if bytes_eq word (codes "week") then Some Week else None))))))
+    (if bytes_eq word (codes "week") then Some Week else None)))))))
 
--- planning takes options, with a certificate too, and making a day takes others
+-- planning takes options, with a certificate too; replanning takes them but the flow; and making a day takes others
 abbrev pub allowed_of : CommandName → Allowed
 allowed_of Trips = Nothing
 allowed_of Day = Nothing
 allowed_of Plan = Planning
 allowed_of Certify = Planning
 allowed_of Check = Nothing
+allowed_of Replan = Replanning
 allowed_of Make = Making
 allowed_of Week = Nothing
 
@@ -107,6 +113,16 @@ check_request effort (day ∷ plan ∷ []) = None
 check_request effort (day ∷ plan ∷ cert ∷ files) =
     if are_day_and_files (day ∷ files) && (file_word plan && file_word cert)
     then Some (record { command = commands.Check; effort = effort; flow = false; day = digits_value 10 day; names = files ++ plan ∷ cert ∷ [] })
+    else None
+
+-- A request to plan the rest of a day anew: a day, a moment, the plan, and 1 to 64 files. The files are read first.
+abbrev pub replan_request : Effort → List (List ℕ) → Option Request
+replan_request effort [] = None
+replan_request effort (day ∷ []) = None
+replan_request effort (day ∷ moment ∷ []) = None
+replan_request effort (day ∷ moment ∷ plan ∷ files) =
+    if are_day_and_files (day ∷ files) && (moment_word moment && file_word plan)
+    then Some (record { command = commands.Replan (digits_value 10 moment); effort = effort; flow = false; day = digits_value 10 day; names = files ++ plan ∷ [] })
     else None
 
 -- the day of a calendar that is made
@@ -139,6 +155,7 @@ request_for Day settings words = day_request commands.Day settings words
 request_for Plan settings words = day_request commands.Plan settings words
 request_for Certify settings words = day_request commands.Certify settings words
 request_for Check settings words = check_request settings.effort words
+request_for Replan settings words = replan_request settings.effort words
 request_for Make settings words = option_map (make_request settings) (seed_said words)
 request_for Week settings words = week_request settings.effort words
 
@@ -147,7 +164,7 @@ abbrev pub asked_of : CommandName → List (List ℕ) → Option Request
 asked_of name words = option_and_then (λ settings. request_for name settings (plain_words words)) (settings_said (allowed_of name) (before_end words))
 
 -- What words ask for: a command by the very first of them, then its options in any place, and a day and files, with a plan and its
--- certificate where these are checked; a seed; or a roster.
+-- certificate where these are checked, and with a moment and a plan where the rest of a day is planned anew; a seed; or a roster.
 abbrev pub asked : List (List ℕ) → Option Request
 asked [] = None
 asked (word ∷ words) = option_and_then (λ name. asked_of name words) (name_of word)
@@ -160,9 +177,22 @@ HasFewTrips commands.Day = Unit {0}
 HasFewTrips commands.Plan = Unit {0}
 HasFewTrips commands.Certify = Unit {0}
 HasFewTrips commands.Check = Unit {0}
+HasFewTrips (commands.Replan moment) = Unit {0}
 HasFewTrips commands.Week = Unit {0}
 
--- how many names a request has: none of a day that is made, one roster, or 1 to 64 files, and beside them a plan and its certificate
+-- the moment from which the rest of a day is planned anew, in seconds of the operating day, is at most 172,800
+abbrev pub HasMoment : Command → Type 0
+HasMoment (commands.Replan moment) = moment ≤ 172800
+HasMoment commands.Trips = Unit {0}
+HasMoment commands.Day = Unit {0}
+HasMoment commands.Plan = Unit {0}
+HasMoment commands.Certify = Unit {0}
+HasMoment commands.Check = Unit {0}
+HasMoment (commands.Make making) = Unit {0}
+HasMoment commands.Week = Unit {0}
+
+-- How many names a request has: none of a day that is made, one roster, or 1 to 64 files, and beside them a plan and its certificate, or a
+-- plan alone.
 abbrev pub HasNames : Command → ℕ → Type 0
 HasNames (commands.Make making) n = n ≡ 0
 HasNames commands.Trips n = (1 ≤ n) × (n ≤ 64)
@@ -170,6 +200,7 @@ HasNames commands.Day n = (1 ≤ n) × (n ≤ 64)
 HasNames commands.Plan n = (1 ≤ n) × (n ≤ 64)
 HasNames commands.Certify n = (1 ≤ n) × (n ≤ 64)
 HasNames commands.Check n = (3 ≤ n) × (n ≤ 66)
+HasNames (commands.Replan moment) n = (2 ≤ n) × (n ≤ 65)
 HasNames commands.Week n = n ≡ 1
 
 -- a command for which 1 to 64 names are right

@@ -24,6 +24,11 @@ pub enum Command {
     Certify,
     /// `check`: check a plan of a day and a certificate of it against the files of the day.
     Check,
+    /// `replan`: keep what of a plan has begun before a moment, and plan the rest of the day anew.
+    Replan {
+        /// The moment in seconds of the operating day, at most 172,800.
+        moment: u32,
+    },
     /// `make`: make a day, and plan it where that is said.
     Make(Making),
     /// `week`: check the duties of drivers over up to two weeks.

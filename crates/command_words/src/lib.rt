@@ -1,5 +1,5 @@
 //! The grammar of the planner's command line: the words behind the program's name, as a request. The first word names a command, `--` ends
-//! the options, and the other words are a day, files, a seed or a roster, whichever the command takes.
+//! the options, and the other words are a day, a moment, files, a seed or a roster, whichever the command takes.
 #![tactic(auto)]
 
 mod command;

@@ -19,6 +19,8 @@ pub(crate) enum Allowed {
     Nothing,
     /// Those of planning: `--workers`, `--rounds`, `--lower`, `--exchange` and `--climb`; and `--flow`.
     Planning,
+    /// Those of planning but `--flow`.
+    Replanning,
     /// Those of planning but `--flow`, and those of making a day: `--trips` and `--run`.
     Making,
 }
@@ -293,6 +295,7 @@ fn is_allowed(allowed: Allowed, given: Given) -> bool
     match allowed {
         Allowed::Nothing => plans_nothing(given) && makes_nothing(given),
         Allowed::Planning => makes_nothing(given),
+        Allowed::Replanning => makes_nothing(given) && !given.flow,
         Allowed::Making => !given.flow,
     }
 }

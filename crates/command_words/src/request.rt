@@ -15,7 +15,7 @@ pub struct Request {
     pub flow: bool,
     /// The day as the number YYYYMMDD. A made day is 2026-03-02; a roster has days of its own, and then this is 0.
     pub day: u32,
-    /// The names of the files, in the order in which they are read: those of the planning files in the order of their words, and for `check`
-    /// then that of the plan and last that of its certificate. A day is made without files.
+    /// The names of the files, in the order in which they are read: those of the planning files in the order of their words, then for `check`
+    /// and `replan` that of the plan, and for `check` last that of its certificate. A day is made without files.
     pub names: Seq<Bytes>,
 }

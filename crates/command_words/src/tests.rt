@@ -34,7 +34,7 @@ fn add_number(text: &mut Vec<u8>, alloc: Global, mark: &str, number: u32) -> Res
     Ok(())
 }
 
-/// The command, and what is made.
+/// The command, and the moment or what is made.
 fn add_command(text: &mut Vec<u8>, alloc: Global, command: Command) -> Result<(), Fail> {
     let name: &[u8] = match command {
         Command::Trips => b"trips",
@@ -42,10 +42,14 @@ fn add_command(text: &mut Vec<u8>, alloc: Global, command: Command) -> Result<()
         Command::Plan => b"plan",
         Command::Certify => b"certify",
         Command::Check => b"check",
+        Command::Replan { .. } => b"replan",
         Command::Week => b"week",
         Command::Make(_) => b"make",
     };
     text.extend_from_slice(name)?;
+    if let Command::Replan { moment } = command {
+        add_number(text, alloc, " from ", moment)?;
+    }
     if let Command::Make(making) = command {
         add_number(text, alloc, " ", making.seed)?;
         add_number(text, alloc, " trips ", making.trips)?;
@@ -204,6 +208,118 @@ fn a_check_has_a_plan_and_a_certificate(rt: HostRuntime) -> Result<(), Fail> {
             "check 1/40/20/20 on 20260302: -,--run,--",
         ),
         ("check,20260302,p,c,--", USAGE),
+    ];
+    for (line, want) in rows {
+        assert!(rt; is_answered(alloc, line, want)?, "{line}");
+    }
+    Ok(())
+}
+
+#[test]
+fn a_moment_and_a_plan_stand_behind_the_day(rt: HostRuntime) -> Result<(), Fail> {
+    let alloc = rt.alloc();
+    let rows: [(&str, &str); 29] = [
+        (
+            "replan,20260302,30000,p,f",
+            "replan from 30000 1/40/20/20 on 20260302: f,p",
+        ),
+        (
+            "replan,20260302,30000,p,g,f,g",
+            "replan from 30000 1/40/20/20 on 20260302: g,f,g,p",
+        ),
+        (
+            "replan,20260302,30000,p,p",
+            "replan from 30000 1/40/20/20 on 20260302: p,p",
+        ),
+        (
+            "replan,20260302,30000,40000,f",
+            "replan from 30000 1/40/20/20 on 20260302: f,40000",
+        ),
+        (
+            "replan,20260302,0,p,f",
+            "replan from 0 1/40/20/20 on 20260302: f,p",
+        ),
+        (
+            "replan,20260302,000000,p,f",
+            "replan from 0 1/40/20/20 on 20260302: f,p",
+        ),
+        (
+            "replan,20260302,000009,p,f",
+            "replan from 9 1/40/20/20 on 20260302: f,p",
+        ),
+        (
+            "replan,20260302,172800,p,f",
+            "replan from 172800 1/40/20/20 on 20260302: f,p",
+        ),
+        ("replan,20260302,172801,p,f", USAGE),
+        ("replan,20260302,999999,p,f", USAGE),
+        ("replan,20260302,0000000,p,f", USAGE),
+        ("replan,20260302,0030000,p,f", USAGE),
+        ("replan,20260302,,p,f", USAGE),
+        ("replan,20260302,12a,p,f", USAGE),
+        ("replan,20260302,+12,p,f", USAGE),
+        ("replan,20260302,-1,p,f", USAGE),
+        ("replan,20260302,--,-1,p,f", USAGE),
+        ("replan,20260302,-,p,f", USAGE),
+        ("replan,20260302,30000,p", USAGE),
+        ("replan,20260302,30000", USAGE),
+        ("replan,20260302", USAGE),
+        ("replan", USAGE),
+        ("replan,20260302,30000,,f", USAGE),
+        ("replan,20260302,30000,p,", USAGE),
+        ("replan,20260302,30000,p,f,,g", USAGE),
+        ("replan,20260302,p,f", USAGE),
+        ("replan,20260302,p,30000,f", USAGE),
+        ("replan,30000,20260302,p,f", USAGE),
+        ("replan,2026030,30000,p,f", USAGE),
+    ];
+    for (line, want) in rows {
+        assert!(rt; is_answered(alloc, line, want)?, "{line}");
+    }
+    Ok(())
+}
+
+#[test]
+fn planning_anew_takes_the_options_of_planning_but_the_flow(rt: HostRuntime) -> Result<(), Fail> {
+    let alloc = rt.alloc();
+    let rows: [(&str, &str); 16] = [
+        ("replan,20260302,30000,p,f,--flow", USAGE),
+        ("replan,--flow,20260302,30000,p,f", USAGE),
+        ("replan,20260302,30000,p,f,--trips=5", USAGE),
+        ("replan,20260302,30000,p,f,--run", USAGE),
+        (
+            "replan,20260302,30000,p,f,--climb",
+            "replan from 30000 1/40/20/20 climb on 20260302: f,p",
+        ),
+        (
+            "replan,--rounds,5,20260302,--workers=8,30000,--exchange,4,p,--lower=3,f,--climb,g",
+            "replan from 30000 8/5/3/4 climb on 20260302: f,g,p",
+        ),
+        ("replan,20260302,30000,p,f,--climb,--climb", USAGE),
+        ("replan,20260302,30000,p,f,--workers=65", USAGE),
+        ("replan,20260302,--rounds,30000,p,f", USAGE),
+        ("replan,20260302,--rounds,5,p,f", USAGE),
+        (
+            "replan,--,20260302,30000,p,f",
+            "replan from 30000 1/40/20/20 on 20260302: f,p",
+        ),
+        (
+            "replan,20260302,--,30000,p,f",
+            "replan from 30000 1/40/20/20 on 20260302: f,p",
+        ),
+        (
+            "replan,20260302,30000,--,p,f",
+            "replan from 30000 1/40/20/20 on 20260302: f,p",
+        ),
+        (
+            "replan,20260302,30000,p,--,f",
+            "replan from 30000 1/40/20/20 on 20260302: f,p",
+        ),
+        ("replan,20260302,30000,p,--", USAGE),
+        (
+            "replan,--climb,--,20260302,30000,--flow,--,-1",
+            "replan from 30000 1/40/20/20 climb on 20260302: --,-1,--flow",
+        ),
     ];
     for (line, want) in rows {
         assert!(rt; is_answered(alloc, line, want)?, "{line}");
@@ -387,7 +503,7 @@ fn names_with(alloc: Global, line: &str, files: usize) -> Result<usize, Fail> {
 #[test]
 fn files_are_few(rt: HostRuntime) -> Result<(), Fail> {
     let alloc = rt.alloc();
-    let rows: [(&str, usize, usize); 12] = [
+    let rows: [(&str, usize, usize); 16] = [
         ("trips,20260302", 64, 64),
         ("trips,20260302", 65, 0),
         ("day,20260302,--", 64, 64),
@@ -400,6 +516,10 @@ fn files_are_few(rt: HostRuntime) -> Result<(), Fail> {
         ("check,20260302,p,c", 65, 0),
         ("check,20260302,p,--,c", 64, 66),
         ("check,20260302,p,--,c", 65, 0),
+        ("replan,20260302,30000,p", 64, 65),
+        ("replan,20260302,30000,p", 65, 0),
+        ("replan,20260302,30000,--,p", 64, 65),
+        ("replan,20260302,30000,--,p", 65, 0),
     ];
     for (line, files, want) in rows {
         assert_eq!(rt; names_with(alloc, line, files)?, want, "{line}");
@@ -410,7 +530,7 @@ fn files_are_few(rt: HostRuntime) -> Result<(), Fail> {
 #[test]
 fn words_may_be_long(rt: HostRuntime) -> Result<(), Fail> {
     let alloc = rt.alloc();
-    let rows: [(&str, &str); 13] = [
+    let rows: [(&str, &str); 16] = [
         ("plan,20260302,*,f", "plan 1/40/20/20 on 20260302: *,f"),
         (
             "certify,20260302,--,-*",
@@ -420,9 +540,15 @@ fn words_may_be_long(rt: HostRuntime) -> Result<(), Fail> {
             "check,20260302,p*,c*,f*",
             "check 1/40/20/20 on 20260302: f*,p*,c*",
         ),
+        (
+            "replan,20260302,30000,p*,f*",
+            "replan from 30000 1/40/20/20 on 20260302: f*,p*",
+        ),
         ("week,*", "week 1/40/20/20 on 0: *"),
         ("plan,*,f", USAGE),
         ("plan,*20260302,f", USAGE),
+        ("replan,20260302,*,p,f", USAGE),
+        ("replan,20260302,*30000,p,f", USAGE),
         ("plan*,20260302,f", USAGE),
         ("plan,20260302,f,-*", USAGE),
         ("plan,20260302,f,--workers*,1", USAGE),
@@ -440,10 +566,12 @@ fn words_may_be_long(rt: HostRuntime) -> Result<(), Fail> {
 #[test]
 fn the_day_is_the_first_plain_word(rt: HostRuntime) -> Result<(), Fail> {
     let alloc = rt.alloc();
-    let rows: [(&str, &str); 9] = [
+    let rows: [(&str, &str); 11] = [
         ("plan,20260302,f", "20260302"),
         ("certify,--rounds,5,20260302,f", "20260302"),
         ("check,--climb,20260230,p,c,f", "20260230"),
+        ("replan,--climb,20260230,30000,p,f", "20260230"),
+        ("replan,30000,20260302,p,f", "30000"),
         ("trips,--,-d,f", "-d"),
         ("plan,--rounds,--,f", "f"),
         ("plan,--rounds", ""),

@@ -17,6 +17,9 @@ use std::alloc::Global;
 /// A command reads at most so many files.
 const MOST_FILES: usize = 64;
 
+/// The last moment from which a day may be planned anew, in seconds of the operating day.
+const MOST_MOMENT: u32 = 172_800;
+
 /// The one day of a calendar that is made.
 const MADE_DAY: u32 = 20_260_302;
 
@@ -28,6 +31,7 @@ enum CommandName {
     Plan,
     Certify,
     Check,
+    Replan,
     Make,
     Week,
 }
@@ -56,6 +60,12 @@ fn is_seed(word: &[u8]) -> bool
     ensures { result ≡ spec.seed_word word.now }
 {
     are_digits(word) && (1 <= word.len() && word.len() <= 9)
+}
+
+fn is_moment(word: &[u8]) -> bool
+    ensures { result ≡ spec.moment_word word.now }
+{
+    are_digits(word) && ((1 <= word.len() && word.len() <= 6) && digits_number(word) <= MOST_MOMENT)
 }
 
 fn is_file(word: &[u8]) -> bool
@@ -194,6 +204,7 @@ fn name_of(word: &[u8]) -> Option<CommandName>
     let plan: &[u8] = b"plan";
     let certify: &[u8] = b"certify";
     let check: &[u8] = b"check";
+    let replan: &[u8] = b"replan";
     let make: &[u8] = b"make";
     let week: &[u8] = b"week";
     if word == trips {
@@ -206,6 +217,8 @@ fn name_of(word: &[u8]) -> Option<CommandName>
         Some(CommandName::Certify)
     } else if word == check {
         Some(CommandName::Check)
+    } else if word == replan {
+        Some(CommandName::Replan)
     } else if word == make {
         Some(CommandName::Make)
     } else if word == week {
@@ -224,6 +237,7 @@ fn allowed_of(name: CommandName) -> Allowed
         CommandName::Plan => Allowed::Planning,
         CommandName::Certify => Allowed::Planning,
         CommandName::Check => Allowed::Nothing,
+        CommandName::Replan => Allowed::Replanning,
         CommandName::Make => Allowed::Making,
         CommandName::Week => Allowed::Nothing,
     }
@@ -269,11 +283,13 @@ fn day_request(
 ) -> Result<Request, WordsFault>
     requires effort { IsEffort settings.effort }
     requires trips { spec.HasFewTrips command }
+    requires moment { spec.HasMoment command }
     requires names { spec.ReadsFiles command }
     ensures request { IfOk result (λ request. spec.day_request command settings (plain_of (said_by words.entry.before.now) ++ words.entry.behind.now) ≡ Some request) }
     ensures names { IfOk result (λ request. spec.HasNames request.command (length request.names)) }
     ensures effort { IfOk result (λ request. IsEffort request.effort) }
     ensures trips { IfOk result (λ request. spec.HasFewTrips request.command) }
+    ensures moment { IfOk result (λ request. spec.HasMoment request.command) }
     ensures usage { IsErrOf result WordsFault.Usage ↔ (spec.day_request command settings (plain_of (said_by words.entry.before.now) ++ words.entry.behind.now) ≡ None) }
 {
     let Some(said) = day_and_files(words) else {
@@ -322,6 +338,15 @@ fn check_words(words: Parted<'_>) -> Option<CheckWords<'_>>
     }
 }
 
+/// The names of the files, and behind them that of the plan.
+fn names_and_plan(alloc: Global, files: Parted<'_>, plan: &[u8]) -> Result<Seq<Bytes>, Memory>
+    ensures { IfOk result (λ names. names ≡ (plain_of (said_by files.entry.before.now) ++ files.entry.behind.now) ++ plan.now ∷ []) }
+{
+    let mut names = names_of(alloc, files)?;
+    names.push(Bytes::from_vec(plan.to_vec(alloc)?))?;
+    Ok(names)
+}
+
 /// The names of the files, and behind them those of the plan and of its certificate.
 fn names_with(
     alloc: Global,
@@ -331,8 +356,7 @@ fn names_with(
 ) -> Result<Seq<Bytes>, Memory>
     ensures { IfOk result (λ names. names ≡ (plain_of (said_by files.entry.before.now) ++ files.entry.behind.now) ++ plan.now ∷ certificate.now ∷ []) }
 {
-    let mut names = names_of(alloc, files)?;
-    names.push(Bytes::from_vec(plan.to_vec(alloc)?))?;
+    let mut names = names_and_plan(alloc, files, plan)?;
     names.push(Bytes::from_vec(certificate.to_vec(alloc)?))?;
     Ok(names)
 }
@@ -344,6 +368,7 @@ fn check_request(alloc: Global, effort: Effort, words: Parted<'_>) -> Result<Req
     ensures names { IfOk result (λ request. spec.HasNames request.command (length request.names)) }
     ensures effort { IfOk result (λ request. IsEffort request.effort) }
     ensures trips { IfOk result (λ request. spec.HasFewTrips request.command) }
+    ensures moment { IfOk result (λ request. spec.HasMoment request.command) }
     ensures usage { IsErrOf result WordsFault.Usage ↔ (spec.check_request effort (plain_of (said_by words.entry.before.now) ++ words.entry.behind.now) ≡ None) }
 {
     let Some(said) = check_words(words) else {
@@ -358,6 +383,64 @@ fn check_request(alloc: Global, effort: Effort, words: Parted<'_>) -> Result<Req
     })
 }
 
+/// A day, a moment, a plan, and files.
+#[derive(Clone, Copy)]
+struct ReplanWords<'w> {
+    day: &'w [u8],
+    moment: &'w [u8],
+    plan: &'w [u8],
+    files: Parted<'w>,
+}
+
+/// What plain words say is to be planned anew, where they are right.
+fn replan_words(words: Parted<'_>) -> Option<ReplanWords<'_>>
+    ensures said { IfSome result (λ said. plain_of (said_by words.entry.before.now) ++ words.entry.behind.now ≡ said.day.now ∷ said.moment.now ∷ said.plan.now ∷ (plain_of (said_by said.files.before.now) ++ said.files.behind.now)) }
+    ensures right { IfSome result (λ said. (spec.are_day_and_files (said.day.now ∷ (plain_of (said_by said.files.before.now) ++ said.files.behind.now)) && (spec.moment_word said.moment.now && spec.file_word said.plan.now)) ≡ true) }
+    ensures none { IfNone result ((effort : Effort) → spec.replan_request effort (plain_of (said_by words.entry.before.now) ++ words.entry.behind.now) ≡ None) }
+{
+    let day = plain_words(words)?;
+    let moment = plain_words(day.others)?;
+    let plan = plain_words(moment.others)?;
+    let files = PlainWords {
+        first: day.first,
+        others: plan.others,
+    };
+    if is_day_and_files(files) && (is_moment(moment.first) && is_file(plan.first)) {
+        Some(ReplanWords {
+            day: day.first,
+            moment: moment.first,
+            plan: plan.first,
+            files: plan.others,
+        })
+    } else {
+        None
+    }
+}
+
+/// The request to plan the rest of a day anew.
+fn replan_request(alloc: Global, effort: Effort, words: Parted<'_>) -> Result<Request, WordsFault>
+    requires { IsEffort effort }
+    ensures request { IfOk result (λ request. spec.replan_request effort (plain_of (said_by words.entry.before.now) ++ words.entry.behind.now) ≡ Some request) }
+    ensures names { IfOk result (λ request. spec.HasNames request.command (length request.names)) }
+    ensures effort { IfOk result (λ request. IsEffort request.effort) }
+    ensures trips { IfOk result (λ request. spec.HasFewTrips request.command) }
+    ensures moment { IfOk result (λ request. spec.HasMoment request.command) }
+    ensures usage { IsErrOf result WordsFault.Usage ↔ (spec.replan_request effort (plain_of (said_by words.entry.before.now) ++ words.entry.behind.now) ≡ None) }
+{
+    let Some(said) = replan_words(words) else {
+        return Err(WordsFault::Usage);
+    };
+    Ok(Request {
+        command: Command::Replan {
+            moment: digits_number(said.moment),
+        },
+        effort,
+        flow: false,
+        day: digits_number(said.day),
+        names: names_and_plan(alloc, said.files, said.plan)?,
+    })
+}
+
 /// The request for a day that is made.
 fn make_request(alloc: Global, settings: Settings, words: Parted<'_>) -> Result<Request, WordsFault>
     requires effort { IsEffort settings.effort }
@@ -366,6 +449,7 @@ fn make_request(alloc: Global, settings: Settings, words: Parted<'_>) -> Result<
     ensures names { IfOk result (λ request. spec.HasNames request.command (length request.names)) }
     ensures effort { IfOk result (λ request. IsEffort request.effort) }
     ensures trips { IfOk result (λ request. spec.HasFewTrips request.command) }
+    ensures moment { IfOk result (λ request. spec.HasMoment request.command) }
     ensures usage { IsErrOf result WordsFault.Usage ↔ (spec.request_for CommandName.Make settings (plain_of (said_by words.entry.before.now) ++ words.entry.behind.now) ≡ None) }
 {
     let Some(seed) = seed_said(words) else {
@@ -401,6 +485,7 @@ fn week_request(alloc: Global, effort: Effort, words: Parted<'_>) -> Result<Requ
     ensures names { IfOk result (λ request. spec.HasNames request.command (length request.names)) }
     ensures effort { IfOk result (λ request. IsEffort request.effort) }
     ensures trips { IfOk result (λ request. spec.HasFewTrips request.command) }
+    ensures moment { IfOk result (λ request. spec.HasMoment request.command) }
     ensures usage { IsErrOf result WordsFault.Usage ↔ (spec.week_request effort (plain_of (said_by words.entry.before.now) ++ words.entry.behind.now) ≡ None) }
 {
     if !is_roster(words) {
@@ -428,6 +513,7 @@ fn request_for(
     ensures names { IfOk result (λ request. spec.HasNames request.command (length request.names)) }
     ensures effort { IfOk result (λ request. IsEffort request.effort) }
     ensures trips { IfOk result (λ request. spec.HasFewTrips request.command) }
+    ensures moment { IfOk result (λ request. spec.HasMoment request.command) }
     ensures usage { IsErrOf result WordsFault.Usage ↔ (spec.request_for name settings (plain_of (said_by words.entry.before.now) ++ words.entry.behind.now) ≡ None) }
 {
     let effort = settings.effort;
@@ -437,6 +523,7 @@ fn request_for(
         CommandName::Plan => day_request(alloc, Command::Plan, settings, words),
         CommandName::Certify => day_request(alloc, Command::Certify, settings, words),
         CommandName::Check => check_request(alloc, effort, words),
+        CommandName::Replan => replan_request(alloc, effort, words),
         CommandName::Make => make_request(alloc, settings, words),
         CommandName::Week => week_request(alloc, effort, words),
     }
@@ -448,6 +535,7 @@ fn request_of(alloc: Global, name: CommandName, words: &[Bytes]) -> Result<Reque
     ensures names { IfOk result (λ request. spec.HasNames request.command (length request.names)) }
     ensures effort { IfOk result (λ request. IsEffort request.effort) }
     ensures trips { IfOk result (λ request. spec.HasFewTrips request.command) }
+    ensures moment { IfOk result (λ request. spec.HasMoment request.command) }
     ensures usage { IsErrOf result WordsFault.Usage ↔ (spec.asked_of name words.now ≡ None) }
 {
     let parts = part(words);
@@ -463,16 +551,18 @@ fn request_of(alloc: Global, name: CommandName, words: &[Bytes]) -> Result<Reque
 /// - `trips DAY FILE..` and `day DAY FILE..`, without options;
 /// - `plan DAY FILE..` and `certify DAY FILE..`, with the options of planning;
 /// - `check DAY PLAN CERT FILE..`, without options;
+/// - `replan DAY MOMENT PLAN FILE..`, with those of planning but `--flow`;
 /// - `make SEED`, with those of making a day;
 /// - `week ROSTER`, without options.
 ///
-/// DAY is eight ASCII digits and SEED one to nine, signs excluded. There are 1 to 64 FILE words. No FILE, PLAN, CERT or ROSTER is empty.
+/// DAY is eight ASCII digits, SEED one to nine, and MOMENT one to six that spell at most 172,800, signs excluded. There are 1 to 64 FILE
+/// words. No FILE, PLAN, CERT or ROSTER is empty. The planning files are read first, then PLAN, then CERT.
 ///
 /// The options of planning are `--workers N` (1 to 64; 1 unless said), `--rounds N` (1 to 200; 40), `--lower N` (1 to 50; 20) and
 /// `--exchange N` (0 to 1,000; 20), the flag `--climb` for the other method, and the flag `--flow` for exact blocks of a day with one depot.
 /// Those of making a day are the same but `--flow`, and `--trips N` (1 to 3,000; 240) and the flag `--run` to plan it; without that flag the
-/// options of planning change nothing. N is one to four ASCII digits, in the word
-/// behind or in the same word behind a `=`. A flag has no value. Each stands at most once.
+/// options of planning change nothing. N is one to four ASCII digits, in the word behind or in the same word behind a `=`. A flag has no
+/// value. Each stands at most once.
 ///
 /// The first `--` ends the options and is passed over; what is behind it is plain, and no value of an option. Before it a word that begins
 /// with `-` and is longer than one byte is an option, or else the value of the one before it.
@@ -485,6 +575,7 @@ pub fn read_words(alloc: Global, words: &[Bytes]) -> Result<Request, WordsFault>
     ensures names { IfOk result (λ request. spec.HasNames request.command (length request.names)) }
     ensures effort { IfOk result (λ request. IsEffort request.effort) }
     ensures trips { IfOk result (λ request. spec.HasFewTrips request.command) }
+    ensures moment { IfOk result (λ request. spec.HasMoment request.command) }
     ensures usage { IsErrOf result WordsFault.Usage ↔ (spec.asked words.now ≡ None) }
 {
     let [command, rest @ ..] = words else {

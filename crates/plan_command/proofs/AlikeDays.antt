@@ -54,7 +54,7 @@ module _ (one other : DayFacts) (alike : AreAlike one other) where
       ∙ ap (λ params. problem other.trips params (block_worth one counts)) alike.params
       ∙ ap (λ worth. problem other.trips other.params worth) (same_worth one other counts alike.trips alike.params alike.deads)
 
-  same_blocks : blocks_of one ≡ blocks_of other
+  pub same_blocks : blocks_of one ≡ blocks_of other
   same_blocks = fun_ext blocks_alike
 
   legs_alike : (pool : Pool) (list : List ℕ) → legs_of one pool list ≡ legs_of other pool list
@@ -117,7 +117,7 @@ module _ (one other : DayFacts) (alike : AreAlike one other) where
       ap (λ blocks. problems blocks (duties_over one)) same_blocks ∙ ap (λ duties. problems (blocks_of other) duties) same_duties
 
   -- the tables of a plan tell the version, the kind, the trips and the settings of their day alone
-  tables_alike : (table : Table) (answer : Answer) → answer_tables one table answer ≡ answer_tables other table answer
+  pub tables_alike : (table : Table) (answer : Answer) → answer_tables one table answer ≡ answer_tables other table answer
   tables_alike table answer =
       let day : ℕ → ℕ → List DayTrip → ParamRows → DayFacts = λ version kind trips params.
       record { kind = record { version = version; kind = kind; day = one.kind.day; weekday = one.kind.weekday }; rows = one.rows; trips = trips; params = params; deads = one.deads } in
@@ -126,7 +126,7 @@ module _ (one other : DayFacts) (alike : AreAlike one other) where
       ∙ ap (λ trips. answer_tables (day other.kind.version other.kind.kind trips one.params) table answer) alike.trips
       ∙ ap (λ params. answer_tables (day other.kind.version other.kind.kind other.trips params) table answer) alike.params
 
-  answers_alike : (blocks duties : SidePlan) → answer_of one blocks duties ≡ answer_of other blocks duties
+  pub answers_alike : (blocks duties : SidePlan) → answer_of one blocks duties ≡ answer_of other blocks duties
   answers_alike blocks duties =
       let answer : (Column → List Leg) → (List Column → List WorkPiece) → Answer = λ legs pieces.
       record {

@@ -65,41 +65,41 @@ kind_in (answered blocks duties) = 0
 kind_in (refused side bound places) = 1
 kind_in (left_out side item columns) = 2
 
-same_blocks : (a b c d : SidePlan) → answered a b ≡ answered c d → a ≡ c
+pub same_blocks : (a b c d : SidePlan) → answered a b ≡ answered c d → a ≡ c
 unfolding blocks_in
 same_blocks a b c d h = ap (blocks_in a) h
 
-same_duties : (a b c d : SidePlan) → answered a b ≡ answered c d → b ≡ d
+pub same_duties : (a b c d : SidePlan) → answered a b ≡ answered c d → b ≡ d
 unfolding duties_in
 same_duties a b c d h = ap (duties_in b) h
 
-same_refusal : (side other : Side) (bound places bound' places' : ℕ) → refused side bound places ≡ refused other bound' places' → faults.NoPlan side bound places ≡ faults.NoPlan other bound' places'
+pub same_refusal : (side other : Side) (bound places bound' places' : ℕ) → refused side bound places ≡ refused other bound' places' → faults.NoPlan side bound places ≡ faults.NoPlan other bound' places'
 unfolding side_in number_in places_in
 same_refusal side other bound places bound' places' h =
     ap (λ (s : Side). faults.NoPlan s bound places) (ap (side_in side) h)
     ∙ (ap (λ (n : ℕ). faults.NoPlan other n places) (ap number_in h) ∙ ap (λ (n : ℕ). faults.NoPlan other bound' n) (ap places_in h))
 
-same_side : (side other : Side) (i j : ℕ) (a b : List Column) → left_out side i a ≡ left_out other j b → side ≡ other
+pub same_side : (side other : Side) (i j : ℕ) (a b : List Column) → left_out side i a ≡ left_out other j b → side ≡ other
 unfolding side_in
 same_side side other i j a b h = ap (side_in side) h
 
-same_item : (side other : Side) (i j : ℕ) (a b : List Column) → left_out side i a ≡ left_out other j b → i ≡ j
+pub same_item : (side other : Side) (i j : ℕ) (a b : List Column) → left_out side i a ≡ left_out other j b → i ≡ j
 unfolding number_in
 same_item side other i j a b h = ap number_in h
 
-same_columns : (side other : Side) (i j : ℕ) (a b : List Column) → left_out side i a ≡ left_out other j b → a ≡ b
+pub same_columns : (side other : Side) (i j : ℕ) (a b : List Column) → left_out side i a ≡ left_out other j b → a ≡ b
 unfolding columns_in
 same_columns side other i j a b h = ap (columns_in a) h
 
-not_refused : (a b : SidePlan) (side : Side) (bound places : ℕ) → answered a b ≡ refused side bound places → ⊥
+pub not_refused : (a b : SidePlan) (side : Side) (bound places : ℕ) → answered a b ≡ refused side bound places → ⊥
 unfolding kind_in
 not_refused a b side bound places h = omega (arith, ap kind_in h)
 
-not_left : (a b : SidePlan) (side : Side) (item : ℕ) (columns : List Column) → answered a b ≡ left_out side item columns → ⊥
+pub not_left : (a b : SidePlan) (side : Side) (item : ℕ) (columns : List Column) → answered a b ≡ left_out side item columns → ⊥
 unfolding kind_in
 not_left a b side item columns h = omega (arith, ap kind_in h)
 
-not_both : (side other : Side) (bound places item : ℕ) (columns : List Column) → refused side bound places ≡ left_out other item columns → ⊥
+pub not_both : (side other : Side) (bound places item : ℕ) (columns : List Column) → refused side bound places ≡ left_out other item columns → ⊥
 unfolding kind_in
 not_both side other bound places item columns h = omega (arith, ap kind_in h)
 
@@ -108,7 +108,7 @@ columns_of d (planned count cost columns) = columns
 columns_of d (no_plan bound places) = d
 columns_of d (not_placed item columns) = d
 
-same_planned : (c k d l : Kept) (a b : List Column) → planned c k a ≡ planned d l b → a ≡ b
+pub same_planned : (c k d l : Kept) (a b : List Column) → planned c k a ≡ planned d l b → a ≡ b
 unfolding columns_of
 same_planned c k d l a b h = ap (columns_of a) h
 

@@ -22,6 +22,6 @@ pub use day_plan::DayPlan;
 pub use fault::{ItemName, PlanFault};
 pub use laws::{day_answers_once, days_alike_answer_alike};
 pub use method::Method;
-pub use planning::plan_day;
+pub use planning::{block_pieces, duty_net, plan_day};
 pub use short::short_text;
-pub use writing::plan_text;
+pub use writing::{plan_text, text_of};

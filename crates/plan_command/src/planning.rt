@@ -169,8 +169,9 @@ fn planned_blocks<R: Threads + Sync, G: Gate + Sync>(
     }
 }
 
-/// The duties over pieces, each worth its cost or 1.
-fn duty_net<'p>(
+/// The duties over pieces, in memory of their own, each worth its cost or 1. There are at most 3,000 pieces, as [`block_pieces`] gives them.
+/// `Memory` is the only error.
+pub fn duty_net<'p>(
     alloc: Global,
     pieces: &Seq<Piece>,
     params: &'p Params,
@@ -244,8 +245,8 @@ fn duties_fault(pieces: &[Piece], fault: CoverFault) -> PlanFault
     }
 }
 
-/// The pieces of the blocks of a day.
-fn block_pieces(alloc: Global, model: &Day, blocks: &Plan) -> Result<Seq<Piece>, Memory>
+/// The pieces that the blocks of a plan of a day are cut into, by begin, block and index. `Memory` is the only error.
+pub fn block_pieces(alloc: Global, model: &Day, blocks: &Plan) -> Result<Seq<Piece>, Memory>
     requires plan { IsPlan (blocks_of model.now false) blocks.now.columns }
     ensures pieces { IfOk result (λ pieces. pieces ≡ pieces_of_plan model.now blocks.now.columns) }
     ensures shifts { IfOk result (λ pieces. All IsShift pieces) }

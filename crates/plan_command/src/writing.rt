@@ -90,8 +90,10 @@ pub(crate) fn tables_of(
     plan_tables(alloc, model, rec_frt, &answer)
 }
 
-/// The text of a plan that can be printed.
-fn text_of(alloc: Global, model: &Day, rec_frt: &Table, plan: DayPlan) -> Result<Bytes, Memory>
+/// The text of a plan of a day that can be printed: REC_UMLAUF, REC_FRT, X_UMLAUF, X_UMLAUF_TEIL, X_DIENST, X_DIENST_STUECK and X_SCHRANKE in
+/// the text form of VDV 451. `rec_frt` is the table that the day's trips were read from; it has exactly one row of the day's version for each
+/// trip of the day. `Memory` is the only error.
+pub fn text_of(alloc: Global, model: &Day, rec_frt: &Table, plan: DayPlan) -> Result<Bytes, Memory>
     requires plain { IsTrue (is_plain_table rec_frt.now) }
     requires trips { HasTripRows model.now rec_frt.now }
     requires printable { IsPrintable model.now (side_of plan.blocks) (side_of plan.duties) }
