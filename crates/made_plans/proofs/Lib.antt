@@ -1,0 +1,14 @@
+pub mod Wide
+pub mod Places
+pub mod Alone
+pub mod Whole
+pub mod Running
+pub mod Light
+pub mod MadeNet
+pub mod MadeTripRows
+pub mod MadeTimes
+pub mod MadeDay
+pub mod MadeRoomy
+pub mod Planned
+pub mod MadeTables
+pub mod MadeModel
