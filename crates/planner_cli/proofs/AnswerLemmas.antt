@@ -1,12 +1,12 @@
 -- From what is read and what the tables answer to the answer of the task.
-use Rattle.std.proofs.Common.{◌≡◌, ◌≢◌, ℕ, Bool, true, false, ◌&&◌, ◌⊎◌, inl, inr, List, take, Option, Some, Result, Ok, Err, IfSome, MatchResult, refl, sym, ap, ◌∙◌, subst}
+use Rattle.std.proofs.Common.{◌≡◌, ◌≢◌, ℕ, Bool, true, false, ◌&&◌, ◌⊎◌, inl, inr, List, take, Option, Some, Result, Ok, Err, IfSome, MatchResult, refl, sym, ap, ◌∙◌, subst, slice_index_or, []}
 use Rattle.std.specs.Prelude.{IfOk, IfErr}
 use Rattle.vdv451_text.specs.declared.table.Table.{Table}
 use Rattle.vdv451_text.specs.declared.fault.TextFault.{TextFault}
 use Rattle.vdv451_text.specs.declared.fault.TextKind.{TextKind}
 use Rattle.plan_command.specs.Planning.{Asked}
 use Rattle.planner_cli.specs.Tasks.{Task, climbs}
-use Rattle.planner_cli.specs.Tasks.{Certify, Check, Day, Make, MakeRun, Plan, Trips, Week}
+use Rattle.planner_cli.specs.Tasks.{Certify, Check, Day, Make, MakeRun, Plan, Replan, Trips, Week}
 use Rattle.planner_cli.specs.declared.status.Status.{Status}
 use Rattle.planner_cli.specs.declared.status.Status.TheVariants as statuses
 use Rattle.planner_cli.specs.declared.status.InputFault.TheVariants as inputs
@@ -15,13 +15,18 @@ use Rattle.input_files.specs.declared.fault.FileFault.TheVariants as files
 use Rattle.input_files.specs.Inputs.{HasTextFault, IsFileCause, IsUnread as IsUnreadFile, SpellTables, held_under, refused_text}
 use Rattle.input_files.specs.Parts.{joined}
 use Rattle.planner_cli.specs.declared.outcome.Outcome.{Outcome}
-use Rattle.planner_cli.specs.Run.{IsAnswer, IsAnswerCause, IsCause, IsRefusal, IsRefused, IsTablesRefusal, IsUnread, IsWhole, file_status, is_of_planning, is_open, names_for, stage_of, tables_in, told_for}
+use Rattle.planner_cli.specs.Run.{ArePartsRefused, IsAnswer, IsAnswerCause, IsPartsCause, IsRefusal, IsTablesRefusal, IsUnread, IsWhole, file_status, is_of_planning, is_open, names_for, stage_of, told_for}
 use Rattle.input_files.proofs.InputLemmas.{if_told, of_told}
 use Rattle.planner_cli.specs.Model.{IsModelCause}
 use Rattle.day_maker.specs.Made.{made_tables}
 use Rattle.plan_command.specs.declared.fault.PlanFault.{PlanFault}
 use Rattle.plan_command.specs.declared.fault.PlanFault.TheVariants as faults
 use Rattle.planner_cli.specs.PlanText.{IsPlanCause, plan_status_of}
+use Rattle.cover_plan.specs.Endings.{Numbers}
+use Rattle.replan_command.specs.declared.fault.ReplanFault.{ReplanFault}
+use Rattle.replan_command.specs.declared.fault.ReplanFault.TheVariants as replans
+use Rattle.planner_cli.specs.ReplanText.{IsReplanCause, replan_status_of}
+use Rattle.planner_cli.specs.Trips.{IsDayCause}
 use Rattle.week_check.specs.declared.fault.RosterFault.{RosterFault}
 use Rattle.week_check.specs.declared.fault.RosterFault.TheVariants as rosters
 use Rattle.planner_cli.specs.WeekText.{roster_status}
@@ -30,26 +35,31 @@ use Rattle.planner_cli.proofs.Outcomes.{one_cause, text_no_cause}
 use Rattle.planner_cli.proofs.ModelOutcomes.{day_text_no_cause, model_no_cause, one_model_cause}
 use Rattle.planner_cli.proofs.CertOutcomes.{cert_text_no_cause}
 use Rattle.planner_cli.proofs.PlanOutcomes.{one_plan_cause, plan_text_no_cause, short_text_no_cause}
+use Rattle.planner_cli.proofs.ReplanOutcomes.{one_replan_cause, replan_text_no_cause}
 
--- a task has one answer for tables and a day, unless it is left open
-same_cause : (task : Task) (tables : List Table) (day : ℕ) (s t : Status) → is_open task t ≡ false → IsCause task tables day s → IsCause task tables day t → s ≡ t
-same_cause Trips tables day s t settled p q = one_cause tables day s t p q
-same_cause Day tables day s t settled p q = one_model_cause tables day s t p q
-same_cause (Plan asked) tables day s t settled p q = one_plan_cause asked tables day s t settled p q
-same_cause (Certify asked) tables day s t settled p q = one_plan_cause asked tables day s t settled p q
-same_cause (Check count) tables day s t settled p q = one_model_cause tables day s t p q
-same_cause (Make seed trips) tables day s t settled p q = absurd p
-same_cause Week tables day s t settled p q = one_week_cause tables s t p q
-same_cause (MakeRun seed trips asked) tables day s t settled p q = one_plan_cause asked (made_tables seed trips) day s t settled p q
+-- a task has one answer for the tables of each file and a day, unless it is left open
+same_cause : (task : Task) (parts : List (List Table)) (day : ℕ) (s t : Status) → is_open task t ≡ false → IsPartsCause task parts day s → IsPartsCause task parts day t → s ≡ t
+same_cause Trips parts day s t settled p q = one_cause (joined parts) day s t p q
+same_cause Day parts day s t settled p q = one_model_cause (joined parts) day s t p q
+same_cause (Plan asked) parts day s t settled p q = one_plan_cause asked (joined parts) day s t settled p q
+same_cause (Certify asked) parts day s t settled p q = one_plan_cause asked (joined parts) day s t settled p q
+same_cause (Check count) parts day s t settled p q = one_model_cause (joined (take count parts)) day s t p q
+same_cause (Replan count moment numbers) parts day s t settled p q =
+    one_replan_cause numbers moment (joined (take count parts)) (slice_index_or parts count []) day s t settled p q
+same_cause (Make seed trips) parts day s t settled p q = absurd p
+same_cause Week parts day s t settled p q = one_week_cause (joined parts) s t p q
+same_cause (MakeRun seed trips asked) parts day s t settled p q = one_plan_cause asked (made_tables seed trips) day s t settled p q
 
 -- tables with a text are not refused
 no_cause : (task : Task) (parts : List (List Table)) (day : ℕ) (ending : Status) (bytes : List ℕ) (s : Status) → is_open task s ≡ false → IsWhole task parts day ending bytes
-    → IsCause task (tables_in task parts) day s → ⊥
+    → IsPartsCause task parts day s → ⊥
 no_cause Trips parts day ending bytes s settled p q = text_no_cause (joined parts) day bytes s p.0 q
 no_cause Day parts day ending bytes s settled p q = day_text_no_cause (joined parts) day bytes s p.0 q
 no_cause (Plan asked) parts day ending bytes s settled p q = plan_text_no_cause asked (joined parts) day bytes s settled p.0 q
 no_cause (Certify asked) parts day ending bytes s settled p q = cert_text_no_cause asked (joined parts) day bytes s settled p.0 q
-no_cause (Check count) parts day ending bytes s settled p q = model_no_cause (tables_in (Check count) parts) day p.facts s p.model q
+no_cause (Check count) parts day ending bytes s settled p q = model_no_cause (joined (take count parts)) day p.facts s p.model q
+no_cause (Replan count moment numbers) parts day ending bytes s settled p q =
+    replan_text_no_cause numbers moment (joined (take count parts)) (slice_index_or parts count []) day bytes s settled p.0 q
 no_cause (Make seed trips) parts day ending bytes s settled p q = q
 no_cause Week parts day ending bytes s settled p q = week_text_no_cause (joined parts) bytes s p.0 q
 no_cause (MakeRun seed trips asked) parts day ending bytes s settled p q = short_text_no_cause asked (made_tables seed trips) day bytes s settled p.0 q
@@ -85,6 +95,7 @@ parts_of (statuses.Input (inputs.Trip fid fault)) = inr (record { names = λ nam
 parts_of (statuses.Day fault) = inr (record { names = λ names. refl; refusal = λ task contents day r. r })
 parts_of (statuses.NoPlan side bound places) = inr (record { names = λ names. refl; refusal = λ task contents day r. r })
 parts_of (statuses.NotPlaced side item name partial) = inr (record { names = λ names. refl; refusal = λ task contents day r. r })
+parts_of (statuses.OldPlan reason) = inr (record { names = λ names. refl; refusal = λ task contents day r. r })
 parts_of statuses.Memory = inr (record { names = λ names. refl; refusal = λ task contents day r. absurd r })
 parts_of statuses.Ok = inr (record { names = λ names. refl; refusal = λ task contents day r. absurd r })
 parts_of statuses.Usage = inr (record { names = λ names. refl; refusal = λ task contents day r. absurd r })
@@ -96,7 +107,7 @@ parts_of (statuses.CheckNo reason) = inr (record { names = λ names. refl; refus
 told_others : (held : List ℕ → Option (List ℕ)) (names contents : List (List ℕ)) (status : Status) → IsOtherStatus status → told_for held names status ≡ Some contents → held_under held names ≡ Some contents
 told_others held names contents status other told = let P : List (List ℕ) → Type 0 = λ ns. held_under held ns ≡ Some contents in subst P (other.names names) told
 
--- the tables refuse by their first fault, the number of trips or the day
+-- the tables refuse by their first fault, the number of trips or the day, or by what they plan
 abbrev IsTableStatus : Status → Type 0
 IsTableStatus (statuses.Input (inputs.Table fault)) = Unit {0}
 IsTableStatus (statuses.Input (inputs.Trips count)) = Unit {0}
@@ -106,6 +117,7 @@ IsTableStatus (statuses.Input (inputs.Trip fid fault)) = Unit {0}
 IsTableStatus (statuses.Day fault) = Unit {0}
 IsTableStatus (statuses.NoPlan side bound places) = Unit {0}
 IsTableStatus (statuses.NotPlaced side item name partial) = Unit {0}
+IsTableStatus (statuses.OldPlan reason) = Unit {0}
 IsTableStatus (statuses.Input (inputs.Text file fault)) = ⊥
 IsTableStatus statuses.Memory = ⊥
 IsTableStatus statuses.Ok = ⊥
@@ -130,6 +142,7 @@ model_is_of_tables tables day statuses.Usage c = c
 model_is_of_tables tables day (statuses.ReadFault file) c = c
 model_is_of_tables tables day statuses.WriteFault c = c
 model_is_of_tables tables day (statuses.CheckNo reason) c = c
+model_is_of_tables tables day (statuses.OldPlan reason) c = tt
 
 unplanned_is_of_tables : (fault : PlanFault) → fault ≢ faults.Memory → IsTableStatus (plan_status_of fault)
 unplanned_is_of_tables (faults.NoPlan side bound places) told = tt
@@ -145,33 +158,47 @@ roster_is_of_tables (rosters.Table wrong) told = tt
 roster_is_of_tables (rosters.Days first last) told = tt
 roster_is_of_tables rosters.Memory told = absurd (told refl)
 
-is_of_tables : (task : Task) (tables : List Table) (day : ℕ) (status : Status) → IsCause task tables day status → IsTableStatus status
-is_of_tables Trips tables day (statuses.Input (inputs.Table fault)) c = tt
-is_of_tables Trips tables day (statuses.Input (inputs.Trips count)) c = tt
-is_of_tables Trips tables day (statuses.Input (inputs.Params fault)) c = absurd c
-is_of_tables Trips tables day (statuses.Input (inputs.Days first last)) c = absurd c
-is_of_tables Trips tables day (statuses.Input (inputs.Trip fid fault)) c = absurd c
-is_of_tables Trips tables day (statuses.Day fault) c = tt
-is_of_tables Trips tables day (statuses.NoPlan side bound places) c = absurd c
-is_of_tables Trips tables day (statuses.NotPlaced side item name partial) c = absurd c
-is_of_tables Trips tables day (statuses.Input (inputs.Text file fault)) c = c
-is_of_tables Trips tables day statuses.Memory c = c
-is_of_tables Trips tables day statuses.Ok c = c
-is_of_tables Trips tables day statuses.Usage c = c
-is_of_tables Trips tables day (statuses.ReadFault file) c = c
-is_of_tables Trips tables day statuses.WriteFault c = c
-is_of_tables Trips tables day (statuses.CheckNo reason) c = c
-is_of_tables Day tables day status c = model_is_of_tables tables day status c
-is_of_tables (Plan asked) tables day status c = plan_is_of_tables asked tables day status c
-is_of_tables (Certify asked) tables day status c = plan_is_of_tables asked tables day status c
-is_of_tables (Check count) tables day status c = model_is_of_tables tables day status c
-is_of_tables (Make seed trips) tables day status c = absurd c
-is_of_tables Week tables day status c = subst IsTableStatus (sym c.is) (roster_is_of_tables c.fault c.told)
-is_of_tables (MakeRun seed trips asked) tables day status c = plan_is_of_tables asked (made_tables seed trips) day status c
+trips_are_of_tables : (tables : List Table) (day : ℕ) (status : Status) → IsDayCause tables day status → IsTableStatus status
+trips_are_of_tables tables day (statuses.Input (inputs.Table fault)) c = tt
+trips_are_of_tables tables day (statuses.Input (inputs.Trips count)) c = tt
+trips_are_of_tables tables day (statuses.Input (inputs.Params fault)) c = absurd c
+trips_are_of_tables tables day (statuses.Input (inputs.Days first last)) c = absurd c
+trips_are_of_tables tables day (statuses.Input (inputs.Trip fid fault)) c = absurd c
+trips_are_of_tables tables day (statuses.Day fault) c = tt
+trips_are_of_tables tables day (statuses.NoPlan side bound places) c = absurd c
+trips_are_of_tables tables day (statuses.NotPlaced side item name partial) c = absurd c
+trips_are_of_tables tables day (statuses.Input (inputs.Text file fault)) c = c
+trips_are_of_tables tables day statuses.Memory c = c
+trips_are_of_tables tables day statuses.Ok c = c
+trips_are_of_tables tables day statuses.Usage c = c
+trips_are_of_tables tables day (statuses.ReadFault file) c = c
+trips_are_of_tables tables day statuses.WriteFault c = c
+trips_are_of_tables tables day (statuses.CheckNo reason) c = c
+trips_are_of_tables tables day (statuses.OldPlan reason) c = absurd c
+
+not_replanned_is_of_tables : (fault : ReplanFault) → fault ≢ replans.Plan faults.Memory → IsTableStatus (replan_status_of fault)
+not_replanned_is_of_tables (replans.OldPlan reason) told = tt
+not_replanned_is_of_tables (replans.Plan fault) told = unplanned_is_of_tables fault (λ e. told (ap (λ f. replans.Plan f) e))
+
+replan_is_of_tables : (numbers : Numbers) (moment : ℕ) (tables old : List Table) (day : ℕ) (status : Status) → IsReplanCause numbers moment tables old day status → IsTableStatus status
+replan_is_of_tables numbers moment tables old day status (inl c) = model_is_of_tables tables day status c
+replan_is_of_tables numbers moment tables old day status (inr c) = subst IsTableStatus (sym c.is) (not_replanned_is_of_tables c.fault c.told)
+
+is_of_tables : (task : Task) (parts : List (List Table)) (day : ℕ) (status : Status) → IsPartsCause task parts day status → IsTableStatus status
+is_of_tables Trips parts day status c = trips_are_of_tables (joined parts) day status c
+is_of_tables Day parts day status c = model_is_of_tables (joined parts) day status c
+is_of_tables (Plan asked) parts day status c = plan_is_of_tables asked (joined parts) day status c
+is_of_tables (Certify asked) parts day status c = plan_is_of_tables asked (joined parts) day status c
+is_of_tables (Check count) parts day status c = model_is_of_tables (joined (take count parts)) day status c
+is_of_tables (Replan count moment numbers) parts day status c =
+    replan_is_of_tables numbers moment (joined (take count parts)) (slice_index_or parts count []) day status c
+is_of_tables (Make seed trips) parts day status c = absurd c
+is_of_tables Week parts day status c = subst IsTableStatus (sym c.is) (roster_is_of_tables c.fault c.told)
+is_of_tables (MakeRun seed trips asked) parts day status c = plan_is_of_tables asked (made_tables seed trips) day status c
 
 -- a cause in the tables is a refusal of them
 tables_cause : (task : Task) (held : List ℕ → Option (List ℕ)) (names : List (List ℕ)) (parts : List (List Table)) (day : ℕ) (status : Status)
-    → IfSome (held_under held names) (λ contents. SpellTables (stage_of task) contents parts) → IsCause task (tables_in task parts) day status
+    → IfSome (held_under held names) (λ contents. SpellTables (stage_of task) contents parts) → IsPartsCause task parts day status
     → IfSome (held_under held names) (λ contents. IsTablesRefusal task contents day status)
 tables_cause task held names parts day status spelled c =
     let told = held_under held names in
@@ -180,7 +207,7 @@ tables_cause task held names parts day status spelled c =
 
 -- the tables' cause is the task's
 pub cause_of : (task : Task) (held : List ℕ → Option (List ℕ)) (names : List (List ℕ)) (parts : List (List Table)) (day : ℕ) (R : ℕ → Type 0) (status : Status)
-    → IsTableStatus status → IfSome (held_under held names) (λ contents. SpellTables (stage_of task) contents parts) → IsCause task (tables_in task parts) day status
+    → IsTableStatus status → IfSome (held_under held names) (λ contents. SpellTables (stage_of task) contents parts) → IsPartsCause task parts day status
     → IsAnswerCause (λ s. IfSome (told_for held names s) (λ contents. IsRefusal task contents day s)) R status
 cause_of task held names parts day R (statuses.Input (inputs.Table fault)) t spelled c = tables_cause task held names parts day (statuses.Input (inputs.Table fault)) spelled c
 cause_of task held names parts day R (statuses.Input (inputs.Trips count)) t spelled c = tables_cause task held names parts day (statuses.Input (inputs.Trips count)) spelled c
@@ -190,6 +217,7 @@ cause_of task held names parts day R (statuses.Input (inputs.Trip fid fault)) t 
 cause_of task held names parts day R (statuses.Day fault) t spelled c = tables_cause task held names parts day (statuses.Day fault) spelled c
 cause_of task held names parts day R (statuses.NoPlan side bound places) t spelled c = tables_cause task held names parts day (statuses.NoPlan side bound places) spelled c
 cause_of task held names parts day R (statuses.NotPlaced side item name partial) t spelled c = tables_cause task held names parts day (statuses.NotPlaced side item name partial) spelled c
+cause_of task held names parts day R (statuses.OldPlan reason) t spelled c = tables_cause task held names parts day (statuses.OldPlan reason) spelled c
 cause_of task held names parts day R (statuses.Input (inputs.Text file fault)) t spelled c = absurd t
 cause_of task held names parts day R statuses.Memory t spelled c = absurd t
 cause_of task held names parts day R statuses.Ok t spelled c = absurd t
@@ -199,12 +227,12 @@ cause_of task held names parts day R statuses.WriteFault t spelled c = absurd t
 cause_of task held names parts day R (statuses.CheckNo reason) t spelled c = absurd t
 
 refused_cause : (task : Task) (held : List ℕ → Option (List ℕ)) (names : List (List ℕ)) (parts : List (List Table)) (day : ℕ) (R : ℕ → Type 0) (status : Status)
-    → IfSome (held_under held names) (λ contents. SpellTables (stage_of task) contents parts) → IsRefused task (tables_in task parts) day status
+    → IfSome (held_under held names) (λ contents. SpellTables (stage_of task) contents parts) → ArePartsRefused task parts day status
     → IsAnswerCause (λ s. IfSome (told_for held names s) (λ contents. IsRefusal task contents day s)) R status
 refused_cause task held names parts day R status spelled (inl memory) =
     let P : Status → Type 0 = IsAnswerCause (λ s. IfSome (told_for held names s) (λ contents. IsRefusal task contents day s)) R in subst P (sym memory) tt
 refused_cause task held names parts day R status spelled (inr c) =
-    cause_of task held names parts day R status (is_of_tables task (tables_in task parts) day status c) spelled c
+    cause_of task held names parts day R status (is_of_tables task parts day status c) spelled c
 
 -- where all files were read, these are the clauses of the task's answer
 pub read_written : (task : Task) (held : List ℕ → Option (List ℕ)) (names : List (List ℕ)) (parts : List (List Table)) (day : ℕ) (r : Result Outcome Status)
@@ -217,23 +245,23 @@ read_written task held names parts day (Ok outcome) spelled written =
 read_written task held names parts day (Err s) spelled written = tt
 
 pub read_cause : (task : Task) (held : List ℕ → Option (List ℕ)) (names : List (List ℕ)) (parts : List (List Table)) (day : ℕ) (R : ℕ → Type 0) (r : Result Outcome Status)
-    → IfSome (held_under held names) (λ contents. SpellTables (stage_of task) contents parts) → IfErr r (IsRefused task (tables_in task parts) day)
+    → IfSome (held_under held names) (λ contents. SpellTables (stage_of task) contents parts) → IfErr r (ArePartsRefused task parts day)
     → IfErr r (IsAnswerCause (λ s. IfSome (told_for held names s) (λ contents. IsRefusal task contents day s)) R)
 read_cause task held names parts day R (Ok outcome) spelled cause = tt
 read_cause task held names parts day R (Err s) spelled cause = refused_cause task held names parts day R s spelled cause
 
 tables_refused : (task : Task) (parts : List (List Table)) (day : ℕ) (r : Result Outcome Status) (status : Status) → is_open task status ≡ false
-    → IfOk r (λ outcome. IsWhole task parts day outcome.ending outcome.text) → IfErr r (IsRefused task (tables_in task parts) day) → IsCause task (tables_in task parts) day status
+    → IfOk r (λ outcome. IsWhole task parts day outcome.ending outcome.text) → IfErr r (ArePartsRefused task parts day) → IsPartsCause task parts day status
     → MatchResult r (λ outcome. ⊥) (λ s. IsUnread s ⊎ (s ≡ status))
 tables_refused task parts day (Ok outcome) status settled written cause c = no_cause task parts day outcome.ending outcome.text status settled written c
 tables_refused task parts day (Err s) status settled written (inl memory) c = inl (memory_is_unread s memory)
-tables_refused task parts day (Err s) status settled written (inr d) c = inr (same_cause task (tables_in task parts) day s status settled d c)
+tables_refused task parts day (Err s) status settled written (inr d) c = inr (same_cause task parts day s status settled d c)
 
 pub read_refused : (task : Task) (held : List ℕ → Option (List ℕ)) (names : List (List ℕ)) (parts : List (List Table)) (day : ℕ) (r : Result Outcome Status) (status : Status)
     → is_open task status ≡ false
     → ((others : List (List Table)) → IfSome (held_under held names) (λ contents. SpellTables (stage_of task) contents others → parts ≡ others))
     → ((file line : ℕ) (kind : TextKind) → IfSome (held_under held (take file names)) (λ contents. HasTextFault (stage_of task) 1 contents file line kind → ⊥))
-    → IfOk r (λ outcome. IsWhole task parts day outcome.ending outcome.text) → IfErr r (IsRefused task (tables_in task parts) day)
+    → IfOk r (λ outcome. IsWhole task parts day outcome.ending outcome.text) → IfErr r (ArePartsRefused task parts day)
     → IfSome (told_for held names status) (λ contents. IsRefusal task contents day status → MatchResult r (λ outcome. ⊥) (λ s. IsUnread s ⊎ (s ≡ status)))
 read_refused task held names parts day r status settled only none written cause = elim (parts_of status) [
   | inl t ↦
@@ -247,12 +275,12 @@ read_refused task held names parts day r status settled only none written cause 
       let t = other.refusal task contents day refusal in
       let all = held_under held names in
       let same = of_told all (λ contents. SpellTables (stage_of task) contents t.parts → parts ≡ t.parts) contents (told_others held names contents status other told) (only t.parts) t.spelled in
-      let P : List (List Table) → Type 0 = λ ps. IsCause task (tables_in task ps) day status in
+      let P : List (List Table) → Type 0 = λ ps. IsPartsCause task ps day status in
       tables_refused task parts day r status settled written cause (subst P (sym same) t.cause))
 ]
 
 pub read_complete : (task : Task) → climbs task ≡ false → (contents : List (List ℕ)) (parts : List (List Table)) (day : ℕ) (r : Result Outcome Status) (end : Status) (bytes : List ℕ)
-    → ((others : List (List Table)) → SpellTables (stage_of task) contents others → parts ≡ others) → IfErr r (IsRefused task (tables_in task parts) day) → IsAnswer task contents day end bytes
+    → ((others : List (List Table)) → SpellTables (stage_of task) contents others → parts ≡ others) → IfErr r (ArePartsRefused task parts day) → IsAnswer task contents day end bytes
     → MatchResult r (λ found. Unit {0}) IsUnread
 read_complete task fixed contents parts day (Ok found) end bytes only cause answer = tt
 read_complete task fixed contents parts day (Err s) end bytes only (inl memory) answer = memory_is_unread s memory

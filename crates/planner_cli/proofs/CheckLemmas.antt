@@ -19,9 +19,9 @@ use Rattle.planner_cli.specs.declared.status.Status.TheVariants as statuses
 use Rattle.planner_cli.specs.CheckText.{IsCheckText, ending_of}
 use Rattle.planner_cli.specs.Endings.{is_done}
 use Rattle.planner_cli.specs.Model.{IsModelRefused}
-use Rattle.planner_cli.specs.Run.{HasParts, IsEndingOf, IsRefused, IsText, IsWhole, stage_of, tables_in}
-use Rattle.planner_cli.specs.Tasks.{Task, asked_by, is_check, make_task, task_for}
-use Rattle.planner_cli.specs.Tasks.{Certify, Check, Day, Make, MakeRun, Plan, Trips, Week}
+use Rattle.planner_cli.specs.Run.{ArePartsRefused, HasParts, IsEndingOf, IsRefused, IsText, IsWhole, stage_of, tables_in}
+use Rattle.planner_cli.specs.Tasks.{Task, asked_by, is_check, make_task, reads_plan, task_for}
+use Rattle.planner_cli.specs.Tasks.{Certify, Check, Day, Make, MakeRun, Plan, Replan, Trips, Week}
 
 -- the parts of planning files, of a plan and of a certificate are found again by how many planning files there are
 pub front_of : {A : Type 0} (xs : List A) (y z : A) → take (length xs) (xs ++ y ∷ z ∷ []) ≡ xs
@@ -60,7 +60,7 @@ whole_at planning plan cert day ending bytes h =
     subst (λ c. P (take (length planning) parts) (slice_index_or parts (length planning) []) c) (sym (cert_of planning plan cert [])) two
 
 refused_at : (planning : List (List Table)) (plan cert : List Table) (day : ℕ) (status : Status) → IsModelRefused (joined planning) day status
-    → IsRefused (Check (length planning)) (tables_in (Check (length planning)) (planning ++ plan ∷ cert ∷ [])) day status
+    → ArePartsRefused (Check (length planning)) (planning ++ plan ∷ cert ∷ []) day status
 refused_at planning plan cert day status h =
     let P : List (List Table) → Type 0 = λ front. IsModelRefused (joined front) day status in
     subst P (sym (front_of planning plan cert)) h
@@ -82,15 +82,15 @@ check_at count parts planning plan cert tables day (Ok o) are number same h =
     subst R count_same (subst Q (sym are) there)
 
 check_refused_at : (count : ℕ) (parts planning : List (List Table)) (plan cert tables : List Table) (day : ℕ) (r : Result Outcome Status) → AreParts parts planning plan cert
-    → length parts ≡ count + 2 → tables ≡ joined planning → IfErr r (IsModelRefused tables day) → IfErr r (IsRefused (Check count) (tables_in (Check count) parts) day)
+    → length parts ≡ count + 2 → tables ≡ joined planning → IfErr r (IsModelRefused tables day) → IfErr r (ArePartsRefused (Check count) parts day)
 check_refused_at count parts planning plan cert tables day (Ok o) are number same h = tt
 check_refused_at count parts planning plan cert tables day (Err s) are number same h =
     let number_of : length (planning ++ plan ∷ cert ∷ []) ≡ count + 2 = ap length (sym are) ∙ number in
     let count_same : length planning ≡ count = count_is planning plan cert count number_of in
     let P : List Table → Type 0 = λ ts. IsModelRefused ts day s in
     let there = refused_at planning plan cert day s (subst P same h) in
-    let Q : List (List Table) → Type 0 = λ ps. IsRefused (Check (length planning)) (tables_in (Check (length planning)) ps) day s in
-    let R : ℕ → Type 0 = λ n. IsRefused (Check n) (tables_in (Check n) parts) day s in
+    let Q : List (List Table) → Type 0 = λ ps. ArePartsRefused (Check (length planning)) ps day s in
+    let R : ℕ → Type 0 = λ n. ArePartsRefused (Check n) parts day s in
     subst R count_same (subst Q (sym are) there)
 
 pub check_whole : (command : Command) (effort : Effort) (flow : Bool) (n : ℕ) → is_check command ≡ true → (parts planning : List (List Table)) (plan cert tables : List Table) (day : ℕ) (r : Result Outcome Status)
@@ -102,17 +102,19 @@ check_whole commands.Day effort flow n is parts planning plan cert tables day r 
 check_whole commands.Plan effort flow n is parts planning plan cert tables day r are number same h = absurd (let bad = is in cc)
 check_whole commands.Certify effort flow n is parts planning plan cert tables day r are number same h = absurd (let bad = is in cc)
 check_whole (commands.Make making) effort flow n is parts planning plan cert tables day r are number same h = absurd (let bad = is in cc)
+check_whole (commands.Replan moment) effort flow n is parts planning plan cert tables day r are number same h = absurd (let bad = is in cc)
 check_whole commands.Week effort flow n is parts planning plan cert tables day r are number same h = absurd (let bad = is in cc)
 
 pub check_refused : (command : Command) (effort : Effort) (flow : Bool) (n : ℕ) → is_check command ≡ true → (parts planning : List (List Table)) (plan cert tables : List Table) (day : ℕ) (r : Result Outcome Status)
     → AreParts parts planning plan cert → HasParts (task_for command effort flow n) (length parts) → tables ≡ joined planning → IfErr r (IsModelRefused tables day)
-    → IfErr r (IsRefused (task_for command effort flow n) (tables_in (task_for command effort flow n) parts) day)
+    → IfErr r (ArePartsRefused (task_for command effort flow n) parts day)
 check_refused commands.Check effort flow n is parts planning plan cert tables day r are number same h = check_refused_at (n - 2) parts planning plan cert tables day r are number same h
 check_refused commands.Trips effort flow n is parts planning plan cert tables day r are number same h = absurd (let bad = is in cc)
 check_refused commands.Day effort flow n is parts planning plan cert tables day r are number same h = absurd (let bad = is in cc)
 check_refused commands.Plan effort flow n is parts planning plan cert tables day r are number same h = absurd (let bad = is in cc)
 check_refused commands.Certify effort flow n is parts planning plan cert tables day r are number same h = absurd (let bad = is in cc)
 check_refused (commands.Make making) effort flow n is parts planning plan cert tables day r are number same h = absurd (let bad = is in cc)
+check_refused (commands.Replan moment) effort flow n is parts planning plan cert tables day r are number same h = absurd (let bad = is in cc)
 check_refused commands.Week effort flow n is parts planning plan cert tables day r are number same h = absurd (let bad = is in cc)
 
 -- a text from planning tables alone is the task's whole answer, and ends with Ok
@@ -121,7 +123,7 @@ made_whole : (run : Bool) (seed trips : ℕ) (asked : Asked) (parts : List (List
 made_whole true seed trips asked parts day bytes h = (h, refl)
 made_whole false seed trips asked parts day bytes h = (h, refl)
 
-text_whole : (command : Command) (effort : Effort) (flow : Bool) (n : ℕ) → is_check command ≡ false → (parts : List (List Table)) (tables : List Table) (day : ℕ) (bytes : List ℕ) → tables ≡ joined parts
+text_whole : (command : Command) (effort : Effort) (flow : Bool) (n : ℕ) → reads_plan command ≡ false → (parts : List (List Table)) (tables : List Table) (day : ℕ) (bytes : List ℕ) → tables ≡ joined parts
     → IsText (task_for command effort flow n) tables day bytes → IsWhole (task_for command effort flow n) parts day statuses.Ok bytes
 text_whole commands.Trips effort flow n is parts tables day bytes same h = (subst (λ ts. IsText Trips ts day bytes) same h, refl)
 text_whole commands.Day effort flow n is parts tables day bytes same h = (subst (λ ts. IsText Day ts day bytes) same h, refl)
@@ -131,9 +133,10 @@ text_whole commands.Check effort flow n is parts tables day bytes same h = absur
 text_whole (commands.Make making) effort flow n is parts tables day bytes same h =
     let P : List Table → Type 0 = λ ts. IsText (make_task making.run making.seed making.trips (asked_by effort false)) ts day bytes in
     made_whole making.run making.seed making.trips (asked_by effort false) parts day bytes (subst P same h)
+text_whole (commands.Replan moment) effort flow n is parts tables day bytes same h = absurd (let bad = is in cc)
 text_whole commands.Week effort flow n is parts tables day bytes same h = (subst (λ ts. IsText Week ts day bytes) same h, refl)
 
-pub texts_whole : (command : Command) (effort : Effort) (flow : Bool) (n : ℕ) → is_check command ≡ false → (parts : List (List Table)) (tables : List Table) (day : ℕ) (r : Result Outcome Status) → tables ≡ joined parts
+pub texts_whole : (command : Command) (effort : Effort) (flow : Bool) (n : ℕ) → reads_plan command ≡ false → (parts : List (List Table)) (tables : List Table) (day : ℕ) (r : Result Outcome Status) → tables ≡ joined parts
     → IfOk r (λ o. IsText (task_for command effort flow n) tables day o.text × (o.ending ≡ statuses.Ok)) → IfOk r (λ o. IsWhole (task_for command effort flow n) parts day o.ending o.text)
 texts_whole command effort flow n is parts tables day (Ok o) same h =
     let P : Status → Type 0 = λ s. IsWhole (task_for command effort flow n) parts day s o.text in subst P (sym h.1) (text_whole command effort flow n is parts tables day o.text same h.0)
@@ -143,22 +146,40 @@ made_tables_all : (run : Bool) (seed trips : ℕ) (asked : Asked) (parts : List 
 made_tables_all true seed trips asked parts = refl
 made_tables_all false seed trips asked parts = refl
 
-tables_all : (command : Command) (effort : Effort) (flow : Bool) (n : ℕ) → is_check command ≡ false → (parts : List (List Table)) → joined parts ≡ tables_in (task_for command effort flow n) parts
+tables_all : (command : Command) (effort : Effort) (flow : Bool) (n : ℕ) → reads_plan command ≡ false → (parts : List (List Table)) → joined parts ≡ tables_in (task_for command effort flow n) parts
 tables_all commands.Trips effort flow n is parts = refl
 tables_all commands.Day effort flow n is parts = refl
 tables_all commands.Plan effort flow n is parts = refl
 tables_all commands.Certify effort flow n is parts = refl
 tables_all commands.Check effort flow n is parts = absurd (let bad = is in cc)
 tables_all (commands.Make making) effort flow n is parts = made_tables_all making.run making.seed making.trips (asked_by effort false) parts
+tables_all (commands.Replan moment) effort flow n is parts = absurd (let bad = is in cc)
 tables_all commands.Week effort flow n is parts = refl
 
-text_refused : (command : Command) (effort : Effort) (flow : Bool) (n : ℕ) → is_check command ≡ false → (parts : List (List Table)) (tables : List Table) (day : ℕ) (status : Status) → tables ≡ joined parts
-    → IsRefused (task_for command effort flow n) tables day status → IsRefused (task_for command effort flow n) (tables_in (task_for command effort flow n) parts) day status
-text_refused command effort flow n is parts tables day status same h =
-    let P : List Table → Type 0 = λ ts. IsRefused (task_for command effort flow n) ts day status in subst P (same ∙ tables_all command effort flow n is parts) h
+made_refused : (run : Bool) (seed trips : ℕ) (asked : Asked) (parts : List (List Table)) (day : ℕ) (status : Status)
+    → IsRefused (make_task run seed trips asked) (tables_in (make_task run seed trips asked) parts) day status → ArePartsRefused (make_task run seed trips asked) parts day status
+made_refused true seed trips asked parts day status h = h
+made_refused false seed trips asked parts day status h = h
 
-pub texts_refused : (command : Command) (effort : Effort) (flow : Bool) (n : ℕ) → is_check command ≡ false → (parts : List (List Table)) (tables : List Table) (day : ℕ) (r : Result Outcome Status) → tables ≡ joined parts
-    → IfErr r (IsRefused (task_for command effort flow n) tables day) → IfErr r (IsRefused (task_for command effort flow n) (tables_in (task_for command effort flow n) parts) day)
+parts_refused : (command : Command) (effort : Effort) (flow : Bool) (n : ℕ) → reads_plan command ≡ false → (parts : List (List Table)) (day : ℕ) (status : Status)
+    → IsRefused (task_for command effort flow n) (tables_in (task_for command effort flow n) parts) day status → ArePartsRefused (task_for command effort flow n) parts day status
+parts_refused commands.Trips effort flow n is parts day status h = h
+parts_refused commands.Day effort flow n is parts day status h = h
+parts_refused commands.Plan effort flow n is parts day status h = h
+parts_refused commands.Certify effort flow n is parts day status h = h
+parts_refused commands.Check effort flow n is parts day status h = absurd (let bad = is in cc)
+parts_refused (commands.Make making) effort flow n is parts day status h = made_refused making.run making.seed making.trips (asked_by effort false) parts day status h
+parts_refused (commands.Replan moment) effort flow n is parts day status h = absurd (let bad = is in cc)
+parts_refused commands.Week effort flow n is parts day status h = h
+
+text_refused : (command : Command) (effort : Effort) (flow : Bool) (n : ℕ) → reads_plan command ≡ false → (parts : List (List Table)) (tables : List Table) (day : ℕ) (status : Status) → tables ≡ joined parts
+    → IsRefused (task_for command effort flow n) tables day status → ArePartsRefused (task_for command effort flow n) parts day status
+text_refused command effort flow n is parts tables day status same h =
+    let P : List Table → Type 0 = λ ts. IsRefused (task_for command effort flow n) ts day status in
+    parts_refused command effort flow n is parts day status (subst P (same ∙ tables_all command effort flow n is parts) h)
+
+pub texts_refused : (command : Command) (effort : Effort) (flow : Bool) (n : ℕ) → reads_plan command ≡ false → (parts : List (List Table)) (tables : List Table) (day : ℕ) (r : Result Outcome Status) → tables ≡ joined parts
+    → IfErr r (IsRefused (task_for command effort flow n) tables day) → IfErr r (ArePartsRefused (task_for command effort flow n) parts day)
 texts_refused command effort flow n is parts tables day (Ok o) same h = tt
 texts_refused command effort flow n is parts tables day (Err s) same h = text_refused command effort flow n is parts tables day s same h
 
@@ -175,6 +196,7 @@ ends_so (Plan asked) parts day ending bytes h = h.1
 ends_so (Certify asked) parts day ending bytes h = h.1
 ends_so (Make seed trips) parts day ending bytes h = h.1
 ends_so (MakeRun seed trips asked) parts day ending bytes h = h.1
+ends_so (Replan count moment numbers) parts day ending bytes h = h.1
 ends_so Week parts day ending bytes h = h.1
 
 pub ends_well : (task : Task) (parts : List (List Table)) (day : ℕ) (r : Result Outcome Status) → IfOk r (λ o. IsWhole task parts day o.ending o.text) → IfOk r (λ o. IsEndingOf task o.ending)
@@ -192,6 +214,7 @@ is_done_so (Plan asked) status h = ok_is_done status h
 is_done_so (Certify asked) status h = ok_is_done status h
 is_done_so (Make seed trips) status h = ok_is_done status h
 is_done_so (MakeRun seed trips asked) status h = ok_is_done status h
+is_done_so (Replan count moment numbers) status h = ok_is_done status h
 is_done_so Week status h = ok_is_done status h
 
 -- as many files are named as are read
@@ -206,6 +229,7 @@ has_parts commands.Plan effort flow n names = tt
 has_parts commands.Certify effort flow n names = tt
 has_parts commands.Check effort flow n names = let least = names.0 in omega (arith, least)
 has_parts (commands.Make making) effort flow n names = made_parts making.run making.seed making.trips (asked_by effort false) n
+has_parts (commands.Replan moment) effort flow n names = let least = names.0 in omega (arith, least)
 has_parts commands.Week effort flow n names = tt
 
 pub are_few : (command : Command) (n : ℕ) → HasNames command n → n ≤ 66
@@ -215,6 +239,7 @@ are_few commands.Plan n names = let most = names.1 in omega (arith, most)
 are_few commands.Certify n names = let most = names.1 in omega (arith, most)
 are_few commands.Check n names = names.1
 are_few (commands.Make making) n names = omega (arith, names)
+are_few (commands.Replan moment) n names = let most = names.1 in omega (arith, most)
 are_few commands.Week n names = omega (arith, names)
 
 -- before a plan and a certificate there are all the other files
@@ -225,6 +250,7 @@ least_of_check commands.Day n is names = absurd (let bad = is in cc)
 least_of_check commands.Plan n is names = absurd (let bad = is in cc)
 least_of_check commands.Certify n is names = absurd (let bad = is in cc)
 least_of_check (commands.Make making) n is names = absurd (let bad = is in cc)
+least_of_check (commands.Replan moment) n is names = absurd (let bad = is in cc)
 least_of_check commands.Week n is names = absurd (let bad = is in cc)
 
 one_less : (n : ℕ) → 3 ≤ n → n - 3 ≡ n - 2 - 1
@@ -237,17 +263,19 @@ check_stage commands.Day effort flow n is names = absurd (let bad = is in cc)
 check_stage commands.Plan effort flow n is names = absurd (let bad = is in cc)
 check_stage commands.Certify effort flow n is names = absurd (let bad = is in cc)
 check_stage (commands.Make making) effort flow n is names = absurd (let bad = is in cc)
+check_stage (commands.Replan moment) effort flow n is names = absurd (let bad = is in cc)
 check_stage commands.Week effort flow n is names = absurd (let bad = is in cc)
 
 made_stage : (run : Bool) (seed trips : ℕ) (asked : Asked) → stages.Planning 63 most_bytes ≡ stage_of (make_task run seed trips asked)
 made_stage true seed trips asked = refl
 made_stage false seed trips asked = refl
 
-pub text_stage : (command : Command) (effort : Effort) (flow : Bool) (n : ℕ) → is_check command ≡ false → stages.Planning 63 most_bytes ≡ stage_of (task_for command effort flow n)
+pub text_stage : (command : Command) (effort : Effort) (flow : Bool) (n : ℕ) → reads_plan command ≡ false → stages.Planning 63 most_bytes ≡ stage_of (task_for command effort flow n)
 text_stage commands.Trips effort flow n is = refl
 text_stage commands.Day effort flow n is = refl
 text_stage commands.Plan effort flow n is = refl
 text_stage commands.Certify effort flow n is = refl
 text_stage commands.Check effort flow n is = absurd (let bad = is in cc)
 text_stage (commands.Make making) effort flow n is = made_stage making.run making.seed making.trips (asked_by effort false)
+text_stage (commands.Replan moment) effort flow n is = absurd (let bad = is in cc)
 text_stage commands.Week effort flow n is = refl

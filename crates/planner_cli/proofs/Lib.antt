@@ -8,6 +8,8 @@ pub mod ModelOutcomes
 pub mod ModelLemmas
 pub mod PlanLemmas
 pub mod PlanOutcomes
+pub mod ReplanLemmas
+pub mod ReplanOutcomes
 pub mod RowReads
 pub mod TripRows
 pub mod OneText
@@ -23,3 +25,5 @@ pub mod ClassPrices
 pub mod CertNumbers
 pub mod FilesBack
 pub mod Accepting
+pub mod MadeEnds
+pub mod MadeRuns

@@ -77,6 +77,7 @@ kinds_of tables day statuses.Usage c = absurd c
 kinds_of tables day (statuses.ReadFault file) c = absurd c
 kinds_of tables day statuses.WriteFault c = absurd c
 kinds_of tables day (statuses.CheckNo reason) c = absurd c
+kinds_of tables day (statuses.OldPlan reason) c = absurd c
 
 same_kinds : (tables : List Table) (day : ℕ) (s t : Status) → Kinds tables day s → Kinds tables day t → s ≡ t
 same_kinds tables day s t (inl p) (inl q) = p.1 ∙ ap (λ f. statuses.Input (inputs.Table f)) (some_same _ p.0 q.0 p.2 q.2) ∙ sym q.1

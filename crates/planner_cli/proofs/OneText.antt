@@ -1,5 +1,5 @@
 -- The text of a task is one, unless it climbs: files that are told, words and a day determine it.
-use Rattle.std.proofs.Common.{◌≡◌, ℕ, ◌+◌, ◌-◌, ℤ, pos, false, true, inl, inr, List, [], ◌∷◌, ◌++◌, length, Option, Some, Result, Ok, IfSome, sym, ◌∙◌, ap, subst}
+use Rattle.std.proofs.Common.{◌≡◌, ℕ, ◌+◌, ◌-◌, ℤ, pos, false, true, inl, inr, List, [], ◌∷◌, ◌++◌, length, Option, Some, Result, Ok, IfSome, sym, ◌∙◌, ap, subst, slice_index_or, take}
 use Rattle.jiff_core.specs.Calendar.{days_from_civil, weekday_number}
 use Rattle.vdv451_text.specs.declared.table.Table.{Table}
 use Rattle.vdv451_text.specs.Plain.{text}
@@ -18,7 +18,7 @@ use Rattle.plan_command.proofs.AlikeDays.{same_short_texts, same_texts}
 use Rattle.trip_times.specs.declared.trip.Trip.{Trip}
 use Rattle.plan_command.specs.Planning.{Asked}
 use Rattle.planner_cli.specs.Tasks.{Task, checks, climbs}
-use Rattle.planner_cli.specs.Tasks.{Certify, Check, Day, Make, MakeRun, Plan, Trips, Week}
+use Rattle.planner_cli.specs.Tasks.{Certify, Check, Day, Make, MakeRun, Plan, Replan, Trips, Week}
 use Rattle.planner_cli.specs.declared.status.Status.{Status}
 use Rattle.planner_cli.specs.declared.status.Status.TheVariants as statuses
 use Rattle.planner_cli.specs.DayText.{IsDayText}
@@ -35,6 +35,7 @@ use Rattle.planner_cli.proofs.ModelOutcomes.{days_alike, rows_same}
 use Rattle.planner_cli.proofs.CertOutcomes.{one_certificate}
 use Rattle.planner_cli.proofs.PlanOutcomes.{days_short, days_text}
 use Rattle.planner_cli.proofs.Outcomes.{kinds_same, some_same}
+use Rattle.planner_cli.proofs.ReplanOutcomes.{one_replan_text}
 use Rattle.planner_cli.proofs.WeekOutcomes.{one_week_text}
 
 -- a text spells one list of tables
@@ -110,6 +111,8 @@ one_text Day fixed text parts day s t xs ys p q = one_day_text (joined parts) da
 one_text (Plan asked) fixed text parts day s t xs ys p q = one_plan_text asked fixed (joined parts) day xs ys p.0 q.0
 one_text (Certify asked) fixed text parts day s t xs ys p q = one_certificate asked fixed (joined parts) day xs ys p.0 q.0
 one_text (Check count) fixed text parts day s t xs ys p q = absurd cc
+one_text (Replan count moment numbers) fixed text parts day s t xs ys p q =
+    one_replan_text numbers fixed moment (joined (take count parts)) (slice_index_or parts count []) day xs ys p.0 q.0
 one_text (Make seed trips) fixed text parts day s t xs ys p q = p.0 ∙ sym q.0
 one_text Week fixed text parts day s t xs ys p q = one_week_text (joined parts) xs ys p.0 q.0
 one_text (MakeRun seed trips asked) fixed text parts day s t xs ys p q = one_short_text asked fixed (made_tables seed trips) day xs ys p.0 q.0

@@ -84,6 +84,7 @@ one_cause_from_table tables day fault statuses.Usage p q = absurd q
 one_cause_from_table tables day fault (statuses.ReadFault file) p q = absurd q
 one_cause_from_table tables day fault statuses.WriteFault p q = absurd q
 one_cause_from_table tables day fault (statuses.CheckNo reason) p q = absurd q
+one_cause_from_table tables day fault (statuses.OldPlan reason) p q = absurd q
 
 one_cause_from_day : (tables : List Table) (day : ℕ) (fault : DayFault) (t : Status) → IsDayCause tables day (statuses.Day fault) → IsDayCause tables day t → statuses.Day fault ≡ t
 one_cause_from_day tables day fault (statuses.Input (inputs.Table other)) p q = none_some _ other p.0 q
@@ -101,6 +102,7 @@ one_cause_from_day tables day fault statuses.Usage p q = absurd q
 one_cause_from_day tables day fault (statuses.ReadFault file) p q = absurd q
 one_cause_from_day tables day fault statuses.WriteFault p q = absurd q
 one_cause_from_day tables day fault (statuses.CheckNo reason) p q = absurd q
+one_cause_from_day tables day fault (statuses.OldPlan reason) p q = absurd q
 
 one_cause_from_crowd : (tables : List Table) (day count : ℕ) (t : Status) → HasTooMany tables day count → IsDayCause tables day t → statuses.Input (inputs.Trips count) ≡ t
 one_cause_from_crowd tables day count (statuses.Input (inputs.Table other)) p q = none_some _ other p.day_is.faultless q
@@ -119,6 +121,7 @@ one_cause_from_crowd tables day count statuses.Usage p q = absurd q
 one_cause_from_crowd tables day count (statuses.ReadFault file) p q = absurd q
 one_cause_from_crowd tables day count statuses.WriteFault p q = absurd q
 one_cause_from_crowd tables day count (statuses.CheckNo reason) p q = absurd q
+one_cause_from_crowd tables day count (statuses.OldPlan reason) p q = absurd q
 
 pub one_cause : (tables : List Table) (day : ℕ) (s t : Status) → IsDayCause tables day s → IsDayCause tables day t → s ≡ t
 one_cause tables day (statuses.Input (inputs.Table fault)) t p q = one_cause_from_table tables day fault t p q
@@ -136,6 +139,7 @@ one_cause tables day statuses.Usage t p q = absurd p
 one_cause tables day (statuses.ReadFault file) t p q = absurd p
 one_cause tables day statuses.WriteFault t p q = absurd p
 one_cause tables day (statuses.CheckNo reason) t p q = absurd p
+one_cause tables day (statuses.OldPlan reason) t p q = absurd p
 
 -- a day with a text is not refused
 pub text_no_cause : (tables : List Table) (day : ℕ) (bytes : List ℕ) (s : Status) → IsTripsText tables day bytes → IsDayCause tables day s → ⊥
@@ -158,3 +162,4 @@ text_no_cause tables day bytes statuses.Usage p q = q
 text_no_cause tables day bytes (statuses.ReadFault file) p q = q
 text_no_cause tables day bytes statuses.WriteFault p q = q
 text_no_cause tables day bytes (statuses.CheckNo reason) p q = q
+text_no_cause tables day bytes (statuses.OldPlan reason) p q = q

@@ -77,6 +77,7 @@ unread_memory refusal read (statuses.NoPlan side bound places) cause none unread
 unread_memory refusal read (statuses.NotPlaced side item name partial) cause none unread = absurd unread
 unread_memory refusal read statuses.WriteFault cause none unread = absurd unread
 unread_memory refusal read (statuses.CheckNo reason) cause none unread = absurd unread
+unread_memory refusal read (statuses.OldPlan reason) cause none unread = absurd unread
 
 -- what a told content calls for
 record IsToldSo {A : Type 0} (o : Option A) (P : A → Type 0) : Type 0 where

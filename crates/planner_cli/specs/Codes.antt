@@ -13,4 +13,5 @@ code_of (statuses.NotPlaced side item name partial) = 6
 code_of (statuses.ReadFault file) = 7
 code_of statuses.WriteFault = 8
 code_of (statuses.CheckNo reason) = 10
+code_of (statuses.OldPlan reason) = 11
 code_of statuses.Memory = 9

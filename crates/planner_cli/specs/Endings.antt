@@ -15,3 +15,4 @@ is_done (statuses.NotPlaced side item name partial) = false
 is_done (statuses.ReadFault file) = false
 is_done statuses.WriteFault = false
 is_done statuses.Memory = false
+is_done (statuses.OldPlan reason) = false

@@ -18,6 +18,7 @@ use Rattle.plan_command.specs.declared.fault.ItemName.TheVariants as items
 use Rattle.planner_cli.specs.declared.status.Status.{Status}
 use Rattle.planner_cli.specs.declared.status.Status.TheVariants as statuses
 use Rattle.planner_cli.specs.declared.status.InputFault.TheVariants as inputs
+use Rattle.planner_cli.specs.Reasons.{reason_name, reason_number}
 use Rattle.input_files.specs.Taken.{TakesFront}
 
 abbrev pub text_kind : TextKind → List ℕ
@@ -92,6 +93,7 @@ line_of day (statuses.Input (inputs.Trip fid fault)) = joined (codes "trip " ∷
 line_of day (statuses.NoPlan side bound places) =
     joined (codes "no plan: " ∷ side_name side ∷ codes " bound " ∷ decimal bound ∷ codes " places " ∷ decimal places ∷ codes "\n" ∷ [])
 line_of day (statuses.NotPlaced side item name partial) = joined (codes "not placed: " ∷ (item_words name ++ codes "\n" ∷ []))
+line_of day (statuses.OldPlan reason) = joined (codes "old plan " ∷ decimal (reason_number reason) ∷ codes " " ∷ reason_name reason ∷ codes "\n" ∷ [])
 line_of day (statuses.Day fault) = joined (codes "day " ∷ day ∷ codes ": " ∷ day_kind fault ∷ codes "\n" ∷ [])
 line_of day (statuses.ReadFault file) = joined (codes "read fault: file " ∷ decimal file ∷ codes "\n" ∷ [])
 line_of day statuses.WriteFault = codes "write fault\n"

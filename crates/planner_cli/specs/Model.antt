@@ -56,6 +56,7 @@ IsModelCause tables day statuses.Usage = ⊥
 IsModelCause tables day (statuses.ReadFault file) = ⊥
 IsModelCause tables day statuses.WriteFault = ⊥
 IsModelCause tables day (statuses.CheckNo reason) = ⊥
+IsModelCause tables day (statuses.OldPlan reason) = ⊥
 
 -- memory ran out, or the tables tell no day
 abbrev pub IsModelRefused : List Table → ℕ → Status → Type 0

@@ -22,14 +22,17 @@ use Rattle.planner_cli.specs.Endings.{is_done}
 use Rattle.planner_cli.specs.MadeText.{IsMadeText, IsShortText}
 use Rattle.planner_cli.specs.Model.{IsModelCause}
 use Rattle.planner_cli.specs.PlanText.{IsPlanCause, IsPlanText}
+use Rattle.planner_cli.specs.ReplanText.{IsReplanCause, IsReplanText}
 use Rattle.planner_cli.specs.Trips.{IsDayCause, IsTripsText}
 use Rattle.planner_cli.specs.WeekText.{IsWeekCause, IsWeekText}
 use Rattle.planner_cli.specs.Tasks.{Task, climbs}
-use Rattle.planner_cli.specs.Tasks.{Certify, Check, Day, Make, MakeRun, Plan, Trips, Week}
+use Rattle.planner_cli.specs.Tasks.{Certify, Check, Day, Make, MakeRun, Plan, Replan, Trips, Week}
 
--- What the first file is: a planning file. Before a plan and a certificate that are checked there are so many of these, and else at most 64.
+-- What the first file is: a planning file. Before a plan and a certificate that are checked, and before an earlier plan, there are so many of
+-- these, and else at most 64.
 abbrev pub stage_of : Task → Stage
 stage_of (Check count) = stages.Planning (count - 1) most_bytes
+stage_of (Replan count moment numbers) = stages.Planning (count - 1) most_bytes
 stage_of Trips = stages.Planning 63 most_bytes
 stage_of Day = stages.Planning 63 most_bytes
 stage_of (Plan asked) = stages.Planning 63 most_bytes
@@ -41,6 +44,7 @@ stage_of Week = stages.Planning 63 most_bytes
 -- the planning tables of all files, from those of each file
 abbrev pub tables_in : Task → List (List Table) → List Table
 tables_in (Check count) parts = joined (take count parts)
+tables_in (Replan count moment numbers) parts = joined (take count parts)
 tables_in Trips parts = joined parts
 tables_in Day parts = joined parts
 tables_in (Plan asked) parts = joined parts
@@ -56,15 +60,18 @@ IsText Day tables day bytes = IsDayText tables day bytes
 IsText (Plan asked) tables day bytes = IsPlanText asked tables day bytes
 IsText (Certify asked) tables day bytes = IsCertText asked tables day bytes
 IsText (Check count) tables day bytes = ⊥
+IsText (Replan count moment numbers) tables day bytes = ⊥
 IsText (Make seed trips) tables day bytes = IsMadeText seed trips bytes
 IsText Week tables day bytes = IsWeekText tables bytes
 IsText (MakeRun seed trips asked) tables day bytes = IsShortText asked (made_tables seed trips) day bytes
 
 -- The text of a command from the tables of each file, and the status that it ends with: a check has a text from a plan and a certificate
--- besides, which may be a no, and each other command ends with Ok.
+-- besides, which may be a no, and each other command ends with Ok; a day is planned anew by the tables of an earlier plan besides.
 abbrev pub IsWhole : Task → List (List Table) → ℕ → Status → List ℕ → Type 0
 IsWhole (Check count) parts day ending bytes =
     IsCheckText (joined (take count parts)) (slice_index_or parts count []) (slice_index_or parts (count + 1) []) day ending bytes
+IsWhole (Replan count moment numbers) parts day ending bytes =
+    IsReplanText numbers moment (joined (take count parts)) (slice_index_or parts count []) day bytes × (ending ≡ statuses.Ok)
 IsWhole Trips parts day ending bytes = IsText Trips (joined parts) day bytes × (ending ≡ statuses.Ok)
 IsWhole Day parts day ending bytes = IsText Day (joined parts) day bytes × (ending ≡ statuses.Ok)
 IsWhole (Plan asked) parts day ending bytes = IsText (Plan asked) (joined parts) day bytes × (ending ≡ statuses.Ok)
@@ -73,9 +80,10 @@ IsWhole (Make seed trips) parts day ending bytes = IsText (Make seed trips) (joi
 IsWhole (MakeRun seed trips asked) parts day ending bytes = IsText (MakeRun seed trips asked) (joined parts) day bytes × (ending ≡ statuses.Ok)
 IsWhole Week parts day ending bytes = IsText Week (joined parts) day bytes × (ending ≡ statuses.Ok)
 
--- so many files were read: planning files, and for a check a plan and a certificate
+-- so many files were read: planning files, for a check a plan and a certificate, and an earlier plan where a day is planned anew
 abbrev pub HasParts : Task → ℕ → Type 0
 HasParts (Check count) files = files ≡ count + 2
+HasParts (Replan count moment numbers) files = files ≡ count + 1
 HasParts Trips files = Unit {0}
 HasParts Day files = Unit {0}
 HasParts (Plan asked) files = Unit {0}
@@ -91,6 +99,7 @@ IsCause Day tables day status = IsModelCause tables day status
 IsCause (Plan asked) tables day status = IsPlanCause asked tables day status
 IsCause (Certify asked) tables day status = IsPlanCause asked tables day status
 IsCause (Check count) tables day status = IsModelCause tables day status
+IsCause (Replan count moment numbers) tables day status = IsModelCause tables day status
 IsCause (Make seed trips) tables day status = ⊥
 IsCause Week tables day status = IsWeekCause tables status
 IsCause (MakeRun seed trips asked) tables day status = IsPlanCause asked (made_tables seed trips) day status
@@ -98,6 +107,25 @@ IsCause (MakeRun seed trips asked) tables day status = IsPlanCause asked (made_t
 -- memory ran out, or the command refuses the tables for the day
 abbrev pub IsRefused : Task → List Table → ℕ → Status → Type 0
 IsRefused task tables day status = (status ≡ statuses.Memory) ⊎ IsCause task tables day status
+
+-- Why a command refuses the tables of each file, for a day. Where a day is planned anew the earlier plan may be the cause, or what is left of
+-- the day beside it; every other command refuses planning tables alone.
+abbrev pub IsPartsCause : Task → List (List Table) → ℕ → Status → Type 0
+IsPartsCause (Replan count moment numbers) parts day status =
+    IsReplanCause numbers moment (joined (take count parts)) (slice_index_or parts count []) day status
+IsPartsCause (Check count) parts day status = IsCause (Check count) (tables_in (Check count) parts) day status
+IsPartsCause Trips parts day status = IsCause Trips (tables_in Trips parts) day status
+IsPartsCause Day parts day status = IsCause Day (tables_in Day parts) day status
+IsPartsCause (Plan asked) parts day status = IsCause (Plan asked) (tables_in (Plan asked) parts) day status
+IsPartsCause (Certify asked) parts day status = IsCause (Certify asked) (tables_in (Certify asked) parts) day status
+IsPartsCause (Make seed trips) parts day status = IsCause (Make seed trips) (tables_in (Make seed trips) parts) day status
+IsPartsCause (MakeRun seed trips asked) parts day status =
+    IsCause (MakeRun seed trips asked) (tables_in (MakeRun seed trips asked) parts) day status
+IsPartsCause Week parts day status = IsCause Week (tables_in Week parts) day status
+
+-- memory ran out, or the command refuses the tables of each file for the day
+abbrev pub ArePartsRefused : Task → List (List Table) → ℕ → Status → Type 0
+ArePartsRefused task parts day status = (status ≡ statuses.Memory) ⊎ IsPartsCause task parts day status
 
 -- the bytes are the command's text, from the tables that the files spell, and it ends with this status
 pub record IsAnswer (task : Task) (contents : List (List ℕ)) (day : ℕ) (ending : Status) (bytes : List ℕ) : Type 0 where
@@ -109,7 +137,7 @@ pub record IsAnswer (task : Task) (contents : List (List ℕ)) (day : ℕ) (endi
 pub record IsTablesRefusal (task : Task) (contents : List (List ℕ)) (day : ℕ) (status : Status) : Type 0 where
   pub parts : List (List Table)
   pub spelled : SpellTables (stage_of task) contents parts
-  pub cause : IsCause task (tables_in task parts) day status
+  pub cause : IsPartsCause task parts day status
 
 -- what refuses a command, where the files hold these contents: the first fault of their texts, or else a cause in their tables
 abbrev pub IsRefusal : Task → List (List ℕ) → ℕ → Status → Type 0
@@ -122,6 +150,7 @@ IsRefusal task contents day (statuses.Input (inputs.Trip fid fault)) = IsTablesR
 IsRefusal task contents day (statuses.Day fault) = IsTablesRefusal task contents day (statuses.Day fault)
 IsRefusal task contents day (statuses.NoPlan side bound places) = IsTablesRefusal task contents day (statuses.NoPlan side bound places)
 IsRefusal task contents day (statuses.NotPlaced side item name partial) = IsTablesRefusal task contents day (statuses.NotPlaced side item name partial)
+IsRefusal task contents day (statuses.OldPlan reason) = IsTablesRefusal task contents day (statuses.OldPlan reason)
 IsRefusal task contents day statuses.Memory = ⊥
 IsRefusal task contents day statuses.Ok = ⊥
 IsRefusal task contents day statuses.Usage = ⊥
@@ -137,6 +166,7 @@ IsAnswerCause refusal read_fault (statuses.Input fault) = refusal (statuses.Inpu
 IsAnswerCause refusal read_fault (statuses.Day fault) = refusal (statuses.Day fault)
 IsAnswerCause refusal read_fault (statuses.NoPlan side bound places) = refusal (statuses.NoPlan side bound places)
 IsAnswerCause refusal read_fault (statuses.NotPlaced side item name partial) = refusal (statuses.NotPlaced side item name partial)
+IsAnswerCause refusal read_fault (statuses.OldPlan reason) = refusal (statuses.OldPlan reason)
 IsAnswerCause refusal read_fault statuses.Ok = ⊥
 IsAnswerCause refusal read_fault statuses.Usage = ⊥
 IsAnswerCause refusal read_fault statuses.WriteFault = ⊥
@@ -182,6 +212,7 @@ names_for names statuses.Usage = names
 names_for names (statuses.ReadFault file) = names
 names_for names statuses.WriteFault = names
 names_for names (statuses.CheckNo reason) = names
+names_for names (statuses.OldPlan reason) = names
 
 -- what these files hold, where all of them tell it
 abbrev pub told_for : (List ℕ → Option (List ℕ)) → List (List ℕ) → Status → Option (List (List ℕ))
@@ -199,6 +230,7 @@ is_of_planning statuses.Ok = false
 is_of_planning statuses.Usage = false
 is_of_planning statuses.WriteFault = false
 is_of_planning (statuses.CheckNo reason) = false
+is_of_planning (statuses.OldPlan reason) = false
 
 -- Whether the definitions leave open if it is this refusal that comes. What climbing promises may be met by several plans and bounds.
 abbrev pub is_open : Task → Status → Bool
@@ -210,6 +242,7 @@ IsUnread statuses.Memory = Unit {0}
 IsUnread (statuses.ReadFault file) = Unit {0}
 IsUnread statuses.Ok = ⊥
 IsUnread (statuses.CheckNo reason) = ⊥
+IsUnread (statuses.OldPlan reason) = ⊥
 IsUnread statuses.Usage = ⊥
 IsUnread (statuses.Input fault) = ⊥
 IsUnread (statuses.Day fault) = ⊥
@@ -226,6 +259,7 @@ file_status files.Memory = statuses.Memory
 -- a check may end with a no, and every other command that ends well with Ok
 abbrev pub IsEndingOf : Task → Status → Type 0
 IsEndingOf (Check count) status = is_done status ≡ true
+IsEndingOf (Replan count moment numbers) status = status ≡ statuses.Ok
 IsEndingOf Trips status = status ≡ statuses.Ok
 IsEndingOf Day status = status ≡ statuses.Ok
 IsEndingOf (Plan asked) status = status ≡ statuses.Ok

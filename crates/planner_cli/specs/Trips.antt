@@ -78,6 +78,7 @@ IsDayCause tables day statuses.Usage = ⊥
 IsDayCause tables day (statuses.ReadFault file) = ⊥
 IsDayCause tables day statuses.WriteFault = ⊥
 IsDayCause tables day (statuses.CheckNo reason) = ⊥
+IsDayCause tables day (statuses.OldPlan reason) = ⊥
 
 -- memory ran out, or the tables are refused for the day
 abbrev pub IsRefused : List Table → ℕ → Status → Type 0

@@ -1,6 +1,6 @@
 //! What a request is answered: the text of its command, from the files that it names.
 
-ghost use Rattle.std.specs.Prelude.{◌≡◌, ◌≢◌, ◌≤◌, ◌<◌, ◌^◌, ◌⊎◌, ◌++◌, ℕ, List, Some, All, IsTrue, IfOk, IfErr, IfSome, IsSomeAnd, IsErrOf, MatchResult, length, false, true};
+ghost use Rattle.std.specs.Prelude.{◌≡◌, ◌≢◌, ◌≤◌, ◌<◌, ◌^◌, ◌⊎◌, ◌++◌, ℕ, List, Some, None, All, IsTrue, IfOk, IfErr, IfSome, IsSomeAnd, IsErrOf, MatchResult, length, false, true};
 ghost use Rattle.plan_core.specs.Outside.{Rose};
 ghost use Rattle.vdv451_text.specs.Plain.{are_plain};
 ghost use Rattle.cover_core.specs.declared.Plan.{Plan as RunPlan};
@@ -9,12 +9,15 @@ ghost use Rattle.planner_cli.specs.declared.status.InputFault.{InputFault as Run
 ghost use Rattle.day_method.specs.declared.side.Side.{Side as RunSide};
 ghost use Rattle.plan_command.specs.declared.fault.ItemName.{ItemName as RunName};
 ghost use Rattle.planner_cli.specs.declared.status.Status.{Status as RunStatus};
+ghost use Rattle.cert_check.specs.declared.reason.Reason.{Reason as RunReason};
 ghost use Rattle.price_rounds.specs.Efforts.{IsEffort};
 ghost use Rattle.command_words.specs.Words.{HasFewTrips, HasNames};
 ghost use Rattle.input_files.specs.Inputs.{IsReadFault, NoneRose, held_under};
+ghost use Rattle.cover_plan.specs.Endings.{numbers_of};
 ghost use Rattle.planner_cli.specs.Endings.{is_done};
-ghost use Rattle.planner_cli.specs.Run.{HasParts, IsAnswer, IsAnswerCause, IsEndingOf, IsRefusal, IsRefused, IsText, IsUnread, IsWhole, IsWritten, TakesAnswer, TakesFrontOfAnswer, file_status as file_status_of, is_open, names_for, stage_of, tables_in, told, told_for};
-ghost use Rattle.planner_cli.specs.Tasks.{checks, climbs, is_check as is_check_of, task_of};
+ghost use Rattle.planner_cli.specs.ReplanText.{IsReplanRefused, IsReplanText};
+ghost use Rattle.planner_cli.specs.Run.{ArePartsRefused, HasParts, IsAnswer, IsAnswerCause, IsEndingOf, IsRefusal, IsRefused, IsText, IsUnread, IsWhole, IsWritten, TakesAnswer, TakesFrontOfAnswer, file_status as file_status_of, is_open, names_for, stage_of, told, told_for};
+ghost use Rattle.planner_cli.specs.Tasks.{checks, climbs, is_check as is_check_of, reads_plan as reads_plan_of, replan_moment as replan_moment_of, task_of};
 
 use crate::certify::certificate_text;
 use crate::check::check_text;
@@ -22,12 +25,14 @@ use crate::day::day_text;
 use crate::made::made_text;
 use crate::outcome::Outcome;
 use crate::plan::plan_text;
+use crate::replan::replan_text;
 use crate::status::{InputFault, Status};
 use crate::trips::trips_text;
 use crate::week::week_text;
 use command_words::{Command, Request};
 use input_files::{
-    CheckParts, FileFault, MOST_BYTES, Stage, join_tables, read_files, split_plan, write_whole,
+    CheckParts, EarlierParts, FileFault, MOST_BYTES, Stage, join_tables, read_files, split_earlier,
+    split_plan, write_whole,
 };
 use plan_command::Method;
 use plan_core::{Bytes, Files, Gate, Memory, Seq, Sink};
@@ -40,6 +45,23 @@ fn is_check(command: Command) -> bool
     ensures { result ≡ is_check_of command }
 {
     matches!(command, Command::Check)
+}
+
+/// Whether a plan is read behind the planning files.
+fn reads_plan(command: Command) -> bool
+    ensures { result ≡ reads_plan_of command }
+{
+    matches!(command, Command::Check | Command::Replan { .. })
+}
+
+/// The moment from which a command plans a day anew.
+fn replan_moment(command: Command) -> Option<u32>
+    ensures { result ≡ replan_moment_of command }
+{
+    match command {
+        Command::Replan { moment } => Some(moment),
+        _ => None,
+    }
 }
 
 /// How a day is planned by a request.
@@ -64,7 +86,7 @@ fn text_of<R: Threads + Sync, G: Gate + Sync>(
     requires sized { All (λ table. length table.rows < 2 ^ 32) tables }
     requires effort { IsEffort request.now.effort }
     requires trips { HasFewTrips request.now.command }
-    requires text { is_check_of request.now.command ≡ false }
+    requires text { reads_plan_of request.now.command ≡ false }
     ensures written { IfOk result (IsText (task_of request.now) tables request.now.day) }
     ensures cause { IfErr result (IsRefused (task_of request.now) tables request.now.day) }
 {
@@ -75,6 +97,7 @@ fn text_of<R: Threads + Sync, G: Gate + Sync>(
         Command::Plan => plan_text(rt, alloc, tables, request.day, &method, gate),
         Command::Certify => certificate_text(rt, alloc, tables, request.day, &method, gate),
         Command::Check => unreachable!(),
+        Command::Replan { .. } => unreachable!(),
         Command::Week => week_text(alloc, tables.as_slice()),
         Command::Make(making) => {
             made_text(rt, alloc, making, request.day, &request.effort, gate)
@@ -94,7 +117,7 @@ fn ended_text<R: Threads + Sync, G: Gate + Sync>(
     requires sized { All (λ table. length table.rows < 2 ^ 32) tables }
     requires effort { IsEffort request.now.effort }
     requires trips { HasFewTrips request.now.command }
-    requires text { is_check_of request.now.command ≡ false }
+    requires text { reads_plan_of request.now.command ≡ false }
     ensures written { IfOk result (λ outcome. IsText (task_of request.now) tables request.now.day outcome.text × (outcome.ending ≡ Status.Ok)) }
     ensures cause { IfErr result (IsRefused (task_of request.now) tables request.now.day) }
 {
@@ -118,7 +141,7 @@ fn checked_outcome(
     requires check { is_check_of request.now.command ≡ true }
     requires number { HasParts (task_of request.now) (length parts) }
     ensures written { IfOk result (λ outcome. IsWhole (task_of request.now) parts request.now.day outcome.ending outcome.text) }
-    ensures cause { IfErr result (IsRefused (task_of request.now) (tables_in (task_of request.now) parts) request.now.day) }
+    ensures cause { IfErr result (ArePartsRefused (task_of request.now) parts request.now.day) }
 {
     let CheckParts {
         planning,
@@ -137,6 +160,73 @@ fn checked_outcome(
     }
 }
 
+/// The text of the new plan of a day, from the tables of the planning files and of an earlier plan, which ends with Ok.
+fn replanned_text<R: Threads + Sync, G: Gate + Sync>(
+    rt: &R,
+    alloc: Global,
+    request: &Request,
+    moment: u32,
+    tables: Seq<Table>,
+    old: &[Table],
+    gate: &G,
+) -> Result<Outcome, Status>
+    requires plain { IsTrue (are_plain tables) }
+    requires sized { All (λ table. length table.rows < 2 ^ 32) tables }
+    requires old { All (λ table. length table.rows < 2 ^ 32) old.now }
+    requires effort { IsEffort request.now.effort }
+    ensures written { IfOk result (λ outcome. IsReplanText (numbers_of request.now.effort) moment tables old.now request.now.day outcome.text × (outcome.ending ≡ Status.Ok)) }
+    ensures cause { IfErr result (IsReplanRefused (numbers_of request.now.effort) moment tables old.now request.now.day) }
+{
+    match replan_text(
+        rt,
+        alloc,
+        tables,
+        old,
+        request.day,
+        moment,
+        &request.effort,
+        gate,
+    ) {
+        Ok(text) => Ok(Outcome {
+            text,
+            ending: Status::Ok,
+        }),
+        Err(status) => Err(status),
+    }
+}
+
+/// The text of the new plan of a day from a moment on, from the tables of each file, or why there is none.
+fn replanned_outcome<R: Threads + Sync, G: Gate + Sync>(
+    rt: &R,
+    alloc: Global,
+    request: &Request,
+    moment: u32,
+    parts: Seq<Seq<Table>>,
+    gate: &G,
+) -> Result<Outcome, Status>
+    requires plain { All (λ tables. IsTrue (are_plain tables)) parts }
+    requires sized { All (λ tables. All (λ table. length table.rows < 2 ^ 32) tables) parts }
+    requires effort { IsEffort request.now.effort }
+    requires replan { replan_moment_of request.now.command ≡ Some moment }
+    requires number { HasParts (task_of request.now) (length parts) }
+    ensures written { IfOk result (λ outcome. IsWhole (task_of request.now) parts request.now.day outcome.ending outcome.text) }
+    ensures cause { IfErr result (ArePartsRefused (task_of request.now) parts request.now.day) }
+{
+    let EarlierParts { planning, plan } = split_earlier(parts);
+    match join_tables(alloc, planning) {
+        Ok(tables) => replanned_text(
+            rt,
+            alloc,
+            request,
+            moment,
+            Seq::from_vec(tables),
+            plan.as_slice(),
+            gate,
+        ),
+        Err(Memory) => Err(Status::Memory),
+    }
+}
+
 /// The text of each other command, from the tables of the planning files.
 fn text_outcome<R: Threads + Sync, G: Gate + Sync>(
     rt: &R,
@@ -149,9 +239,9 @@ fn text_outcome<R: Threads + Sync, G: Gate + Sync>(
     requires sized { All (λ tables. All (λ table. length table.rows < 2 ^ 32) tables) parts }
     requires effort { IsEffort request.now.effort }
     requires trips { HasFewTrips request.now.command }
-    requires text { is_check_of request.now.command ≡ false }
+    requires text { reads_plan_of request.now.command ≡ false }
     ensures written { IfOk result (λ outcome. IsWhole (task_of request.now) parts request.now.day outcome.ending outcome.text) }
-    ensures cause { IfErr result (IsRefused (task_of request.now) (tables_in (task_of request.now) parts) request.now.day) }
+    ensures cause { IfErr result (ArePartsRefused (task_of request.now) parts request.now.day) }
 {
     match join_tables(alloc, parts) {
         Ok(tables) => ended_text(rt, alloc, request, Seq::from_vec(tables), gate),
@@ -173,12 +263,14 @@ fn outcome_of<R: Threads + Sync, G: Gate + Sync>(
     requires trips { HasFewTrips request.now.command }
     requires number { HasParts (task_of request.now) (length parts) }
     ensures written { IfOk result (λ outcome. IsWhole (task_of request.now) parts request.now.day outcome.ending outcome.text) }
-    ensures cause { IfErr result (IsRefused (task_of request.now) (tables_in (task_of request.now) parts) request.now.day) }
+    ensures cause { IfErr result (ArePartsRefused (task_of request.now) parts request.now.day) }
 {
     if is_check(request.command) {
-        checked_outcome(alloc, request, parts)
-    } else {
-        text_outcome(rt, alloc, request, parts, gate)
+        return checked_outcome(alloc, request, parts);
+    }
+    match replan_moment(request.command) {
+        Some(moment) => replanned_outcome(rt, alloc, request, moment, parts, gate),
+        None => text_outcome(rt, alloc, request, parts, gate),
     }
 }
 
@@ -193,13 +285,15 @@ fn file_status(fault: FileFault) -> Status
     }
 }
 
-/// What the first file of a request is, and how many planning files come after it before a plan and a certificate.
+/// What the first file of a request is, and how many planning files come after it before a plan and a certificate, or before an earlier plan.
 fn first_stage(request: &Request) -> Stage
     requires { HasNames request.now.command (length request.now.names) }
     ensures { result ≡ stage_of (task_of request.now) }
 {
     let more = if is_check(request.command) {
         request.names.len() as u32 - 3
+    } else if reads_plan(request.command) {
+        request.names.len() as u32 - 2
     } else {
         63
     };
@@ -303,6 +397,7 @@ pub fn carry_out<R: Threads + Sync, F: Files, O: Sink, G: Gate + Sync>(
     ensures day { (fault : FaultOfDay) → result ≡ Status.Day fault → IfSome (told (F.held files.old) request.now) (λ contents. IsRefusal (task_of request.now) contents request.now.day (Status.Day fault)) }
     ensures no_plan { (side : RunSide) (bound places : ℕ) → result ≡ Status.NoPlan side bound places → IfSome (told (F.held files.old) request.now) (λ contents. IsRefusal (task_of request.now) contents request.now.day (Status.NoPlan side bound places)) }
     ensures left { (side : RunSide) (item : ℕ) (name : RunName) (partial : RunPlan) → result ≡ Status.NotPlaced side item name partial → IfSome (told (F.held files.old) request.now) (λ contents. IsRefusal (task_of request.now) contents request.now.day (Status.NotPlaced side item name partial)) }
+    ensures old_plan { (reason : RunReason) → result ≡ Status.OldPlan reason → IfSome (told (F.held files.old) request.now) (λ contents. IsRefusal (task_of request.now) contents request.now.day (Status.OldPlan reason)) }
     ensures read_fault { (file : ℕ) → result ≡ Status.ReadFault file → IsReadFault (stage_of (task_of request.now)) (F.held files.old) request.now.names (F.faults files.old) (F.faults files.new) file }
     ensures write_fault { result ≡ Status.WriteFault → Rose (O.faults out.old) (O.faults out.new) }
 

@@ -38,7 +38,7 @@ fn made<R: Threads + Sync>(
 }
 
 /// A text with some changes.
-fn with(alloc: Global, text: Bytes, changes: &[Change]) -> Result<Bytes, Fail> {
+pub(crate) fn with(alloc: Global, text: Bytes, changes: &[Change]) -> Result<Bytes, Fail> {
     let mut text = text;
     for change in changes {
         text = changed(alloc, text, *change)?;
@@ -47,7 +47,7 @@ fn with(alloc: Global, text: Bytes, changes: &[Change]) -> Result<Bytes, Fail> {
 }
 
 /// A reason as numbers: its own number, and what it tells, of a table its row alone.
-fn reason_numbers(reason: &Reason) -> [u64; 4] {
+pub(crate) fn reason_numbers(reason: &Reason) -> [u64; 4] {
     match reason {
         Reason::PlanForm { row, .. } => [1, *row as u64, 0, 0],
         Reason::TripTimes { fid, times } => [2, *fid, *times as u64, 0],

@@ -3,8 +3,9 @@
 ghost use Rattle.std.specs.Prelude.{◌≡◌, ◌++◌, ◌<◌, ◌^◌, All, IsTrue, IfOk, IfErr, OnOk, length, decimal};
 ghost use Rattle.vdv451_text.specs.Plain.{are_plain, is_plain_table};
 ghost use Rattle.plan_command.specs.PlanText.{HasTripRows};
-ghost use Rattle.planner_cli.specs.CheckText.{IsCheckText, IsCheckTextOver, check_line as check_line_of, ending_of as ending_by, no_line as no_line_of, reason_name as reason_name_of, reason_number as reason_number_of};
+ghost use Rattle.planner_cli.specs.CheckText.{IsCheckText, IsCheckTextOver, check_line as check_line_of, ending_of as ending_by, no_line as no_line_of};
 ghost use Rattle.planner_cli.specs.Model.{IsModelRefused};
+ghost use Rattle.planner_cli.specs.Reasons.{reason_name as reason_name_of, reason_number as reason_number_of};
 
 use crate::outcome::Outcome;
 use crate::ready::{Ready, ready_day};
@@ -16,7 +17,7 @@ use std::alloc::Global;
 use vdv451_text::Table;
 
 /// The number of a reason.
-fn reason_number(reason: &Reason) -> u64
+pub(crate) fn reason_number(reason: &Reason) -> u64
     ensures { result ≡ reason_number_of reason.now }
 {
     match reason {
@@ -36,7 +37,7 @@ fn reason_number(reason: &Reason) -> u64
 }
 
 /// The name of a reason.
-fn reason_name(reason: &Reason) -> &'static [u8]
+pub(crate) fn reason_name(reason: &Reason) -> &'static [u8]
     ensures { result.now ≡ reason_name_of reason.now }
 {
     match reason {

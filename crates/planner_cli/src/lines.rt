@@ -3,8 +3,11 @@
 ghost use Rattle.std.specs.Prelude.{◌≡◌, false, ◌++◌, ◌∷◌, [], ℕ, List, Option, codes, decimal};
 ghost use Rattle.planner_cli.specs.Endings.{is_done};
 ghost use Rattle.planner_cli.specs.Lines as spec;
+ghost use Rattle.planner_cli.specs.Reasons.{reason_name as reason_name_of, reason_number as reason_number_of};
 
+use crate::check::{reason_name, reason_number};
 use crate::status::{InputFault, Status};
+use cert_check::Reason;
 use day_calendar::DayFault;
 use day_method::Side;
 use input_files::write_whole;
@@ -246,6 +249,17 @@ fn tell_left<E: Sink>(err: &mut E, name: ItemName)
     }
 }
 
+/// Writes that an earlier plan is refused, with the number and the name of the reason.
+fn tell_old_plan<E: Sink>(err: &mut E, reason: &Reason)
+    ensures { spec.IsTold (E.taken err.old) (E.taken err.new) (E.faults err.old) (E.faults err.new) (spec.joined (codes "old plan " ∷ decimal (reason_number_of reason.now) ∷ codes " " ∷ reason_name_of reason.now ∷ codes "\n" ∷ [])) }
+{
+    let is_whole = write_part(err, true, b"old plan ");
+    let is_whole = write_number(err, is_whole, reason_number(reason));
+    let is_whole = write_part(err, is_whole, b" ");
+    let is_whole = write_part(err, is_whole, reason_name(reason));
+    let _ = write_part(err, is_whole, b"\n");
+}
+
 /// Writes a line of one part.
 fn tell_line<E: Sink>(err: &mut E, line: &[u8])
     ensures { spec.IsTold (E.taken err.old) (E.taken err.new) (E.faults err.old) (E.faults err.new) line.now }
@@ -299,6 +313,7 @@ pub fn tell<E: Sink>(err: &mut E, day: &[u8], status: &Status)
             places,
         } => tell_no_plan(err, *side, *bound, *places),
         Status::NotPlaced { name, .. } => tell_left(err, *name),
+        Status::OldPlan(reason) => tell_old_plan(err, reason),
         Status::ReadFault { file } => tell_number(err, b"read fault: file ", *file as u64),
         Status::WriteFault => tell_line(err, b"write fault\n"),
         Status::Memory => tell_line(err, b"out of memory\n"),

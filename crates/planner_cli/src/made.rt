@@ -58,7 +58,7 @@ fn planned_text<R: Threads + Sync, G: Gate + Sync>(
 ///
 /// # Errors
 ///
-/// `Memory`. A day that is planned has also the errors of a plan of its tables. That no made day has one of these is not proved.
+/// `Memory`. A day that is planned may have the errors of a plan of its tables; that no made day has one of these is a clause of `run`.
 pub fn made_text<R: Threads + Sync, G: Gate + Sync>(
     rt: &R,
     alloc: Global,

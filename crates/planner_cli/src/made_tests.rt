@@ -11,7 +11,7 @@ use std::thread;
 use std::thread::Threads;
 
 /// Room for the text of some hundred trips.
-fn room(alloc: Global) -> Result<MemSink, Fail> {
+pub(crate) fn room(alloc: Global) -> Result<MemSink, Fail> {
     Ok(MemSink::new(alloc, 100_000, 100_000, numbers(alloc, &[])?).map_err(|_| "memory")?)
 }
 
@@ -30,7 +30,7 @@ fn made<R: Threads + Sync, G: Gate + Sync>(
 }
 
 /// The text that the words write, and nothing on standard error.
-fn written<R: Threads + Sync, G: Gate + Sync>(
+pub(crate) fn written<R: Threads + Sync, G: Gate + Sync>(
     rt: &R,
     alloc: Global,
     words: &[&str],

@@ -1,7 +1,6 @@
 //! The planner as a program: its commands over files and sinks that are handed in, and the real ones at its edge.
 #![tactic(auto)]
 
-mod adapters;
 mod answer;
 #[cfg(test)]
 mod cert_tests;
@@ -26,6 +25,9 @@ mod plan;
 mod plan_tests;
 mod program;
 mod ready;
+mod replan;
+#[cfg(test)]
+mod replan_tests;
 mod run;
 mod status;
 #[cfg(test)]
@@ -35,9 +37,9 @@ mod week;
 #[cfg(test)]
 mod week_tests;
 
-use adapters::Stream;
 use program::run_program;
 use std::process::ExitCode;
+use system_files::Stream;
 
 fn main(rt: HostRuntime) -> ExitCode {
     let mut out = Stream::new(rt.stdout());

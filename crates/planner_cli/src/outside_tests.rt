@@ -2,7 +2,6 @@
 
 ghost use Rattle.std.specs.Prelude.{◌≤◌, None, IfOk, length};
 
-use crate::adapters::{DiskFiles, copy_front, words_of};
 use crate::program::run_program;
 use crate::run::run;
 use crate::tests::{
@@ -17,6 +16,7 @@ use std::process::ExitCode;
 use std::rt::Files as Disk;
 use std::test::Fail;
 use std::thread::Threads;
+use system_files::{DiskFiles, copy_front, words_of};
 
 /// The bytes from a place on.
 fn rest_of(bytes: &[u8], at: u64) -> &[u8] {

@@ -4,7 +4,6 @@ ghost use Rattle.std.specs.Prelude.{◌≡◌};
 ghost use Rattle.std.specs.Process.{exit_status};
 ghost use Rattle.planner_cli.specs.Codes.{code_of};
 
-use crate::adapters::{DiskFiles, longest_of, words_of};
 use crate::run::run;
 use crate::status::Status;
 use plan_core::{NoGate, Sink};
@@ -13,6 +12,7 @@ use std::env::Env;
 use std::process::ExitCode;
 use std::rt::Files as Disk;
 use std::thread::Threads;
+use system_files::{DiskFiles, longest_of, words_of};
 
 /// The code with which the program ends.
 pub(crate) fn exit_code(status: &Status) -> ExitCode

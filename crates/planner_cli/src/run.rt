@@ -2,6 +2,7 @@
 
 ghost use Rattle.std.specs.Prelude.{◌≡◌, ◌≢◌, ◌↔◌, ◌⊎◌, ◌++◌, ℕ, List, Some, None, IfSome, IsSomeAnd, false, true};
 ghost use Rattle.plan_core.specs.Outside.{Rose};
+ghost use Rattle.cert_check.specs.declared.reason.Reason.{Reason as RunReason};
 ghost use Rattle.day_method.specs.declared.side.Side.{Side as RunSide};
 ghost use Rattle.plan_command.specs.declared.fault.ItemName.{ItemName as RunName};
 ghost use Rattle.planner_cli.specs.declared.status.Status.{Status as RunStatus};
@@ -12,8 +13,10 @@ ghost use Rattle.day_calendar.specs.declared.day.DayFault.{DayFault as FaultOfDa
 ghost use Rattle.input_files.specs.Inputs.{IsReadFault, NoneRose};
 ghost use Rattle.planner_cli.specs.Endings.{is_done};
 ghost use Rattle.planner_cli.specs.Lines.{IsTold, line_of};
+ghost use Rattle.planner_cli.specs.MadeEnds.{IsMadeEnding};
 ghost use Rattle.planner_cli.specs.Run.{IsAnswer, IsEndingOf, IsRefusal, TakesAnswer, TakesFrontOfAnswer, is_open, names_for, stage_of, told, told_for};
 ghost use Rattle.planner_cli.specs.Tasks.{checks, climbs, task_of};
+ghost use Rattle.command_words.specs.MadeRequests.{makes};
 ghost use Rattle.command_words.specs.Words.{asked, day_said};
 
 use crate::answer::carry_out;
@@ -38,6 +41,7 @@ fn answered<R: Threads + Sync, F: Files, O: Sink, G: Gate + Sync>(
     ensures day { (fault : FaultOfDay) → result ≡ Status.Day fault → IfSome (asked words.now) (λ request. IfSome (told (F.held files.old) request) (λ contents. IsRefusal (task_of request) contents request.day (Status.Day fault))) }
     ensures no_plan { (side : RunSide) (bound places : ℕ) → result ≡ Status.NoPlan side bound places → IfSome (asked words.now) (λ request. IfSome (told (F.held files.old) request) (λ contents. IsRefusal (task_of request) contents request.day (Status.NoPlan side bound places))) }
     ensures left { (side : RunSide) (item : ℕ) (name : RunName) (partial : RunPlan) → result ≡ Status.NotPlaced side item name partial → IfSome (asked words.now) (λ request. IfSome (told (F.held files.old) request) (λ contents. IsRefusal (task_of request) contents request.day (Status.NotPlaced side item name partial))) }
+    ensures old_plan { (reason : RunReason) → result ≡ Status.OldPlan reason → IfSome (asked words.now) (λ request. IfSome (told (F.held files.old) request) (λ contents. IsRefusal (task_of request) contents request.day (Status.OldPlan reason))) }
     ensures read_fault { (file : ℕ) → result ≡ Status.ReadFault file → IfSome (asked words.now) (λ request. IsReadFault (stage_of (task_of request)) (F.held files.old) request.names (F.faults files.old) (F.faults files.new) file) }
     ensures write_fault { result ≡ Status.WriteFault → Rose (O.faults out.old) (O.faults out.new) }
     ensures ok { is_done result ≡ true → IfSome (asked words.now) (λ request. IfSome (told (F.held files.old) request) (λ contents. IfSome (O.taken out.old) (TakesAnswer (task_of request) contents request.day result (O.taken out.new)))) }
@@ -46,6 +50,7 @@ fn answered<R: Threads + Sync, F: Files, O: Sink, G: Gate + Sync>(
         → IfSome (told (F.held files.old) request) (λ contents. IsAnswer (task_of request) contents request.day end bytes → IfSome (O.taken out.old) (λ old. O.taken out.new ≡ Some (old ++ bytes))) }
     ensures nothing { is_done result ≡ false → result ≢ Status.WriteFault → out.new ≡ out.old }
     ensures ending { is_done result ≡ true → IfSome (asked words.now) (λ request. IsEndingOf (task_of request) result) }
+    ensures made { (request : RunRequest) → asked words.now ≡ Some request → makes request.command ≡ true → IsMadeEnding result }
     ensures still { ((file : ℕ) → result ≢ Status.ReadFault file) → (other : List ℕ) → F.faults files.new other ≡ F.faults files.old other }
     ensures same { (other : List ℕ) → F.held files.new other ≡ F.held files.old other }
     ensures unmoved { result ≢ Status.WriteFault → O.faults out.new ≡ O.faults out.old }
@@ -82,10 +87,12 @@ fn tell_refusal<E: Sink>(err: &mut E, words: &[Bytes], status: &Status)
 /// X_DIENST_STUECK and X_SCHRANKE. `make SEED` makes a day from a number and writes its tables, or with `--run` plans it and writes X_KURZ
 /// and X_SCHRANKE; it reads no file. `certify DAY FILE..` writes the certificate of the plan that `plan` writes with the same words:
 /// X_PREIS, X_KLASSENPREIS, X_MARKE and X_UMARKE. `check DAY PLAN CERT FILE..` reads the planning files, then a plan and a certificate, and
-/// writes `yes` where both hold, or else `no` with number and name of the first reason, and then it ends with CheckNo. Each text is the same
-/// for any number of workers, any `rt` and any `gate`; with `--climb`, which finds plan and bounds by the other method, all is promised but
-/// that. Nothing is written before the whole text is computed. A refusal writes one line to `err`; a write that fails there changes no
-/// status.
+/// writes `yes` where both hold, or else `no` with number and name of the first reason, and then it ends with CheckNo. `replan DAY MOMENT PLAN
+/// FILE..` reads the planning files, then a plan of the day, keeps of its blocks and duties what has begun before the moment, in seconds of the
+/// operating day, plans the rest anew, and writes the tables that `plan` writes; the bounds are on all plans that keep as much. Where PLAN is no
+/// plan of the day it ends with OldPlan. Each text is the same for any number of workers, any `rt` and any `gate`; with `--climb`, which finds
+/// plan and bounds by the other method, all is promised but that. Nothing is written before the whole text is computed. A refusal writes one
+/// line to `err`; a write that fails there changes no status.
 pub fn run<R: Threads + Sync, F: Files, O: Sink, E: Sink, G: Gate + Sync>(
     rt: &R,
     alloc: Global,
@@ -104,6 +111,7 @@ pub fn run<R: Threads + Sync, F: Files, O: Sink, E: Sink, G: Gate + Sync>(
     ensures day { (fault : FaultOfDay) → result ≡ Status.Day fault → IfSome (asked words.now) (λ request. IfSome (told (F.held files.old) request) (λ contents. IsRefusal (task_of request) contents request.day (Status.Day fault))) }
     ensures no_plan { (side : RunSide) (bound places : ℕ) → result ≡ Status.NoPlan side bound places → IfSome (asked words.now) (λ request. IfSome (told (F.held files.old) request) (λ contents. IsRefusal (task_of request) contents request.day (Status.NoPlan side bound places))) }
     ensures left { (side : RunSide) (item : ℕ) (name : RunName) (partial : RunPlan) → result ≡ Status.NotPlaced side item name partial → IfSome (asked words.now) (λ request. IfSome (told (F.held files.old) request) (λ contents. IsRefusal (task_of request) contents request.day (Status.NotPlaced side item name partial))) }
+    ensures old_plan { (reason : RunReason) → result ≡ Status.OldPlan reason → IfSome (asked words.now) (λ request. IfSome (told (F.held files.old) request) (λ contents. IsRefusal (task_of request) contents request.day (Status.OldPlan reason))) }
     ensures read_fault { (file : ℕ) → result ≡ Status.ReadFault file → IfSome (asked words.now) (λ request. IsReadFault (stage_of (task_of request)) (F.held files.old) request.names (F.faults files.old) (F.faults files.new) file) }
     ensures write_fault { result ≡ Status.WriteFault → Rose (O.faults out.old) (O.faults out.new) }
 
@@ -115,6 +123,9 @@ pub fn run<R: Threads + Sync, F: Files, O: Sink, E: Sink, G: Gate + Sync>(
         → IfSome (told (F.held files.old) request) (λ contents. IsAnswer (task_of request) contents request.day end bytes → IfSome (O.taken out.old) (λ old. O.taken out.new ≡ Some (old ++ bytes))) }
     ensures nothing { is_done result ≡ false → result ≢ Status.WriteFault → out.new ≡ out.old }
     ensures ending { is_done result ≡ true → IfSome (asked words.now) (λ request. IsEndingOf (task_of request) result) }
+
+    // A day that is made has a plan, whatever the seed: nothing but want of memory and a write that fails keeps its text back.
+    ensures made { (request : RunRequest) → asked words.now ≡ Some request → makes request.command ≡ true → IsMadeEnding result }
 
     // A count of faults moves only with the answer of that fault, and the files hold what they held.
     ensures still { ((file : ℕ) → result ≢ Status.ReadFault file) → (other : List ℕ) → F.faults files.new other ≡ F.faults files.old other }

@@ -85,6 +85,8 @@ pub enum Status {
     Memory,
     /// A plan and its certificate were checked, and this is the first reason against them. The line that says so was written whole.
     CheckNo(Reason),
+    /// The tables of the earlier plan are no plan of the day, whatever places there are: the first reason against them.
+    OldPlan(Reason),
 }
 
 impl From<Memory> for Status {
@@ -109,7 +111,7 @@ impl Status {
     }
 
     /// The status number with which the program ends: 0 Ok, 2 Usage, 3 Input, 4 Day, 5 NoPlan, 6 NotPlaced, 7 ReadFault, 8 WriteFault, 9 Memory,
-    /// 10 CheckNo.
+    /// 10 CheckNo, 11 OldPlan.
     pub fn code(&self) -> u8
         ensures { result ≡ code_of self.now }
     {
@@ -124,6 +126,7 @@ impl Status {
             Status::WriteFault => 8,
             Status::Memory => 9,
             Status::CheckNo(_) => 10,
+            Status::OldPlan(_) => 11,
         }
     }
 }

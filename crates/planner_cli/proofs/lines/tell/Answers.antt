@@ -17,3 +17,6 @@ returns-in-NotPlaced g c = rw c.in-NotPlaced.is c.tell_left.ensures
 
 pub returns-in-NoPlan : goal.returns-in-NoPlan
 returns-in-NoPlan g c = rw c.in-NoPlan.is c.tell_no_plan.ensures
+
+pub returns-in-OldPlan : goal.returns-in-OldPlan
+returns-in-OldPlan g c = rw c.in-OldPlan.is c.tell_old_plan.ensures

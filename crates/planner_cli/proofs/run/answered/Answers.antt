@@ -1,4 +1,7 @@
-use Rattle.std.proofs.Common.{◌≡◌}
+use Rattle.std.proofs.Common.{◌≡◌, ap, ◌∙◌}
+use Rattle.command_words.specs.declared.request.Request.{Request}
+use Rattle.command_words.specs.MadeRequests.{makes}
+use Rattle.planner_cli.proofs.MadeRuns.{made_ending}
 use Rattle.planner_cli.proofs.Outcomes.{some_same}
 use Rattle.planner_cli.proofs.run.answered.Goals as goal
 
@@ -14,6 +17,9 @@ returns-in-Ok-clause-no_plan g c = λ side bound places is. rw c.in-Ok.ensures.r
 pub returns-in-Ok-clause-left : goal.returns-in-Ok-clause-left
 returns-in-Ok-clause-left g c = λ side item name partial is. rw c.in-Ok.ensures.request (c.carry_out.ensures.left side item name partial is)
 
+pub returns-in-Ok-clause-old_plan : goal.returns-in-Ok-clause-old_plan
+returns-in-Ok-clause-old_plan g c = λ reason is. rw c.in-Ok.ensures.request (c.carry_out.ensures.old_plan reason is)
+
 pub returns-in-Ok-clause-refused : goal.returns-in-Ok-clause-refused
 returns-in-Ok-clause-refused g c = λ status request asks.
     let same : c.in-Ok.request ≡ request = some_same _ c.in-Ok.request request c.in-Ok.ensures.request asks in
@@ -28,3 +34,9 @@ pub returns-in-Ok-clause-only : goal.returns-in-Ok-clause-only
 returns-in-Ok-clause-only g c = λ request end bytes ok asks.
     let same : c.in-Ok.request ≡ request = some_same _ c.in-Ok.request request c.in-Ok.ensures.request asks in
     rw (← same) (c.carry_out.ensures.only end bytes ok)
+
+pub returns-in-Ok-clause-made : goal.returns-in-Ok-clause-made
+returns-in-Ok-clause-made g c = λ request asks makes_one.
+    let same : c.in-Ok.request ≡ request = some_same _ c.in-Ok.request request c.in-Ok.ensures.request asks in
+    let called = c.carry_out.ensures in
+    made_ending _ _ _ c.args.words.now c.in-Ok.request _ c.in-Ok.ensures.request (ap (λ (r : Request). makes r.command) same ∙ makes_one) called.right called.input called.day called.no_plan called.left called.old_plan called.read_fault called.ending
