@@ -375,21 +375,37 @@ fn has_gap(
     Ok(gap_of(net, prices, class_price, marks) == Some(gap))
 }
 
+/// The first of the changes of the demonstration's cover that has another gap, the fewer marks before the more.
+fn first_other(alloc: Global, net: &DutyNet<'_>, prices: &Prices) -> Result<Option<usize>, Memory>
+    requires { AllWithin 3000000000000000 prices.now.items }
+{
+    for place in 0..8 {
+        let change = if place < 5 {
+            fewer(place)
+        } else {
+            more(place - 5)
+        };
+        if !has_gap(alloc, net, prices, change)? {
+            return Ok(Some(place));
+        }
+    }
+    Ok(None)
+}
+
+/// The same, with the settings.
+fn first_other_of(alloc: Global, params: &Params) -> Result<Option<usize>, Memory>
+    requires { HaveRanges params.now }
+{
+    match net_of(alloc, demonstration(alloc)?, params, Worth::Count)? {
+        Some(net) => first_other(alloc, &net, &two_prices(alloc, 500, 500)?),
+        None => Ok(Some(8)),
+    }
+}
+
 #[test]
 fn covers_and_gaps(rt: HostRuntime) -> Result<(), Fail> {
-    let alloc = rt.alloc();
-    let params = settings(alloc)?;
-    let net = match net_of(alloc, demonstration(alloc)?, &params, Worth::Count)? {
-        Some(net) => net,
-        None => return Err(Fail::new("these are no pieces")),
-    };
-    let prices = two_prices(alloc, 500, 500)?;
-    for place in 0..5 {
-        assert!(rt; has_gap(alloc, &net, &prices, fewer(place))?, "{place}");
-    }
-    for place in 0..3 {
-        assert!(rt; has_gap(alloc, &net, &prices, more(place))?, "{place}");
-    }
+    let params = settings(rt.alloc())?;
+    assert_eq!(rt; first_other_of(rt.alloc(), &params)?, None);
     Ok(())
 }
 
@@ -404,25 +420,37 @@ fn unpaid_of(alloc: Global, net: &DutyNet<'_>, prices: &Prices) -> Result<Option
     }
 }
 
+/// The unpaid duty of the demonstration, whose first piece has this price and the second one 5,200,000.
+fn unpaid_at(alloc: Global, params: &Params, first: u32) -> Result<Option<Column>, Fail>
+    requires { HaveRanges params.now }
+{
+    match net_of(alloc, demonstration(alloc)?, params, Worth::Cost)? {
+        Some(net) => {
+            let prices = two_prices(alloc, first, 5_200_000)?;
+            Ok(unpaid_of(alloc, &net, &prices)?)
+        }
+        None => Err(Fail::new("these are no pieces")),
+    }
+}
+
+/// Whether this is the duty over both pieces.
+fn is_over_both(duty: &Option<Column>) -> bool {
+    match duty {
+        Some(column) => {
+            column.class == 0
+                && column.worth == 10_400
+                && column.items.as_slice() == [0, 1].as_slice()
+        }
+        None => false,
+    }
+}
+
 /// The duty over both pieces costs 10,400: its prices may be as high as that, and no higher.
 #[test]
 fn unpaid_duties_are_found(rt: HostRuntime) -> Result<(), Fail> {
-    let alloc = rt.alloc();
-    let params = settings(alloc)?;
-    let net = match net_of(alloc, demonstration(alloc)?, &params, Worth::Cost)? {
-        Some(net) => net,
-        None => return Err(Fail::new("these are no pieces")),
-    };
-    let prices = two_prices(alloc, 5_200_000, 5_200_000)?;
-    assert!(rt; unpaid_of(alloc, &net, &prices)?.is_none());
-    let prices = two_prices(alloc, 5_200_001, 5_200_000)?;
-    match unpaid_of(alloc, &net, &prices)? {
-        Some(column) => {
-            assert_eq!(rt; (column.class, column.worth), (0, 10_400));
-            assert_eq!(rt; column.items.as_slice(), [0, 1].as_slice());
-        }
-        None => return Err(Fail::new("it is not paid")),
-    }
+    let params = settings(rt.alloc())?;
+    assert!(rt; unpaid_at(rt.alloc(), &params, 5_200_000)?.is_none());
+    assert!(rt; is_over_both(&unpaid_at(rt.alloc(), &params, 5_200_001)?));
     Ok(())
 }
 
