@@ -153,20 +153,24 @@ fn read(alloc: Global, tables: &[Table], day: &Day) -> Result<Option<Place>, Mem
     }
 }
 
-/// The text of tables is read as a certificate, and the certificate is written as the same text.
+/// Whether the text of tables is read as a certificate that is written as the same text.
+fn is_read_and_written(alloc: Global, day: &Day) -> Result<bool, Fail> {
+    let tables = read_file(alloc, CERT, 100_000)?;
+    match read_cert(alloc, tables.as_slice(), day, 2) {
+        Ok(cert) => {
+            let written = write_cert(alloc, &cert, day)?;
+            let text = write_tables(alloc, written.as_slice())?;
+            Ok(text.as_slice().ends_with(CERT))
+        }
+        Err(_) => Err(Fail::from("no certificate")),
+    }
+}
+
 #[test]
 fn certificates_are_read_and_written(rt: HostRuntime) -> Result<(), Fail> {
     certificates_are_read_back();
-    let alloc = rt.alloc();
-    let day = day(alloc)?;
-    let tables = read_file(alloc, CERT, 100_000)?;
-    let cert = match read_cert(alloc, tables.as_slice(), &day, 2) {
-        Ok(cert) => cert,
-        Err(_) => return Err(Fail::from("no certificate")),
-    };
-    let written = write_cert(alloc, &cert, &day)?;
-    let text = write_tables(alloc, written.as_slice())?;
-    assert!(rt; text.as_slice().ends_with(CERT));
+    let day = day(rt.alloc())?;
+    assert!(rt; is_read_and_written(rt.alloc(), &day)?);
     Ok(())
 }
 
@@ -293,94 +297,142 @@ fn with_block_mark(alloc: Global, day: &Day, mark: [i64; 5]) -> Result<Option<Pl
     place(alloc, day, &rows)
 }
 
+/// Rows that may not stand behind the first price: a price too great, a price twice, a pass or an item that is not there.
+const NO_PRICES: [[i64; 3]; 6] = [
+    [1, 1, 3_000_000_000_000_001],
+    [4, 2, 0],
+    [5, 1, 0],
+    [0, 1, 0],
+    [1, 0, 0],
+    [1, 3, 0],
+];
+
+/// Rows that may not stand behind the second class price.
+const NO_CLASSES: [[i64; 3]; 4] = [[2, 7, 1], [2, 5, 1], [3, 7, 1], [3, -5, 1]];
+
+/// Whether each of these rows is the first wrong one behind the first price.
+fn are_no_prices(alloc: Global, day: &Day, rows: &[[i64; 3]]) -> Result<bool, Memory> {
+    for row in rows {
+        let both = [PRICES[0], *row];
+        if with_prices(alloc, day, both.as_slice())? != at(CertTable::Prices, 2) {
+            return Ok(false);
+        }
+    }
+    Ok(true)
+}
+
+/// Whether each of these rows is the first wrong one behind the second class price.
+fn are_no_classes(alloc: Global, day: &Day, rows: &[[i64; 3]]) -> Result<bool, Memory> {
+    for row in rows {
+        let both = [CLASSES[1], *row];
+        if with_classes(alloc, day, both.as_slice())? != at(CertTable::ClassPrices, 2) {
+            return Ok(false);
+        }
+    }
+    Ok(true)
+}
+
+/// Whether prices may stand in any order and one that is missing is told.
+fn are_all_prices(alloc: Global, day: &Day) -> Result<bool, Memory> {
+    let all = with_prices(alloc, day, PRICES.as_slice())?;
+    let fewer = with_prices(alloc, day, &PRICES[1..])?;
+    let classes = with_classes(alloc, day, &CLASSES[..3])?;
+    Ok(
+        all.is_none()
+            && fewer == at(CertTable::Prices, 0)
+            && classes == at(CertTable::ClassPrices, 0),
+    )
+}
+
 #[test]
 fn first_wrong_prices(rt: HostRuntime) -> Result<(), Fail> {
-    let alloc = rt.alloc();
-    let day = day(alloc)?;
-    // in any order, up to the greatest price
-    assert_eq!(rt; with_prices(alloc, &day, PRICES.as_slice())?, None);
-    // one is missing
-    assert_eq!(rt;
-        with_prices(alloc, &day, &PRICES[1..])?,
-        at(CertTable::Prices, 0)
-    );
-    // a price too great, a price twice, a pass, an item that is not there
-    for row in [
-        [1, 1, 3_000_000_000_000_001],
-        [4, 2, 0],
-        [5, 1, 0],
-        [0, 1, 0],
-        [1, 0, 0],
-        [1, 3, 0],
-    ] {
-        let first = [PRICES[0], row];
-        assert_eq!(rt;
-            with_prices(alloc, &day, first.as_slice())?,
-            at(CertTable::Prices, 2)
-        );
-    }
-    // classes by their numbers
-    assert_eq!(rt;
-        with_classes(alloc, &day, &CLASSES[..3])?,
-        at(CertTable::ClassPrices, 0)
-    );
-    for row in [[2, 7, 1], [2, 5, 1], [3, 7, 1], [3, -5, 1]] {
-        let first = [CLASSES[1], row];
-        assert_eq!(rt;
-            with_classes(alloc, &day, first.as_slice())?,
-            at(CertTable::ClassPrices, 2)
-        );
-    }
+    let day = day(rt.alloc())?;
+    assert!(rt; are_all_prices(rt.alloc(), &day)?);
+    assert!(rt; are_no_prices(rt.alloc(), &day, NO_PRICES.as_slice())?);
+    assert!(rt; are_no_classes(rt.alloc(), &day, NO_CLASSES.as_slice())?);
     Ok(())
+}
+
+/// Marks that may stand twice, with any sign-on and value.
+const MARKS: [[i64; 9]; 2] = [
+    [3, 5, 1, 0, 0, 0, 0, 0, 0],
+    [
+        4,
+        5,
+        2,
+        -9_000_000_000_000_000_000,
+        4_294_967_295,
+        1,
+        4_294_967_295,
+        1,
+        -9_000_000_000_000_000_000,
+    ],
+];
+
+/// Rows that are no marks of duties.
+const NO_MARKS: [[i64; 9]; 7] = [
+    [2, 5, 1, 0, 0, 0, 0, 0, 0],
+    [3, 7, 1, 0, 0, 0, 0, 0, 0],
+    [3, 5, 3, 0, 0, 0, 0, 0, 0],
+    [3, 5, 1, 0, 4_294_967_296, 0, 0, 0, 0],
+    [3, 5, 1, 0, 0, 2, 0, 0, 0],
+    [3, 5, 1, 0, 0, 0, -1, 0, 0],
+    [3, 5, 1, 0, 0, 0, 0, -1, 0],
+];
+
+/// Rows that are no marks of blocks.
+const NO_BLOCK_MARKS: [[i64; 5]; 4] = [
+    [3, 7, 1, 0, 0],
+    [1, 5, 1, 0, 0],
+    [1, 7, 0, 0, 0],
+    [1, 7, 1, -1, 0],
+];
+
+/// Whether each of these rows has this first wrong place behind a mark of duties.
+fn have_place(
+    alloc: Global,
+    day: &Day,
+    marks: &[[i64; 9]],
+    place: Option<Place>,
+) -> Result<bool, Memory> {
+    for mark in marks {
+        if with_mark(alloc, day, *mark)? != place {
+            return Ok(false);
+        }
+    }
+    Ok(true)
+}
+
+/// Whether none of these rows is a mark of blocks.
+fn are_no_block_marks(alloc: Global, day: &Day, marks: &[[i64; 5]]) -> Result<bool, Memory> {
+    for mark in marks {
+        if with_block_mark(alloc, day, *mark)? != at(CertTable::BlockMarks, 1) {
+            return Ok(false);
+        }
+    }
+    Ok(true)
 }
 
 #[test]
 fn first_wrong_marks(rt: HostRuntime) -> Result<(), Fail> {
-    let alloc = rt.alloc();
-    let day = day(alloc)?;
-    // marks may repeat, and sign-on and value are any numbers
-    for mark in [
-        [3, 5, 1, 0, 0, 0, 0, 0, 0],
-        [
-            4,
-            5,
-            2,
-            -9_000_000_000_000_000_000,
-            4_294_967_295,
-            1,
-            4_294_967_295,
-            1,
-            -9_000_000_000_000_000_000,
-        ],
-    ] {
-        assert_eq!(rt; with_mark(alloc, &day, mark)?, None);
-    }
-    for mark in [
-        [2, 5, 1, 0, 0, 0, 0, 0, 0],
-        [3, 7, 1, 0, 0, 0, 0, 0, 0],
-        [3, 5, 3, 0, 0, 0, 0, 0, 0],
-        [3, 5, 1, 0, 4_294_967_296, 0, 0, 0, 0],
-        [3, 5, 1, 0, 0, 2, 0, 0, 0],
-        [3, 5, 1, 0, 0, 0, -1, 0, 0],
-        [3, 5, 1, 0, 0, 0, 0, -1, 0],
-    ] {
-        assert_eq!(rt; with_mark(alloc, &day, mark)?, at(CertTable::DutyMarks, 2));
-    }
-    assert_eq!(rt;
-        with_block_mark(alloc, &day, [2, 7, 2, 4_294_967_295, -1])?,
-        None
+    let day = day(rt.alloc())?;
+    assert!(rt; have_place(rt.alloc(), &day, MARKS.as_slice(), None)?);
+    assert!(rt;
+        have_place(
+            rt.alloc(),
+            &day,
+            NO_MARKS.as_slice(),
+            at(CertTable::DutyMarks, 2)
+        )?
     );
-    for mark in [
-        [3, 7, 1, 0, 0],
-        [1, 5, 1, 0, 0],
-        [1, 7, 0, 0, 0],
-        [1, 7, 1, -1, 0],
-    ] {
-        assert_eq!(rt;
-            with_block_mark(alloc, &day, mark)?,
-            at(CertTable::BlockMarks, 1)
-        );
-    }
+    Ok(())
+}
+
+#[test]
+fn first_wrong_block_marks(rt: HostRuntime) -> Result<(), Fail> {
+    let day = day(rt.alloc())?;
+    assert!(rt; with_block_mark(rt.alloc(), &day, [2, 7, 2, 4_294_967_295, -1])?.is_none());
+    assert!(rt; are_no_block_marks(rt.alloc(), &day, NO_BLOCK_MARKS.as_slice())?);
     Ok(())
 }
 
@@ -410,34 +462,39 @@ fn read_before(
     Ok(read(alloc, &tables[..last], day)?)
 }
 
-#[test]
-fn tables_stand_once(rt: HostRuntime) -> Result<(), Fail> {
-    let alloc = rt.alloc();
-    let day = day(alloc)?;
+/// The tables of prices and class prices that are all there.
+fn all_tables(alloc: Global) -> Result<Seq<Table>, Memory> {
     let rows = Rows {
         prices: PRICES.as_slice(),
         classes: CLASSES.as_slice(),
         duties: [].as_slice(),
         blocks: [].as_slice(),
     };
-    let mut tables = tables_of(alloc, &rows)?;
-    assert_eq!(rt;
-        read_before(alloc, tables.as_slice(), 3, &day)?,
-        at(CertTable::BlockMarks, 0)
-    );
-    assert_eq!(rt;
-        read_behind(alloc, tables.as_slice(), 1, &day)?,
-        at(CertTable::Prices, 0)
-    );
+    tables_of(alloc, &rows)
+}
+
+/// Whether the last and the first table are told where they are missing.
+fn are_missed(alloc: Global, day: &Day) -> Result<bool, Fail> {
+    let tables = all_tables(alloc)?;
+    let before = read_before(alloc, tables.as_slice(), 3, day)?;
+    let behind = read_behind(alloc, tables.as_slice(), 1, day)?;
+    Ok(before == at(CertTable::BlockMarks, 0) && behind == at(CertTable::Prices, 0))
+}
+
+/// Whether a table that stands twice is told, behind one that is missing.
+fn is_told_twice(alloc: Global, day: &Day) -> Result<bool, Fail> {
+    let mut tables = all_tables(alloc)?;
     let rows: [[i64; 2]; 0] = [];
     tables.push(table(alloc, "X_KLASSENPREIS", &["ART", "KLASSE"], rows.as_slice())?)?;
-    assert_eq!(rt;
-        read(alloc, tables.as_slice(), &day)?,
-        at(CertTable::ClassPrices, 0)
-    );
-    assert_eq!(rt;
-        read_behind(alloc, tables.as_slice(), 2, &day)?,
-        at(CertTable::Prices, 0)
-    );
+    let twice = read(alloc, tables.as_slice(), day)?;
+    let behind = read_behind(alloc, tables.as_slice(), 2, day)?;
+    Ok(twice == at(CertTable::ClassPrices, 0) && behind == at(CertTable::Prices, 0))
+}
+
+#[test]
+fn tables_stand_once(rt: HostRuntime) -> Result<(), Fail> {
+    let day = day(rt.alloc())?;
+    assert!(rt; are_missed(rt.alloc(), &day)?);
+    assert!(rt; is_told_twice(rt.alloc(), &day)?);
     Ok(())
 }
