@@ -50,10 +50,10 @@ below_none-push xs c m h k x at =
     let P : Candidate → Type 0 = λ y. candidate_cmp y m ≢ Less in
     ⊎_elim (λ (front : Contains xs x). h x front) (λ (last : Contains (c ∷ []) x). subst P (one_in c x last) k) (Contains-append_cases xs (c ∷ []) x at)
 
-not_lt : (o : Ordering) → is_lt o ≡ false → o ≢ Less
+pub not_lt : (o : Ordering) → is_lt o ≡ false → o ≢ Less
 not_lt o e h = let yes : is_lt o ≡ true = ap is_lt h in cc
 
-is_lt-Less : (o : Ordering) → is_lt o ≡ true → o ≡ Less
+pub is_lt-Less : (o : Ordering) → is_lt o ≡ true → o ≡ Less
 is_lt-Less Less e = refl
 is_lt-Less Equal e = cc
 is_lt-Less Greater e = cc
@@ -75,7 +75,7 @@ least-push xs (Some b) c h =
       | false ↦ λ test. (Contains-append_left xs (c ∷ []) b h.0, below_none-push xs c b h.1 (not_lt (candidate_cmp c b) test))
     ] refl
 
-least_from-append_least : (xs ys : List Candidate) (best : Option Candidate) → IsLeast candidate_cmp xs best → IsLeast candidate_cmp (xs ++ ys) (least_from best ys)
+pub least_from-append_least : (xs ys : List Candidate) (best : Option Candidate) → IsLeast candidate_cmp xs best → IsLeast candidate_cmp (xs ++ ys) (least_from best ys)
 least_from-append_least xs [] best h = let P : List Candidate → Type 0 = λ l. IsLeast candidate_cmp l best in subst P (sym (append_nil xs)) h
 least_from-append_least xs (y ∷ ys) best h =
     let P : List Candidate → Type 0 = λ l. IsLeast candidate_cmp l (least_from (Some (lesser best y)) ys) in

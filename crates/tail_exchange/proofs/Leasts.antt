@@ -23,8 +23,13 @@ module _ {X : Type 0} where
   pub Contains-head : (x : X) (xs : List X) → Contains (x ∷ xs) x
   Contains-head x xs = (0, omega arith, refl)
 
-  Contains-tail : (y : X) (xs : List X) (x : X) → Contains xs x → Contains (y ∷ xs) x
+  pub Contains-tail : (y : X) (xs : List X) (x : X) → Contains xs x → Contains (y ∷ xs) x
   Contains-tail y xs x h = (suc h.0, (let l = h.1 in omega arith), h.2)
+
+  -- a list that contains nothing is empty
+  pub nothing : (xs : List X) → ((x : X) → Contains xs x → ⊥) → xs ≡ []
+  nothing [] n = refl
+  nothing (x ∷ xs) n = absurd (n x (Contains-head x xs))
 
 module _ {X : Type 0} (R : X → X → Ordering) (t : IsTotalOrder R) where
   -- x is not below m and m not below q, so x is not below q
@@ -66,10 +71,6 @@ module _ {X : Type 0} (R : X → X → Ordering) (t : IsTotalOrder R) (f : ℕ �
       ⊎_elim (λ (d : Contains (f a) x). (y, Contains-head y (filter_map (λ o. o) os), h.0.1 x d))
       (λ (d : Contains (flat_map f places) x). let r = up places os h.1 x d in (r.0, Contains-tail y (filter_map (λ o. o) os) r.0 r.1, r.2))
       (Contains-append_cases (f a) (flat_map f places) x c)
-
-  nothing : (xs : List X) → ((x : X) → Contains xs x → ⊥) → xs ≡ []
-  nothing [] n = refl
-  nothing (x ∷ xs) n = absurd (n x (Contains-head x xs))
 
   pub least_of_leasts : (places : List ℕ) (os : List (Option X)) (r : Option X) → AllZip (λ a o. IsLeast R (f a) o) places os → IsLeast R (filter_map (λ o. o) os) r → IsLeast R (flat_map f places) r
   least_of_leasts places os None h l =

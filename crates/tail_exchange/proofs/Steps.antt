@@ -15,15 +15,15 @@ use Rattle.cover_core.specs.Parts.{has_place, column_at}
 use Rattle.tail_exchange.specs.declared.candidate.Kind.{Kind}
 use Rattle.tail_exchange.specs.declared.candidate.Kind.TheVariants.{Swap, Cut}
 use Rattle.tail_exchange.specs.declared.candidate.Candidate.{Candidate}
-use Rattle.tail_exchange.specs.Exchange.{worth_of, joined, applied, step_for, swap_at, cut_at, swaps_of, all_swaps_of, cuts_of, steps_of, all_steps, IsStep, NoneLowers, StepsKeepPlans, StepsImprove}
+use Rattle.tail_exchange.specs.Exchange.{worth_of, joined, applied, step_for, swap_at, cut_at, swaps_of, all_swaps_of, cuts_of, steps_of, all_steps, IsStep, NoneLowers, Leads, LeadsSome, StepsKeepPlans, StepsImprove}
 use Rattle.tail_exchange.specs.Searches.{IsThere}
 use Rattle.tail_exchange.proofs.Leasts.{Contains-cons_cases}
 use Rattle.tail_exchange.proofs.Goods.{NoneOfNothing, swap-good, cut-good}
 
-nothing_in : {X : Type 0} (x : X) → Contains [] x → ⊥
+pub nothing_in : {X : Type 0} (x : X) → Contains [] x → ⊥
 nothing_in x h = let l = h.1 in omega arith
 
-one_in : {X : Type 0} (y x : X) → Contains (y ∷ []) x → y ≡ x
+pub one_in : {X : Type 0} (y x : X) → Contains (y ∷ []) x → y ≡ x
 one_in y x h = ⊎_elim (λ (e : y ≡ x). e) (λ (n : Contains [] x). absurd (nothing_in x n)) (Contains-cons_cases y [] x h)
 
 -- an element of lists that are joined is in one of them
@@ -46,7 +46,7 @@ and-first true b e = refl
 and-first false b e = e
 
 -- of a step that stands where both lists have a worth
-step_for-in : (P : Candidate → Type 0) (before : ℕ) (kind : Kind) (a b i j : ℕ) (o q : Option ℕ) (c : Candidate) →
+pub step_for-in : (P : Candidate → Type 0) (before : ℕ) (kind : Kind) (a b i j : ℕ) (o q : Option ℕ) (c : Candidate) →
     ((change : ℤ) → P (record { change = change; kind = kind; a = a; b = b; i = i; j = j })) → Contains (step_for before kind a b i j o q) c → P c
 step_for-in P before kind a b i j None q c each h = absurd (nothing_in c h)
 step_for-in P before kind a b i j (Some left) None c each h = absurd (nothing_in c h)
@@ -199,3 +199,13 @@ none-lowers p columns c least high x h =
 
 pub nothing-lowers : (p : Problem) (columns : List Column) → all_steps p columns ≡ [] → NoneLowers p columns
 nothing-lowers p columns none x h = let P : List Candidate → Type 0 = λ l. Contains l x in absurd (nothing_in x (subst P none h))
+
+-- some steps, and then one or none
+pub leads-more : (p : Problem) (made steps : ℕ) (old mid new : List Column) → made < steps → Leads p made old mid → LeadsSome p 1 mid new → LeadsSome p steps old new
+leads-more p made steps old mid new room leads (zero, few, same) = let some : made ≤ steps = omega arith in (made, some, subst (Leads p made old) (sym same) leads)
+leads-more p made steps old mid new room leads (suc zero, few, (start, same, step)) = let some : suc made ≤ steps = omega arith in (suc made, some, (start, subst (Leads p made old) (sym same) leads, step))
+leads-more p made steps old mid new room leads (suc (suc more), few, rest) = absurd (omega arith)
+
+-- steps cost no more
+pub leads-cheaper : (p : Problem) (steps : ℕ) (old new : List Column) → StepsImprove p → IsPlan p old → LeadsSome p steps old new → cost new ≤ cost old
+leads-cheaper p steps old new improve plan (made, few, leads) = let less = (improve made old new plan leads).1 in omega arith

@@ -2,4 +2,5 @@ pub mod Order
 pub mod Exchange
 pub mod Leasts
 pub mod Searches
+pub mod Kept
 pub mod Example

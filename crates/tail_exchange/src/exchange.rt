@@ -1,18 +1,21 @@
 //! Steps made one after another.
 
-ghost use Rattle.std.specs.Prelude.{◌≡◌, ◌<◌, ◌≤◌, ◌==◌, Bool, ℕ, length, IfOk, OnOk, OnErr};
+ghost use Rattle.std.specs.Prelude.{◌≡◌, ◌<◌, ◌≤◌, ◌<ℤ◌, pos, length, IfOk, OnOk, OnErr};
 ghost use Rattle.cover_core.specs.Plans.{IsPlan, cost, times, all_classes};
 ghost use Rattle.cover_core.specs.FirstLeast.{AreCheap};
 ghost use Rattle.cover_core.specs.Parts.{has_place};
 ghost use Rattle.rayon.specs.Lists.{IsLeast};
 ghost use Rattle.tail_exchange.specs.Order.{candidate_cmp};
-ghost use Rattle.tail_exchange.specs.Exchange.{all_steps, Leads, LeadsSome, NoneLowers};
+ghost use Rattle.tail_exchange.specs.Exchange.{all_steps, applied, IsStep, Leads, LeadsSome, NoneLowers};
 ghost use Rattle.tail_exchange.specs.Searches.{IsSearchable, ShowsRooms, IsStepOrNone};
+ghost use Rattle.tail_exchange.specs.Kept.{ShowsLeasts};
 
 use crate::candidate::Candidate;
+use crate::kept::{all_leasts, leasts_after};
 use crate::laws::steps_keep_plans;
 use crate::moves::apply;
 use crate::search::cheapest;
+use crate::shifts::shift_of;
 use cover_core::{Column, Columns, Plan};
 use plan_core::{Memory, Seq};
 use std::alloc::Global;
@@ -52,47 +55,93 @@ fn rooms<C: Columns>(alloc: Global, columns: &C, plan: &[Column]) -> Result<Seq<
     Ok(rooms)
 }
 
-/// Makes the least step where it lowers the cost; else the answer is false. After `Memory` the plan is as before.
-fn make_least<C: Columns>(
+/// Makes the least step. After `Memory` the plan is as before.
+fn take<C: Columns>(
     alloc: Global,
     columns: &C,
     plan: &mut Seq<Column>,
-    least: Option<Candidate>,
-) -> Result<bool, Memory>
+    step: Candidate,
+) -> Result<(), Memory>
     requires ready { IsSearchable (C.problem columns.now) plan.old }
-    requires least { IsLeast candidate_cmp (all_steps (C.problem columns.now) plan.old) least }
-    ensures step { IfOk result (IsStepOrNone (C.problem columns.now) plan.old plan.new) }
-    ensures ready { OnOk result (IsSearchable (C.problem columns.now) plan.new) }
+    requires least { IsLeast candidate_cmp (all_steps (C.problem columns.now) plan.old) (Some step) }
+    ensures made { OnOk result (plan.new ≡ applied (C.problem columns.now) plan.old step) }
+    ensures ready { IsSearchable (C.problem columns.now) plan.new }
     ensures memory { OnErr result (plan.new ≡ plan.old) }
 {
-    match least {
+    apply(alloc, columns, plan, step)?;
+    Ok(())
+}
+
+/// Makes the least step, which lowers the cost, and brings the least swaps up to date: those that it touches are made anew. After
+/// `Memory` the plan is as before or the step is made, and the least swaps are of no more use.
+fn make<R: Threads + Sync, C: Columns + Sync>(
+    rt: &R,
+    alloc: Global,
+    columns: &C,
+    plan: &mut Seq<Column>,
+    leasts: &mut Vec<Option<Candidate>>,
+    step: Candidate,
+) -> Result<(), Memory>
+    requires ready { IsSearchable (C.problem columns.now) plan.old }
+    requires leasts { ShowsLeasts (C.problem columns.now) plan.old leasts.old.items }
+    requires least { IsLeast candidate_cmp (all_steps (C.problem columns.now) plan.old) (Some step) }
+    requires lowers { step.change <ℤ pos 0 }
+    ensures step { OnOk result (IsStep (C.problem columns.now) plan.old plan.new) }
+    ensures leasts { OnOk result (ShowsLeasts (C.problem columns.now) plan.new leasts.new.items) }
+    ensures ready { IsSearchable (C.problem columns.now) plan.new }
+    ensures memory { OnErr result (LeadsSome (C.problem columns.now) 1 plan.old plan.new) }
+{
+    let shift = shift_of(columns, plan.as_slice(), step);
+    take(alloc, columns, plan, step)?;
+    *leasts = if plan.len() == shift.len as usize {
+        leasts_after(
+            rt,
+            alloc,
+            columns,
+            plan.as_slice(),
+            shift,
+            leasts.as_slice(),
+        )?
+    } else {
+        all_leasts(rt, alloc, columns, plan.as_slice())?
+    };
+    Ok(())
+}
+
+/// Finds the least step and makes it where it lowers the cost; else the answer is false. The least swaps stay those of the plan, but
+/// after `Memory`, where the plan is as before or the step is made.
+fn make_step<R: Threads + Sync, C: Columns + Sync>(
+    rt: &R,
+    alloc: Global,
+    columns: &C,
+    plan: &mut Seq<Column>,
+    leasts: &mut Vec<Option<Candidate>>,
+) -> Result<bool, Memory>
+    requires ready { IsSearchable (C.problem columns.now) plan.old }
+    requires leasts { ShowsLeasts (C.problem columns.now) plan.old leasts.old.items }
+    ensures step { IfOk result (IsStepOrNone (C.problem columns.now) plan.old plan.new) }
+    ensures leasts { OnOk result (ShowsLeasts (C.problem columns.now) plan.new leasts.new.items) }
+    ensures ready { IsSearchable (C.problem columns.now) plan.new }
+    ensures memory { OnErr result (LeadsSome (C.problem columns.now) 1 plan.old plan.new) }
+{
+    let rooms = rooms(alloc, columns, plan.as_slice())?;
+    match cheapest(
+        rt,
+        columns,
+        plan.as_slice(),
+        rooms.as_slice(),
+        leasts.as_slice(),
+    ) {
         None => Ok(false),
         Some(step) => {
             if step.lowers() {
-                apply(alloc, columns, plan, step)?;
+                make(rt, alloc, columns, plan, leasts, step)?;
                 Ok(true)
             } else {
                 Ok(false)
             }
         }
     }
-}
-
-/// Finds the least step and makes it where it lowers the cost; else the answer is false. After `Memory` the plan is as before.
-fn make_step<R: Threads + Sync, C: Columns + Sync>(
-    rt: &R,
-    alloc: Global,
-    columns: &C,
-    plan: &mut Seq<Column>,
-) -> Result<bool, Memory>
-    requires ready { IsSearchable (C.problem columns.now) plan.old }
-    ensures step { IfOk result (IsStepOrNone (C.problem columns.now) plan.old plan.new) }
-    ensures ready { OnOk result (IsSearchable (C.problem columns.now) plan.new) }
-    ensures memory { OnErr result (plan.new ≡ plan.old) }
-{
-    let rooms = rooms(alloc, columns, plan.as_slice())?;
-    let least = cheapest(rt, columns, plan.as_slice(), rooms.as_slice());
-    make_least(alloc, columns, plan, least)
 }
 
 /// Improves a plan by exchange steps, at most so many, and answers how many were made. Each is the step that changes the cost least, and
@@ -103,7 +152,11 @@ fn make_step<R: Threads + Sync, C: Columns + Sync>(
 ///   first i items, and the others become a new column of class k, put last.
 ///
 /// The changed columns have a worth or are empty, and empty columns vanish. Fewer steps than allowed are made only where none lowers the
-/// cost. Any number of threads gives the same. After `Memory` the plan is one that some of the steps lead to.
+/// cost. Any number of threads gives the same. After `Memory`, which is the only error, the plan is one that some of the steps lead to.
+///
+/// It costs one search over all pairs of columns at the begin. A step then takes time with the columns and not with their pairs: all cuts
+/// are looked at, each column with the one or two that the last step changed, and with all behind it only those columns that were changed
+/// or whose least swap was with one of them.
 pub fn improve<R: Threads + Sync, C: Columns + Sync>(
     rt: &R,
     alloc: Global,
@@ -122,8 +175,9 @@ pub fn improve<R: Threads + Sync, C: Columns + Sync>(
 {
     steps_keep_plans::<C>();
     ask_worths(columns, plan.columns.as_slice());
+    let mut leasts = all_leasts(rt, alloc, columns, plan.columns.as_slice())?;
     for made in 0..steps {
-        if !make_step(rt, alloc, columns, &mut plan.columns)? {
+        if !make_step(rt, alloc, columns, &mut plan.columns, &mut leasts)? {
             return Ok(made);
         }
     }

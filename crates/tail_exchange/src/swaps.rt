@@ -6,6 +6,7 @@ ghost use Rattle.cover_core.specs.Parts.{column_at};
 ghost use Rattle.tail_exchange.specs.declared.candidate.Kind.TheVariants.{Swap};
 ghost use Rattle.tail_exchange.specs.Exchange.{swap_at, swaps_of, all_swaps_of};
 ghost use Rattle.tail_exchange.specs.Leasts.{least_from};
+ghost use Rattle.tail_exchange.specs.Kept.{swaps_behind};
 ghost use Rattle.tail_exchange.specs.Searches.{IsSearchable};
 
 use crate::candidate::{Candidate, Kind};
@@ -96,6 +97,26 @@ fn swaps_of<C: Columns>(
         least = swaps_at(columns, plan, a, b, i, list, least);
     }
     least
+}
+
+/// The swaps of column a with column b, where that stands behind it.
+pub fn swaps_behind<C: Columns>(
+    columns: &C,
+    plan: &[Column],
+    a: u32,
+    b: u32,
+    list: &mut ArrayVec<u32, 3000>,
+    best: Option<Candidate>,
+) -> Option<Candidate>
+    requires ready { IsSearchable (C.problem columns.now) plan.now }
+    requires below { b < length plan.now }
+    ensures { result ≡ least_from best (swaps_behind (C.problem columns.now) plan.now a b) }
+{
+    if a < b {
+        swaps_of(columns, plan, a, b, list, best)
+    } else {
+        best
+    }
 }
 
 /// The swaps of a column with those behind it.

@@ -2,7 +2,7 @@
 
 ghost use Rattle.std.specs.Prelude.{◌≡◌, ◌<◌, ◌≤◌, ◌∷◌, [], length, IfOk, IfSome};
 ghost use Rattle.cover_core.specs.Plans.{IsPlan};
-ghost use Rattle.tail_exchange.specs.Example.{example, example_worth, example-listed, column, settled, tied, loose, dear, crossed};
+ghost use Rattle.tail_exchange.specs.Example.{example, example_worth, example-listed, column, settled, tied, loose, mixed, spread, dear, crossed};
 
 use crate::{improve, steps_keep_plans};
 use cover_core::{Column, Columns, Items, Plan};
@@ -118,6 +118,32 @@ fn loose(alloc: Global) -> Result<Plan, Memory>
     })
 }
 
+/// A plan of which four swaps and then a cut may be made: after the first swap its first column is empty, after the second the second one.
+fn mixed(alloc: Global) -> Result<Plan, Memory>
+    ensures { IfOk result (λ plan. plan.columns ≡ mixed) }
+{
+    let first = column(alloc, 0, 10, [0].as_slice())?;
+    let second = column(alloc, 0, 14, [2, 4].as_slice())?;
+    let third = column(alloc, 1, 10, [1].as_slice())?;
+    let fourth = column(alloc, 0, 10, [3].as_slice())?;
+    Ok(Plan {
+        columns: Seq::from_vec(vec![in alloc; first, second, third, fourth]?),
+    })
+}
+
+/// A plan of which three swaps may be made, the second while a third column stands by.
+fn spread(alloc: Global) -> Result<Plan, Memory>
+    ensures { IfOk result (λ plan. plan.columns ≡ spread) }
+{
+    let first = column(alloc, 1, 10, [1].as_slice())?;
+    let second = column(alloc, 0, 10, [0].as_slice())?;
+    let third = column(alloc, 0, 14, [2, 4].as_slice())?;
+    let fourth = column(alloc, 0, 10, [3].as_slice())?;
+    Ok(Plan {
+        columns: Seq::from_vec(vec![in alloc; first, second, third, fourth]?),
+    })
+}
+
 /// A plan of which a cut lowers the cost where class 0 has a place left.
 fn dear(alloc: Global) -> Result<Plan, Memory>
     ensures { IfOk result (λ plan. plan.columns ≡ dear) }
@@ -171,6 +197,67 @@ fn improvement<R: Threads + Sync>(
     Ok(out)
 }
 
+/// How many steps are made of a plan by as many calls, each of which begins a search from nothing, and the columns then, as numbers.
+fn step_by_step<R: Threads + Sync>(
+    rt: &R,
+    alloc: Global,
+    places: u8,
+    plan: Plan,
+    steps: u32,
+) -> Result<Vec<u64>, Memory>
+    requires { IsPlan (example places) plan.columns }
+{
+    let mut plan = plan;
+    let mut made = 0;
+    for _step in 0..steps {
+        made += improve(rt, alloc, &Example { places }, &mut plan, 1)? as u64;
+    }
+    let mut out = Vec::new(alloc);
+    out.push(made)?;
+    spell(&mut out, plan.columns.as_slice())?;
+    Ok(out)
+}
+
+/// Whether so many steps of a plan in a row are those that searches from nothing find; the plan is given twice.
+fn alike<R: Threads + Sync>(
+    rt: &R,
+    alloc: Global,
+    plan: Plan,
+    again: Plan,
+    steps: u32,
+) -> Result<bool, Memory>
+    requires first { IsPlan (example 3) plan.columns }
+    requires second { IsPlan (example 3) again.columns }
+{
+    let row = improvement(rt, alloc, 3, plan, steps)?;
+    let single = step_by_step(rt, alloc, 3, again, steps)?;
+    Ok(row.as_slice() == single.as_slice())
+}
+
+/// Whether each number of steps of `mixed` is as by searches from nothing.
+fn mixed_alike<R: Threads + Sync>(rt: &R, alloc: Global) -> Result<bool, Memory> {
+    for steps in 1..7 {
+        let plan = mixed(alloc)?;
+        let again = mixed(alloc)?;
+        if !alike(rt, alloc, plan, again, steps)? {
+            return Ok(false);
+        }
+    }
+    Ok(true)
+}
+
+/// Whether each number of steps of `spread` is as by searches from nothing.
+fn spread_alike<R: Threads + Sync>(rt: &R, alloc: Global) -> Result<bool, Memory> {
+    for steps in 1..5 {
+        let plan = spread(alloc)?;
+        let again = spread(alloc)?;
+        if !alike(rt, alloc, plan, again, steps)? {
+            return Ok(false);
+        }
+    }
+    Ok(true)
+}
+
 /// Two columns that no step betters stay as they are.
 #[test]
 fn settled_plan(rt: HostRuntime) -> Result<(), Fail> {
@@ -190,6 +277,17 @@ fn swap_before_cut(rt: HostRuntime) -> Result<(), Fail> {
     assert_eq!(rt;
         improvement(&rt, rt.alloc(), 3, plan, 20)?.as_slice(),
         [1, 0, 6, 1, 2, 3, 99, 1, 10, 0, 99, 0, 10, 4, 99].as_slice()
+    );
+    Ok(())
+}
+
+/// Four swaps and a cut; the columns that become empty vanish.
+#[test]
+fn swaps_and_a_cut(rt: HostRuntime) -> Result<(), Fail> {
+    let plan = mixed(rt.alloc())?;
+    assert_eq!(rt;
+        improvement(&rt, rt.alloc(), 3, plan, 20)?.as_slice(),
+        [5, 0, 6, 0, 1, 2, 99, 0, 11, 3, 4, 99].as_slice()
     );
     Ok(())
 }
@@ -246,5 +344,19 @@ fn no_cut_into_a_full_class(rt: HostRuntime) -> Result<(), Fail> {
         improvement(&rt, rt.alloc(), 1, plan, 20)?.as_slice(),
         [0, 0, 11, 0, 1, 99, 1, 7, 2, 3, 4, 99].as_slice()
     );
+    Ok(())
+}
+
+/// After each kind of step the next one is that which a search from nothing finds.
+#[test]
+fn steps_in_a_row(rt: HostRuntime) -> Result<(), Fail> {
+    assert!(rt; mixed_alike(&rt, rt.alloc())?);
+    Ok(())
+}
+
+/// A column that stands by is looked at with those that have changed.
+#[test]
+fn steps_beside_a_column(rt: HostRuntime) -> Result<(), Fail> {
+    assert!(rt; spread_alike(&rt, rt.alloc())?);
     Ok(())
 }
