@@ -8,24 +8,24 @@ use Rattle.deadheads.specs.declared.moves.Ends.{Ends}
 use Rattle.deadheads.specs.DeadTimes.{dead_on}
 use Rattle.plan_params.specs.declared.rows.ParamRows.{ParamRows}
 use Rattle.plan_params.specs.declared.rows.pool.Pool.{Pool}
-use Rattle.plan_params.specs.LookUps.{admits_in}
+use Rattle.plan_params.specs.LookUps.{admits_in, is_relief_in}
 use Rattle.day_model.specs.declared.layout.Layout.{Layout}
 use Rattle.point_grid.specs.declared.grid.Grid.{Grid}
 use Rattle.point_grid.specs.declared.numbering.Numbering.{Numbering}
 use Rattle.point_grid.specs.Grid.{IsGrid, told}
 use Rattle.point_grid.specs.Numbering.{AreNumbered}
 use Rattle.point_grid.proofs.Flat.{cell_told, cell_within, flat_at, grid_cell, mapped_at, there}
-use Rattle.day_model.specs.Facts.{DayFacts, admits, dead}
-use Rattle.day_model.specs.Layout.{AreLaidOut, admissions_of}
+use Rattle.day_model.specs.Facts.{DayFacts, admits, dead, is_relief}
+use Rattle.day_model.specs.Layout.{AreLaidOut, admissions_of, reliefs_of}
 use Rattle.day_model.specs.Links.{admits_at, given, pull_in_at, with_pool, with_trip}
 
 -- a layout is made of its parts
-laid_of : (trips : List Trip) (params : ParamRows) (deads : List (Ends × ℕ)) (begins ends : Numbering) (between outward inward : Grid) (admitted : List Bool) →
+laid_of : (trips : List Trip) (params : ParamRows) (deads : List (Ends × ℕ)) (begins ends : Numbering) (between outward inward : Grid) (admitted relieved : List Bool) →
     AreNumbered (map (λ (trip : Trip). trip.from) trips) begins → AreNumbered (map (λ (trip : Trip). trip.to) trips) ends →
     IsGrid (dead_on deads) ends.points begins.points between → IsGrid (dead_on deads) (map (λ (pool : Pool). pool.depot) params.pools) begins.points outward →
-    IsGrid (dead_on deads) ends.points (map (λ (pool : Pool). pool.depot) params.pools) inward → admitted ≡ admissions_of params params.pools trips →
-    AreLaidOut trips params deads (record { begins = begins.numbers; ends = ends.numbers; between = between; outward = outward; inward = inward; admitted = admitted })
-laid_of trips params deads begins ends between outward inward admitted first last are_between are_outward are_inward are_admitted =
+    IsGrid (dead_on deads) ends.points (map (λ (pool : Pool). pool.depot) params.pools) inward → admitted ≡ admissions_of params params.pools trips → relieved ≡ reliefs_of params trips →
+    AreLaidOut trips params deads (record { begins = begins.numbers; ends = ends.numbers; between = between; outward = outward; inward = inward; admitted = admitted; relieved = relieved })
+laid_of trips params deads begins ends between outward inward admitted relieved first last are_between are_outward are_inward are_admitted are_relieved =
     let from : Trip → Point = λ trip. trip.from in
     let to : Trip → Point = λ trip. trip.to in
     let depot : Pool → Point = λ pool. pool.depot in
@@ -36,22 +36,23 @@ laid_of trips params deads begins ends between outward inward admitted first las
       outward = λ class u pool next at at'. grid_cell (dead_on deads) (map depot params.pools) begins.points outward class (slice_index begins.numbers u) pool.depot next.from are_outward (mapped_at depot params.pools class pool at) (first.points u next.from (mapped_at from trips u next at'));
       inward = λ class t pool trip at at'. grid_cell (dead_on deads) ends.points (map depot params.pools) inward (slice_index ends.numbers t) class trip.to pool.depot are_inward (last.points t trip.to (mapped_at to trips t trip at')) (mapped_at depot params.pools class pool at);
       admitted = are_admitted;
+      relieved = are_relieved;
     }
 
 -- the same, where its parts are over lists of points that are read first
-pub laid_out : (trips : List Trip) (params : ParamRows) (deads : List (Ends × ℕ)) (begins ends : Numbering) (between outward inward : Grid) (admitted : List Bool) (firsts lasts depots from to : List Point) →
+pub laid_out : (trips : List Trip) (params : ParamRows) (deads : List (Ends × ℕ)) (begins ends : Numbering) (between outward inward : Grid) (admitted relieved : List Bool) (firsts lasts depots from to : List Point) →
     firsts ≡ map (λ (trip : Trip). trip.from) trips → lasts ≡ map (λ (trip : Trip). trip.to) trips → depots ≡ map (λ (pool : Pool). pool.depot) params.pools →
     from ≡ begins.points → to ≡ ends.points →
-    AreNumbered firsts begins → AreNumbered lasts ends → IsGrid (dead_on deads) to from between → IsGrid (dead_on deads) depots from outward → IsGrid (dead_on deads) to depots inward → admitted ≡ admissions_of params params.pools trips →
-    AreLaidOut trips params deads (record { begins = begins.numbers; ends = ends.numbers; between = between; outward = outward; inward = inward; admitted = admitted })
-laid_out trips params deads begins ends between outward inward admitted firsts lasts depots from to e1 e2 e3 e4 e5 first last are_between are_outward are_inward are_admitted =
-    laid_of trips params deads begins ends between outward inward admitted
+    AreNumbered firsts begins → AreNumbered lasts ends → IsGrid (dead_on deads) to from between → IsGrid (dead_on deads) depots from outward → IsGrid (dead_on deads) to depots inward → admitted ≡ admissions_of params params.pools trips → relieved ≡ reliefs_of params trips →
+    AreLaidOut trips params deads (record { begins = begins.numbers; ends = ends.numbers; between = between; outward = outward; inward = inward; admitted = admitted; relieved = relieved })
+laid_out trips params deads begins ends between outward inward admitted relieved firsts lasts depots from to e1 e2 e3 e4 e5 first last are_between are_outward are_inward are_admitted are_relieved =
+    laid_of trips params deads begins ends between outward inward admitted relieved
     (let P : List Point → Type 0 = λ ps. AreNumbered ps begins in subst P e1 first)
     (let P : List Point → Type 0 = λ ps. AreNumbered ps ends in subst P e2 last)
     (let P : List Point → Type 0 = λ ps. IsGrid (dead_on deads) ends.points ps between in let Q : List Point → Type 0 = λ ps. IsGrid (dead_on deads) ps from between in subst P e4 (subst Q e5 are_between))
     (let P : List Point → Type 0 = λ ps. IsGrid (dead_on deads) (map (λ (pool : Pool). pool.depot) params.pools) ps outward in let Q : List Point → Type 0 = λ ps. IsGrid (dead_on deads) ps from outward in subst P e4 (subst Q e3 are_outward))
     (let P : List Point → Type 0 = λ ps. IsGrid (dead_on deads) ends.points ps inward in let Q : List Point → Type 0 = λ ps. IsGrid (dead_on deads) ps depots inward in subst P e3 (subst Q e5 are_inward))
-    are_admitted
+    are_admitted are_relieved
 
 abbrev pub place : Grid → ℕ → ℕ → ℕ
 place grid row column = row * grid.columns + column
@@ -130,3 +131,19 @@ admitted_is day layout class t laid below below' =
     let trip = there day.trips t below' in
     let e : admits_at day class t ≡ is_some (given (admits day (trip.0).line (pool.0).typ) (Some trip.0)) = rw (pool.1, trip.1) refl in
     get_or_from_slice_get layout.admitted _ _ false (admitted_at day.trips day.params day.deads layout class t pool.0 trip.0 laid pool.1 trip.1) ∙ sym (given_is (admits day (trip.0).line (pool.0).typ) trip.0) ∙ sym e
+
+-- whether drivers are relieved where a trip begins
+relieved_at : (trips : List Trip) (params : ParamRows) (deads : List (Ends × ℕ)) (layout : Layout) (t : ℕ) (trip : Trip) → AreLaidOut trips params deads layout →
+    slice_get trips t ≡ Some trip → slice_get layout.relieved t ≡ Some (is_relief_in params trip.from)
+relieved_at trips params deads layout t trip laid at =
+    ap (λ (cells : List Bool). slice_get cells t) laid.relieved ∙ mapped_at (λ (trip : Trip). is_relief_in params trip.from) trips t trip at
+
+pub relieved_within : (trips : List Trip) (params : ParamRows) (deads : List (Ends × ℕ)) (layout : Layout) (t : ℕ) → AreLaidOut trips params deads layout → t < length trips →
+    t < length layout.relieved
+relieved_within trips params deads layout t laid below =
+    let trip = there trips t below in
+    slice_get_within layout.relieved _ _ (relieved_at trips params deads layout t trip.0 laid trip.1)
+
+pub relieved_is : (day : DayFacts) (layout : Layout) (t : ℕ) (trip : Trip) → AreLaidOut day.trips day.params day.deads layout → slice_get day.trips t ≡ Some trip →
+    get_or layout.relieved t false ≡ is_relief day trip.from
+relieved_is day layout t trip laid at = get_or_from_slice_get layout.relieved _ _ false (relieved_at day.trips day.params day.deads layout t trip laid at)

@@ -2,9 +2,10 @@
 
 ghost use Rattle.std.specs.Prelude.{◌≡◌, ◌<◌, ◌≤◌, All, IfOk, IfSome, Some, length, slice_get};
 ghost use Rattle.vdv452_tables.specs.Ranges.{IsTime};
+ghost use Rattle.trip_times.specs.declared.trip.Trip.{Trip};
 ghost use Rattle.plan_params.specs.Limits.{HaveRanges};
 ghost use Rattle.day_model.specs.Building.{most_trips};
-ghost use Rattle.day_model.specs.Facts.{dead};
+ghost use Rattle.day_model.specs.Facts.{dead, is_relief};
 ghost use Rattle.day_model.specs.Layout.{AreLaidOut};
 ghost use Rattle.day_model.specs.Links.{admits_at, link_at, pull_in_at, pull_out_at, with_pool, with_trip};
 ghost use Rattle.day_model.specs.Ranges.{AreInRange, IsDaily, IsShort};
@@ -146,6 +147,15 @@ impl Day {
     {
         let layout: &Layout = &self.layout;
         layout.admitted.as_slice()[class as usize * self.trips.len() + t as usize]
+    }
+
+    /// Whether drivers are relieved at the first point of a trip: X_ABLOESE has it.
+    pub fn begins_at_relief(&self, t: u32) -> bool
+        requires { t < length self.now.trips }
+        ensures { (trip : Trip) → slice_get self.now.trips t ≡ Some trip → result ≡ is_relief self.now trip.from }
+    {
+        let layout: &Layout = &self.layout;
+        layout.relieved.as_slice()[t as usize]
     }
 
     /// How long the deadhead from a pool's depot to a trip takes: it arrives exactly at the trip's begin. None where there is no such

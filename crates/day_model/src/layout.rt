@@ -2,9 +2,9 @@
 
 ghost use Rattle.std.specs.Prelude.{◌≡◌, ◌≤◌, ◌++◌, IfOk, OnOk, length, map};
 ghost use Rattle.deadheads.specs.DeadTimes.{dead_on};
-ghost use Rattle.plan_params.specs.LookUps.{admits_in};
+ghost use Rattle.plan_params.specs.LookUps.{admits_in, is_relief_in};
 ghost use Rattle.day_model.specs.Building.{most_trips};
-ghost use Rattle.day_model.specs.Layout.{AreLaidOut, admissions_of};
+ghost use Rattle.day_model.specs.Layout.{AreLaidOut, admissions_of, reliefs_of};
 
 use deadheads::Deadheads;
 use plan_core::{Memory, Point, Seq};
@@ -13,7 +13,7 @@ use point_grid::{Grid, PointTimes, grid_of, numbering_of};
 use std::alloc::Global;
 use trip_times::Trip;
 
-/// The times of deadheads by the numbers of trips and pools, and which pools admit which trips.
+/// The times of deadheads by the numbers of trips and pools, which pools admit which trips, and where drivers are relieved.
 #[derive(Drop)]
 pub struct Layout {
     /// For each trip the number of its first point.
@@ -28,6 +28,8 @@ pub struct Layout {
     pub inward: Grid,
     /// Whether pools admit trips, pool by pool.
     pub admitted: Seq<bool>,
+    /// For each trip whether drivers are relieved at its first point.
+    pub relieved: Seq<bool>,
 }
 
 /// How long deadheads take.
@@ -87,6 +89,16 @@ fn admissions(alloc: Global, params: &Params, trips: &[Trip]) -> Result<Seq<bool
     Ok(admitted)
 }
 
+fn reliefs(alloc: Global, params: &Params, trips: &[Trip]) -> Result<Seq<bool>, Memory>
+    ensures { IfOk result (λ relieved. relieved ≡ reliefs_of params.now trips.now) }
+{
+    let mut relieved = Seq::new(alloc);
+    for trip in trips {
+        relieved.push(params.relief(trip.from))?;
+    }
+    Ok(relieved)
+}
+
 /// What is asked of these trips and of the pools of these settings.
 pub(crate) fn layout_of(
     alloc: Global,
@@ -110,6 +122,7 @@ pub(crate) fn layout_of(
     let outward = grid_of(alloc, &times, depots, from)?;
     let inward = grid_of(alloc, &times, to, depots)?;
     let admitted = admissions(alloc, params, trips)?;
+    let relieved = reliefs(alloc, params, trips)?;
     Ok(Layout {
         begins: begins.numbers,
         ends: ends.numbers,
@@ -117,5 +130,6 @@ pub(crate) fn layout_of(
         outward,
         inward,
         admitted,
+        relieved,
     })
 }

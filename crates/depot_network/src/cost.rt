@@ -14,7 +14,6 @@ ghost use Rattle.depot_network.specs.Walk as walks;
 use crate::step::Step;
 use cover_core::Worth;
 use day_model::{Day, Link};
-use plan_core::Point;
 use plan_params::Pool;
 use trip_times::Trip;
 
@@ -51,13 +50,22 @@ fn link_cost(pool: &Pool, next: &Trip, link: Link) -> u64
     }
 }
 
-/// Whether a stand at a point is a cut.
-fn is_cut(day: &Day, pool: &Pool, at: Point, stand: u32) -> bool
-    ensures { result ≡ driving.is_cut_at day.now pool.now at stand }
+/// Whether a stand before a trip, at its first point, is a cut.
+fn is_cut_before(day: &Day, pool: &Pool, next: &Trip, u: u32, stand: u32) -> bool
+    requires next { slice_get day.now.trips u ≡ Some next.now }
+    requires there { u < length day.now.trips }
+    ensures { result ≡ driving.is_cut_at day.now pool.now next.now.from stand }
 {
     stand >= 1
         && (stand >= day.params().settings().handover
-            && (day.params().relief(at) || at == pool.depot))
+            && (day.begins_at_relief(u) || next.from == pool.depot))
+}
+
+/// Whether a stand at the depot is a cut.
+fn is_cut_at_depot(day: &Day, pool: &Pool, stand: u32) -> bool
+    ensures { result ≡ driving.is_cut_at day.now pool.now pool.now.depot stand }
+{
+    0 < stand && stand >= day.params().settings().handover
 }
 
 /// Driving that a piece may have.
@@ -100,8 +108,10 @@ fn trip_seconds(trip: &Trip) -> u32
 }
 
 /// The driving at the end of a later trip.
-fn driven_over(day: &Day, pool: &Pool, next: &Trip, link: Link, so_far: u32) -> Option<u32>
-    requires next { IsDaily next.now }
+fn driven_over(day: &Day, pool: &Pool, next: &Trip, u: u32, link: Link, so_far: u32) -> Option<u32>
+    requires next { slice_get day.now.trips u ≡ Some next.now }
+    requires there { u < length day.now.trips }
+    requires daily { IsDaily next.now }
     requires short { IsShort link }
     requires so_far { so_far ≤ longest_driving }
     ensures value { result ≡ driving.driven_over day.now pool.now next.now link so_far }
@@ -109,7 +119,7 @@ fn driven_over(day: &Day, pool: &Pool, next: &Trip, link: Link, so_far: u32) -> 
 {
     match link {
         Link::Direct { dead, stand } => {
-            let cut = is_cut(day, pool, next.from, stand);
+            let cut = is_cut_before(day, pool, next, u, stand);
             driven_past(cut, so_far, dead, 0 + trip_seconds(next))
         }
         Link::Depot {
@@ -117,7 +127,7 @@ fn driven_over(day: &Day, pool: &Pool, next: &Trip, link: Link, so_far: u32) -> 
             outward,
             stand,
         } => {
-            let cut = is_cut(day, pool, pool.depot, stand);
+            let cut = is_cut_at_depot(day, pool, stand);
             driven_past(cut, so_far, inward, outward + trip_seconds(next))
         }
     }
@@ -199,7 +209,7 @@ pub(crate) fn next_step(
         return None;
     }
     let link = day.connect(class, t, u)?;
-    let driving = driven_over(day, pool, next, link, so_far)?;
+    let driving = driven_over(day, pool, next, u, link, so_far)?;
     Some(Step {
         cost: link_cost(pool, next, link),
         driving,
