@@ -1,6 +1,7 @@
 -- The rests behind trips are bounds.
-use Rattle.std.proofs.Common.{◌≡◌, ℕ, ℤ, pos, neg_ℤ, ◌+◌, ◌-◌, ◌*◌, ◌+ℤ◌, ◌-ℤ◌, ◌≤ℤ◌, ◌<◌, inl, inr, Bool, List, length, Some, refl, sym, subst, ap, ◌∙◌, arith, slice_get, slice_index_or, slice_set, zero, suc, [], ◌∷◌}
+use Rattle.std.proofs.Common.{◌≡◌, ℕ, ℤ, pos, neg_ℤ, true, false, ◌+◌, ◌-◌, ◌*◌, ◌+ℤ◌, ◌-ℤ◌, ◌≤ℤ◌, ◌<◌, inl, inr, Bool, List, length, Some, refl, sym, subst, ap, ◌∙◌, arith, slice_get, slice_index_or, slice_set, zero, suc, [], ◌∷◌}
 use Rattle.std.proofs.Math.Nat.{eq-or-lt_of_le}
+use Rattle.std.proofs.lemmas.Bool.{cases_lt}
 use Rattle.std.proofs.lemmas.Int.{ints}
 use Rattle.std.specs.Option.{option_map}
 use Rattle.std.proofs.lemmas.Option.{slice_get_within}
@@ -16,7 +17,7 @@ use Rattle.depot_network.specs.Network.{caps_of}
 use Rattle.depot_network.specs.Open.{scaled}
 use Rattle.depot_network.specs.Walk.{added, ended}
 use Rattle.depot_network.proofs.Opens.{added_parts}
-use Rattle.path_pricing.specs.Blocks.{AreBoundsFrom, ClosesAbove, IsDeep, StepsAbove}
+use Rattle.path_pricing.specs.Blocks.{AreBoundsFrom, AreLows, ClosesAbove, IsDeep, IsLowOver, StepsAbove}
 
 get_there : {A : Type 0} (xs : List A) (k : ℕ) (d : A) → k < length xs → slice_get xs k ≡ Some (slice_index_or xs k d)
 get_there [] k d h = absurd (omega arith)
@@ -124,3 +125,48 @@ rests_end day counts prices pool rests long = record {
     ended_within t cost e =
         let (trip, there, e1) = and_then_some (λ (trip : Trip). option_map (λ inward. pool.dead_rate * inward) (pull_in day pool trip)) (slice_get day.trips t) cost e in
         slice_get_within day.trips t trip there
+
+-- What a link adds is at least 0. So where a number is at most each later rest less its price, no link to one of these trips adds less than
+-- that number, with the rest behind it: the trips from there on need no look.
+scaled_up : (counts : Bool) (cost : ℕ) → pos 0 ≤ℤ scaled counts cost
+scaled_up true cost = omega (arith, ints)
+scaled_up false cost = omega (arith, ints)
+
+pub steps_past : (day : DayFacts) (counts : Bool) (prices : List Price) (pool : Pool) (rests : List ℤ) (t from : ℕ) (least low : ℤ) → least ≤ℤ low →
+    IsLowOver prices rests from (length day.trips) low → StepsAbove day counts prices pool rests t from least →
+    StepsAbove day counts prices pool rests t (length day.trips) least
+steps_past day counts prices pool rests t from least low below over before u cost within linked =
+    elim (cases_lt u from) [
+      | inl early ↦ before u cost early linked
+      | inr late ↦ let own = over u late within in let up = scaled_up counts cost in omega (arith, ints, below, own, up)
+    ]
+
+-- the rest of one trip more is made, and with it a number that none of the rests less their prices is lower than
+pub low_set : (prices : List Price) (rests : List ℤ) (k end : ℕ) (v low new : ℤ) → k < length rests → new ≤ℤ low → new ≤ℤ (v -ℤ price_at prices k) →
+    IsLowOver prices rests (k + 1) end low → IsLowOver prices (slice_set rests k v) k end new
+low_set prices rests k end v low new there first second over u from before =
+    elim (eq-or-lt_of_le {n = k} {m = u} from) [
+      | inl same ↦
+          let is : number_at (slice_set rests k v) u ≡ v = ap (number_at (slice_set rests k v)) (sym same) ∙ number_set rests k v there in
+          let price : price_at prices u ≡ price_at prices k = ap (price_at prices) (sym same) in
+          omega (arith, ints, is, price, second)
+      | inr other ↦
+          let is = number_other rests k u v other in
+          let old = over u (omega (arith, other)) before in
+          omega (arith, ints, is, old, first)
+    ]
+
+pub lows_set : (prices : List Price) (rests lows : List ℤ) (k end : ℕ) (v new : ℤ) → k < length lows → IsLowOver prices (slice_set rests k v) k end new →
+    AreLows prices rests lows (k + 1) end → AreLows prices (slice_set rests k v) (slice_set lows k new) k end
+lows_set prices rests lows k end v new there over are u from before =
+    elim (eq-or-lt_of_le {n = k} {m = u} from) [
+      | inl same ↦
+          let is : number_at (slice_set lows k new) u ≡ new = ap (number_at (slice_set lows k new)) (sym same) ∙ number_set lows k new there in
+          λ w up within. (let own = over w (omega (arith, up, from)) within in omega (arith, ints, is, own))
+      | inr other ↦
+          let is = number_other lows k u new other in
+          λ w up within. (
+          let old = are u (omega (arith, other)) before w up within in
+          let rest = number_other rests k w v (omega (arith, up, other)) in
+          omega (arith, ints, is, old, rest))
+    ]

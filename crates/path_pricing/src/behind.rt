@@ -6,7 +6,7 @@ ghost use Rattle.cover_core.specs.Plans.{number_at, price_at};
 ghost use Rattle.plan_params.specs.Limits.{IsPool};
 ghost use Rattle.depot_network.specs.Open.{scaled};
 ghost use Rattle.depot_network.specs.Walk.{added, ended};
-ghost use Rattle.path_pricing.specs.Blocks.{AreBoundsFrom, ClosesAbove, IsDeep, StepsAbove};
+ghost use Rattle.path_pricing.specs.Blocks.{AreBoundsFrom, AreLows, ClosesAbove, IsDeep, IsLowOver, StepsAbove};
 
 use depot_network::{PoolNet, price};
 use label_search::rest;
@@ -37,6 +37,18 @@ fn sum_over(cost: i64, price: i64, rest: i64) -> i64
     ensures { result ≡ cost -ℤ price +ℤ rest }
 {
     cost - price + rest
+}
+
+/// The lower of a number and of a rest less a price.
+fn low_with(low: i64, rest: i64, price: i64) -> i64
+    requires rest_low { neg_ℤ (pos 30000000000000000) ≤ℤ rest }
+    requires rest_high { rest ≤ℤ pos 100000000000000000 }
+    requires price_low { neg_ℤ (pos 10000000000000) ≤ℤ price }
+    requires price_high { price ≤ℤ pos 10000000000000 }
+    ensures first { result ≤ℤ low }
+    ensures second { result ≤ℤ (rest -ℤ price) }
+{
+    lower(low, rest - price)
 }
 
 /// What is known so far of the rest behind a trip, with a further trip looked at.
@@ -83,13 +95,24 @@ fn with_pull_in(net: &PoolNet<'_>, class: u32, pool: &Pool, t: u32) -> i64
     }
 }
 
-/// What the continuations behind a trip add at least, from what those behind later trips do.
+/// The number of a trip.
+fn number(numbers: &[i64], t: u32) -> i64
+    requires { t < length numbers.now }
+    ensures { result ≡ number_at numbers.now t }
+{
+    numbers[t as usize]
+}
+
+/// What the continuations behind a trip add at least, from what those behind later trips do. `lows` has for each later trip a number that
+/// neither its rest less its price nor that of a trip behind it is below: no link adds less than nothing, so once that number is no lower
+/// than what is known, the trips from there on need no look.
 fn rest_behind(
     net: &PoolNet<'_>,
     class: u32,
     pool: &Pool,
     prices: &[Price],
     rests: &[i64],
+    lows: &[i64],
     t: u32,
 ) -> i64
     requires there { slice_get net.now.day.params.pools class ≡ Some pool.now }
@@ -98,6 +121,8 @@ fn rest_behind(
     requires trip { t < length net.now.day.trips }
     requires few { length net.now.day.trips ≤ 3000 }
     requires deep { (u : ℕ) → t < u → IsDeep (length net.now.day.trips) u (number_at rests.now u) }
+    requires count { length lows.now ≡ length net.now.day.trips }
+    requires lows { AreLows prices.now rests.now lows.now (t + 1) (length net.now.day.trips) }
     ensures closes { ClosesAbove net.now.day net.now.counts pool.now t result }
     ensures steps { StepsAbove net.now.day net.now.counts prices.now pool.now rests.now t (length net.now.day.trips) result }
     ensures deep { IsDeep (length net.now.day.trips) t result }
@@ -105,6 +130,9 @@ fn rest_behind(
     let count = net.day().trips().len() as u32;
     let mut least = with_pull_in(net, class, pool, t);
     for u in t + 1..count {
+        if least <= number(lows, u) {
+            return least;
+        }
         least = with_link(net, class, pool, prices, rests, t, u, least);
     }
     least
@@ -122,7 +150,9 @@ fn blank(alloc: Global, count: usize) -> Result<Vec<i64>, Memory>
 }
 
 /// For each trip from one on what the continuations behind it add at least, as far as links go: nothing is known here of what may be driven
-/// between two cuts. There are at most 3,000 trips; prices are from -10,000,000,000,000 to 10,000,000,000,000. `Memory` is the only error.
+/// between two cuts. There are at most 3,000 trips; prices are from -10,000,000,000,000 to 10,000,000,000,000. Time is at most in the order
+/// of the square of the trips; for each trip the later ones are looked at as far as one of them may still lower what was found. `Memory` is
+/// the only error.
 pub fn rests_from(
     alloc: Global,
     net: &PoolNet<'_>,
@@ -139,11 +169,23 @@ pub fn rests_from(
 {
     let count = net.day().trips().len();
     let mut rests = blank(alloc, count)?;
+    let mut lows = blank(alloc, count)?;
+    let mut low = FAR;
     let mut t = count as u32;
     while t > from {
         t -= 1;
-        let rest = rest_behind(net, class, pool, prices, rests.as_slice(), t);
+        let rest = rest_behind(
+            net,
+            class,
+            pool,
+            prices,
+            rests.as_slice(),
+            lows.as_slice(),
+            t,
+        );
+        low = low_with(low, rest, price(prices, t));
         rests[t as usize] = rest;
+        lows[t as usize] = low;
     }
     Ok(rests)
 }

@@ -1,8 +1,9 @@
-use Rattle.std.proofs.Common.{◌≡◌, ◌+◌, ℤ, arith, length, rules, subst, sym, to_z, of_z, w64}
+use Rattle.std.proofs.Common.{◌≡◌, ◌≤◌, ◌<◌, ◌≤ℤ◌, ◌+◌, ℤ, arith, length, rules, subst, sym, to_z, of_z, w64}
 use Rattle.std.proofs.lemmas.Int.{ints, to_z-of_z}
 use Rattle.std.specs.Prelude.{FitsSigned}
 use Rattle.path_pricing.specs.Blocks.{ClosesAbove, IsDeep, StepsAbove}
-use Rattle.path_pricing.proofs.Places.{steps_more}
+use Rattle.cover_core.specs.Plans.{number_at}
+use Rattle.path_pricing.proofs.Places.{steps_more, steps_past}
 use Rattle.path_pricing.proofs.behind.rest_behind.Goals as goal
 
 pub loop-u-preserved : goal.loop-u-preserved
@@ -22,3 +23,13 @@ loop-u-preserved c =
       steps = subst Steps (sym back) steps;
       deep = subst Deep (sym back) c.with_link-least.ensures.deep;
     }
+
+pub returns-then-least-number-clause-steps : goal.returns-then-least-number-clause-steps
+returns-then-least-number-clause-steps c =
+    let net = c.args.net.now in
+    let u = c.loop-u.u in
+    let behind : c.args.t + 1 ≤ u = search rules in
+    let there : u < length net.day.trips = search rules in
+    let below : to_z w64 c.loop-u.least-bits ≤ℤ number_at c.args.lows.now u = omega (arith, ints, c.if-least-number.true, c.number.ensures) in
+    steps_past net.day net.counts c.args.prices.now c.args.pool.now c.args.rests.now c.args.t u _ (number_at c.args.lows.now u) below
+    (c.requires.lows u behind there) c.loop-u.invariant.steps
