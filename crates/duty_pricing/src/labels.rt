@@ -102,7 +102,7 @@ fn passing(test: bool, mark: Mark) -> Option<Mark>
 fn has(a: bool, b: bool) -> bool
     ensures { result ≡ not b || a }
 {
-    !b || a
+    !b | a
 }
 
 /// Whether two flags are the same.
@@ -112,18 +112,18 @@ fn is_same(a: bool, b: bool) -> bool
     if b { a } else { !a }
 }
 
-/// Whether a mark is at least as good as another.
+/// Whether a mark is at least as good as another. All is compared before one jump: which comparison fails first is hard to foresee.
 fn is_better(a: &Mark, b: &Mark) -> bool
     ensures { result ≡ is_as_good a.now b.now }
 {
-    a.class == b.class
-        && a.piece == b.piece
-        && b.start.0 <= a.start.0
-        && a.driving <= b.driving
-        && is_same(a.quarter, b.quarter)
-        && a.total <= b.total
-        && has(a.three, b.three)
-        && a.value <= b.value
+    (a.class == b.class)
+        & (a.piece == b.piece)
+        & (b.start.0 <= a.start.0)
+        & (a.driving <= b.driving)
+        & is_same(a.quarter, b.quarter)
+        & (a.total <= b.total)
+        & has(a.three, b.three)
+        & (a.value <= b.value)
 }
 
 impl<'a, 'p> DutyLabels<'a, 'p> {
@@ -232,6 +232,9 @@ impl DutyLabels<'_, '_> {
         requires sound { IsRangeMark (length self.now.net.now.pieces) self.now.first self.now.latest mark.now }
         ensures { result ≡ true → passed (is_low (floor_of self.now.reach self.now.crew self.now.rows.items self.now.over.items) limit) (extended_mark self.now.net.now self.now.crew self.now.prices.now mark.now item) ≡ None }
     {
+        if self.is_too_high(mark.value, item, 15, limit) {
+            return true;
+        }
         let left = self.left(mark.total);
         let taken = in_units(&self.reach, self.net.piece(item).driving);
         taken > left || self.is_too_high(mark.value, item, left - taken, limit)
