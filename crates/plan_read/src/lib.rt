@@ -12,6 +12,10 @@ mod reading;
 mod rows;
 mod table;
 #[cfg(test)]
+mod test_day;
+#[cfg(test)]
+mod test_ranges;
+#[cfg(test)]
 mod tests;
 mod told;
 

@@ -2,7 +2,7 @@ use Rattle.std.proofs.Common.{◌≤◌, List, [], ◌∷◌, All}
 use Rattle.std.proofs.lemmas.List.Elements.{All-head, All-tail}
 use Rattle.cover_core.specs.declared.Column.{Column}
 use Rattle.cover_core.specs.FirstLeast.{AreCheap}
-use Rattle.plan_read.proofs.tests.are_cheap.Goals as goal
+use Rattle.plan_read.proofs.test_ranges.are_cheap.Goals as goal
 
 abbrev IsCheap : Column → Type 0
 IsCheap column = column.worth ≤ 4000000000

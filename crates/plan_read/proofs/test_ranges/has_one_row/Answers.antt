@@ -2,7 +2,7 @@ use Rattle.std.proofs.Common.{arith}
 use Rattle.std.proofs.lemmas.Grind.{common_steps}
 use Rattle.std.proofs.lemmas.List.Sums.{length-filter}
 use Rattle.umlauf_write.specs.Trips.{is_row_of}
-use Rattle.plan_read.proofs.tests.has_one_row.Goals as goal
+use Rattle.plan_read.proofs.test_ranges.has_one_row.Goals as goal
 
 pub returns : goal.returns
 returns c =

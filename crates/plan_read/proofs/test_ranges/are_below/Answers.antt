@@ -1,7 +1,7 @@
 use Rattle.std.proofs.Common.{ℕ, ◌<◌, List, [], ◌∷◌, All}
 use Rattle.std.proofs.lemmas.List.Elements.{All-head, All-tail}
 use Rattle.cover_core.specs.Cover.{AllBelow}
-use Rattle.plan_read.proofs.tests.are_below.Goals as goal
+use Rattle.plan_read.proofs.test_ranges.are_below.Goals as goal
 
 AllBelow-from : (n : ℕ) (items : List ℕ) → All (λ item. item < n) items → AllBelow n items
 AllBelow-from n [] each = tt
