@@ -1,11 +1,12 @@
 #!/usr/bin/env python3
 """Measures the planner on made days, and writes what it found as a Markdown page.
 
-    bench/measure.py [--seed N] [--trips N,N,..] [--workers N,N,..] [--runs N] [--solver-trips N] [--option WORD ..] [--page FILE]
+    bench/measure.py [--seed N,N,..] [--trips N,N,..] [--workers N,N,..] [--runs N] [--solver-trips N] [--option WORD ..] [--certify] [--page FILE]
 
-For each number of trips and of workers it runs `planner make SEED --trips N --run --workers W`, several times, and takes the best run: wall
-seconds, processor seconds and the greatest memory. Beside them stand what the run printed: numbers and costs of blocks and duties, their
-proved bounds, and how far the two lie apart. Where the solver CBC is installed (Debian's package coinor-cbc), the block costs of days of at
+For each number of trips, seed and number of workers it runs `planner make SEED --trips N --run --workers W`, several times, and takes the best
+run: wall seconds, processor seconds and the greatest memory. Beside them stand what the run printed: numbers and costs of blocks and duties,
+their proved bounds, and how far the two lie apart. With --certify the day's tables, its plan and its certificate are written too, by the same
+options and the last number of workers, and `check` says what it says of them. Where the solver CBC is installed (Debian's package coinor-cbc), the block costs of days of at
 most --solver-trips trips are also minimised by it, in the network-flow model of the multi-depot vehicle scheduling problem (Bertossi,
 Carraresi and Gallo, Networks 17, 1987; one commodity a depot), without the limit on the driving of a piece, which no block of these days reaches unless
 the solver finds otherwise. It measures; it is no test.
@@ -160,6 +161,20 @@ def solved(text, seconds):
     return round(cost), math.ceil((cost if bound is None else bound) - 1e-6), took
 
 
+def checked(made, workers, options):
+    """What `check` says of the plan and certificate of a made day: seconds and memory of `certify`, the certificate's size, seconds, answer."""
+    with tempfile.TemporaryDirectory() as folder:
+        day, plan, cert = (os.path.join(folder, name) for name in ("day.x10", "plan.x10", "cert.x10"))
+        write = lambda path, text: open(path, "w", encoding="iso8859-1", newline="").write(text)
+        write(day, made)
+        words = ["--workers", str(workers)] + options
+        write(plan, run(["plan", "20260302", day] + words)[0])
+        text, wall, _, memory = run(["certify", "20260302", day] + words)
+        write(cert, text)
+        answer, took, _, _ = run(["check", "20260302", plan, cert, day])
+        return f"{wall:.1f}", f"{len(text) / 1e6:.1f}", f"{memory:.0f}", f"{took:.1f}", answer.strip()
+
+
 def machine():
     name = platform.processor() or platform.machine()
     try:
@@ -173,47 +188,55 @@ def machine():
 def main():
     numbers = lambda text: [int(word) for word in text.split(",")]
     parser = argparse.ArgumentParser(description=__doc__.splitlines()[0])
-    parser.add_argument("--seed", type=int, default=7)
+    parser.add_argument("--seed", type=numbers, default=[7])
     parser.add_argument("--trips", type=numbers, default=[60, 120, 240, 480, 960, 3000])
     parser.add_argument("--workers", type=numbers, default=[1, 2, 4])
     parser.add_argument("--runs", type=int, default=3)
     parser.add_argument("--solver-trips", type=int, default=240)
     parser.add_argument("--solver-seconds", type=int, default=600)
     parser.add_argument("--option", action="append", default=[], help="a further word for the planner, as --option=--rounds=200")
+    parser.add_argument("--certify", action="store_true", help="write plan and certificate of each day too, and check them")
     parser.add_argument("--page", help="the page to write; else bench/DAY-MACHINE.md")
     given = parser.parse_args()
     if not os.path.exists(PROGRAM):
         sys.exit("measure: the program is not built: call ./planner once")
     today = datetime.date.today().isoformat()
+    seeds = ", ".join(map(str, given.seed))
     lines = [
         f"# Made days, measured on {today}", "",
-        f"Machine: {machine()}, load {os.getloadavg()[0]:.1f} at the start. Seed {given.seed}; options: {' '.join(given.option) or 'none'}; best of {given.runs} runs.", "",
-        "| trips | workers | wall s | processor s | memory MB | over 1 worker | blocks | bound | block costs | bound | gap | duties | bound | duty costs | bound | gap |",
-        "|--:|--:|--:|--:|--:|--:|--:|--:|--:|--:|--:|--:|--:|--:|--:|--:|",
+        f"Machine: {machine()}, load {os.getloadavg()[0]:.1f} at the start. Seed {seeds}; options: {' '.join(given.option) or 'none'}; best of {given.runs} runs.", "",
+        "| trips | seed | workers | wall s | processor s | memory MB | over 1 worker | blocks | bound | block costs | bound | gap | duties | bound | duty costs | bound | gap |",
+        "|--:|--:|--:|--:|--:|--:|--:|--:|--:|--:|--:|--:|--:|--:|--:|--:|--:|",
     ]
-    walls, solver = {}, []
+    walls, solver, checks = {}, [], []
     for trips in given.trips:
-        first = None
-        for workers in given.workers:
-            words = ["make", str(given.seed), "--trips", str(trips), "--run", "--workers", str(workers)] + given.option
-            text, wall, processor, memory = best_of(words, given.runs)
-            if first is None:
-                first, same = wall, text
-            elif text != same:
-                sys.exit(f"measure: the text changed with the number of workers at {trips} trips")
-            walls.setdefault(workers, {})[trips] = wall
-            row = [(int(r["WERT"]), int(r["SCHRANKE"])) for r in rows(tables(text), "X_SCHRANKE")]
-            cells = [trips, workers, f"{wall:.2f}", f"{processor:.2f}", f"{memory:.0f}", f"{first / wall:.2f}", *row[0], *row[1], gap(*row[1]), *row[2], *row[3], gap(*row[3])]
-            lines.append("| " + " | ".join(str(cell) for cell in cells) + " |")
-            print(lines[-1], flush=True)
-        if trips <= given.solver_trips:
-            made = run(["make", str(given.seed), "--trips", str(trips)])[0]
-            answer = solved(made, given.solver_seconds)
-            if answer is not None:
-                cost, bound, took = answer
-                own = row[1][0]
-                solver.append(f"| {trips} | {cost} | {bound} | {took:.1f} | {own} | {100 * (own - cost) / cost:.2f} % |")
-                print(solver[-1], flush=True)
+        for seed in given.seed:
+            first = None
+            for workers in given.workers:
+                words = ["make", str(seed), "--trips", str(trips), "--run", "--workers", str(workers)] + given.option
+                text, wall, processor, memory = best_of(words, given.runs)
+                if first is None:
+                    first, same = wall, text
+                elif text != same:
+                    sys.exit(f"measure: the text changed with the number of workers at {trips} trips")
+                if seed == given.seed[0]:
+                    walls.setdefault(workers, {})[trips] = wall
+                row = [(int(r["WERT"]), int(r["SCHRANKE"])) for r in rows(tables(text), "X_SCHRANKE")]
+                over = f"{first / wall:.2f}" if given.workers[0] == 1 else "-"
+                cells = [trips, seed, workers, f"{wall:.2f}", f"{processor:.2f}", f"{memory:.0f}", over, *row[0], *row[1], gap(*row[1]), *row[2], *row[3], gap(*row[3])]
+                lines.append("| " + " | ".join(str(cell) for cell in cells) + " |")
+                print(lines[-1], flush=True)
+            made = run(["make", str(seed), "--trips", str(trips)])[0]
+            if trips <= given.solver_trips:
+                answer = solved(made, given.solver_seconds)
+                if answer is not None:
+                    cost, bound, took = answer
+                    own = row[1][0]
+                    solver.append(f"| {trips} | {seed} | {cost} | {bound} | {took:.1f} | {own} | {100 * (own - cost) / cost:.2f} % |")
+                    print(solver[-1], flush=True)
+            if given.certify:
+                checks.append(f"| {trips} | {seed} | " + " | ".join(checked(made, given.workers[-1], given.option)) + " |")
+                print(checks[-1], flush=True)
     lines += ["", "Growth of the wall time with the number of trips, as the exponent between neighbouring sizes:", ""]
     for workers, by_trips in walls.items():
         sizes = sorted(by_trips)
@@ -221,7 +244,10 @@ def main():
         lines.append(f"- {workers} worker{'s' if workers > 1 else ''}: " + "; ".join(steps))
     if solver:
         lines += ["", "The block costs beside those of CBC on the same days (the network-flow model, without the limit on the driving of a piece):", "",
-                  "| trips | CBC's cost | CBC's bound | CBC s | own cost | own above CBC's |", "|--:|--:|--:|--:|--:|--:|"] + solver
+                  "| trips | seed | CBC's cost | CBC's bound | CBC s | own cost | own above CBC's |", "|--:|--:|--:|--:|--:|--:|--:|"] + solver
+    if checks:
+        lines += ["", "Certificates of these plans, and what `check` says:", "",
+                  "| trips | seed | certify s | certificate MB | memory MB | check s | answer |", "|--:|--:|--:|--:|--:|--:|:--|"] + checks
     page = given.page or os.path.join(TOP, "bench", f"{today}-{platform.machine()}-{os.cpu_count()}-cores.md")
     with open(page, "w") as out:
         out.write("\n".join(lines) + "\n")
