@@ -175,6 +175,9 @@ pub fn improve<R: Threads + Sync, C: Columns + Sync>(
 {
     steps_keep_plans::<C>();
     ask_worths(columns, plan.columns.as_slice());
+    if steps == 0 {
+        return Ok(0);
+    }
     let mut leasts = all_leasts(rt, alloc, columns, plan.columns.as_slice())?;
     for made in 0..steps {
         if !make_step(rt, alloc, columns, &mut plan.columns, &mut leasts)? {
