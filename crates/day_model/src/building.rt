@@ -3,6 +3,7 @@
 ghost use Rattle.std.specs.Prelude.{◌≡◌, ◌⊎◌, ◌<◌, ◌≤◌, ◌^◌, All, IfOk, IfErr, IsErrAnd, Ok, Err, None, Some, OnOk, length};
 ghost use Rattle.vdv452_tables.specs.Ranges.{IsTime};
 ghost use Rattle.day_calendar.specs.DayTrips.{AreDayRows};
+ghost use Rattle.deadheads.specs.DeadTimes.{AreDeadheads};
 ghost use Rattle.plan_params.specs.Faults.{first_fault};
 ghost use Rattle.plan_params.specs.Limits.{HaveRanges};
 ghost use Rattle.plan_params.specs.Settings.{params_of};
@@ -16,7 +17,7 @@ use crate::fault::DayModelFault;
 use crate::layout::layout_of;
 use day_calendar::{DayKind, day_rows};
 use deadheads::Deadheads;
-use plan_core::Seq;
+use plan_core::{Memory, Seq};
 use plan_params::{ParamKind, Params, read_params};
 use std::alloc::Global;
 use trip_times::{Trip, time_trip};
@@ -75,6 +76,46 @@ fn settings_of(alloc: Global, net: &Network, version: u32) -> Result<Params, Day
     }
 }
 
+/// The day of these parts, laid out.
+fn laid_day(
+    alloc: Global,
+    kind: DayKind,
+    rows: Seq<u32>,
+    trips: Seq<Trip>,
+    params: Params,
+    deadheads: Deadheads,
+) -> Result<Day, Memory>
+    requires count { length rows ≡ length trips }
+    requires few { length trips ≤ most_trips }
+    requires daily { All IsDaily trips }
+    requires ranges { HaveRanges params }
+    ensures { IfOk result (λ day. day ≡ record { kind = kind; rows = rows; trips = trips; params = params; deads = deadheads }) }
+{
+    let layout = layout_of(alloc, trips.as_slice(), &params, &deadheads)?;
+    Day::new(alloc, kind, rows, trips, params, deadheads, layout)
+}
+
+/// The day of these trips, with the deadheads of a network.
+fn timed_day(
+    alloc: Global,
+    net: &Network,
+    kind: DayKind,
+    rows: Seq<u32>,
+    trips: Seq<Trip>,
+    params: Params,
+) -> Result<Day, Memory>
+    requires count { length rows ≡ length trips }
+    requires few { length trips ≤ most_trips }
+    requires daily { All IsDaily trips }
+    requires ranges { HaveRanges params }
+    ensures parts { IfOk result (λ day. day ≡ record { kind = kind; rows = rows; trips = trips; params = params; deads = day.deads }) }
+    ensures deads { IfOk result (λ day. AreDeadheads net.now kind.version params.settings.area params.settings.group day.deads) }
+{
+    let settings = params.settings();
+    let deadheads = Deadheads::new(alloc, net, kind.version, settings.area, settings.group)?;
+    laid_day(alloc, kind, rows, trips, params, deadheads)
+}
+
 /// Puts the parts of a day together.
 fn day_of(
     alloc: Global,
@@ -94,10 +135,7 @@ fn day_of(
     ensures fault { IfErr result (λ fault. (fault ≡ DayModelFault.Memory) ⊎ (timed_rows net.now kind.now.version (rows_at net.now.trips rows) ≡ Err fault)) }
 {
     let trips = time_rows(alloc, net, kind.version, rows.as_slice())?;
-    let settings = params.settings();
-    let deadheads = Deadheads::new(alloc, net, kind.version, settings.area, settings.group)?;
-    let layout = layout_of(alloc, trips.as_slice(), &params, &deadheads)?;
-    Ok(Day::new(alloc, *kind, rows, trips, params, deadheads, layout)?)
+    Ok(timed_day(alloc, net, *kind, rows, trips, params)?)
 }
 
 /// The day whose trips have their rows at these places, or the first reason why there is none.

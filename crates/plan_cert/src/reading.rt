@@ -1,6 +1,6 @@
 //! Certificates, read from tables.
 
-ghost use Rattle.std.specs.Prelude.{◌≡◌, ◌<◌, ℕ, All, IfOk, length, map};
+ghost use Rattle.std.specs.Prelude.{◌≡◌, ◌<◌, ◌++◌, ◌∷◌, [], ℕ, All, IfOk, OnOk, length, map};
 ghost use Rattle.plan_cert.specs.Certificates as spec;
 ghost use Rattle.plan_cert.specs.Laws.{AreParts, HaveMarksBelow};
 ghost use Rattle.plan_cert.specs.Places.{Gives};
@@ -74,15 +74,73 @@ fn duty_part(
     })
 }
 
+/// Puts the part of a pass over blocks last.
+fn add_block_part(
+    alloc: Global,
+    parts: &mut Seq<CertPart>,
+    numbers: &Seq<i64>,
+    class_prices: Seq<i64>,
+    marks: Seq<BlockMark>,
+) -> Result<(), Memory>
+    ensures { OnOk result (parts.new ≡ parts.old ++ spec.block_part numbers.now class_prices marks ∷ []) }
+{
+    parts.push(block_part(alloc, numbers, class_prices, marks)?)
+}
+
+/// Puts the part of a pass over duties last.
+fn add_duty_part(
+    alloc: Global,
+    parts: &mut Seq<CertPart>,
+    numbers: &Seq<i64>,
+    class_prices: Seq<i64>,
+    marks: Seq<Mark>,
+) -> Result<(), Memory>
+    ensures { OnOk result (parts.new ≡ parts.old ++ spec.duty_part numbers.now class_prices marks ∷ []) }
+{
+    parts.push(duty_part(alloc, numbers, class_prices, marks)?)
+}
+
+/// Puts the parts of both passes over blocks last.
+fn add_block_parts(
+    alloc: Global,
+    parts: &mut Seq<CertPart>,
+    prices: &FourLists,
+    number: Seq<i64>,
+    cost: Seq<i64>,
+    marks: BlockMarks,
+) -> Result<(), Memory>
+    ensures { OnOk result (parts.new ≡ (parts.old ++ spec.block_part prices.now.block_number number marks.of_number ∷ []) ++ spec.block_part prices.now.block_cost cost marks.of_cost ∷ []) }
+{
+    let BlockMarks { of_number, of_cost } = marks;
+    add_block_part(alloc, parts, &prices.block_number, number, of_number)?;
+    add_block_part(alloc, parts, &prices.block_cost, cost, of_cost)
+}
+
+/// Puts the parts of both passes over duties last.
+fn add_duty_parts(
+    alloc: Global,
+    parts: &mut Seq<CertPart>,
+    prices: &FourLists,
+    number: Seq<i64>,
+    cost: Seq<i64>,
+    marks: DutyMarks,
+) -> Result<(), Memory>
+    ensures { OnOk result (parts.new ≡ (parts.old ++ spec.duty_part prices.now.duty_number number marks.of_number ∷ []) ++ spec.duty_part prices.now.duty_cost cost marks.of_cost ∷ []) }
+{
+    let DutyMarks { of_number, of_cost } = marks;
+    add_duty_part(alloc, parts, &prices.duty_number, number, of_number)?;
+    add_duty_part(alloc, parts, &prices.duty_cost, cost, of_cost)
+}
+
 /// The certificate of prices and marks.
 fn cert_from(
     alloc: Global,
-    prices: FourLists,
+    prices: &FourLists,
     class_prices: FourLists,
     duties: DutyMarks,
     blocks: BlockMarks,
 ) -> Result<Cert, Memory>
-    ensures { IfOk result (λ cert. cert ≡ spec.cert_from prices class_prices duties blocks) }
+    ensures { IfOk result (λ cert. cert ≡ spec.cert_from prices.now class_prices duties blocks) }
 {
     let FourLists {
         block_number,
@@ -90,17 +148,9 @@ fn cert_from(
         duty_number,
         duty_cost,
     } = class_prices;
-    let BlockMarks { of_number, of_cost } = blocks;
-    let one = block_part(alloc, &prices.block_number, block_number, of_number)?;
-    let two = block_part(alloc, &prices.block_cost, block_cost, of_cost)?;
-    let DutyMarks { of_number, of_cost } = duties;
-    let three = duty_part(alloc, &prices.duty_number, duty_number, of_number)?;
-    let four = duty_part(alloc, &prices.duty_cost, duty_cost, of_cost)?;
     let mut parts = Seq::new(alloc);
-    parts.push(one)?;
-    parts.push(two)?;
-    parts.push(three)?;
-    parts.push(four)?;
+    add_block_parts(alloc, &mut parts, prices, block_number, block_cost, blocks)?;
+    add_duty_parts(alloc, &mut parts, prices, duty_number, duty_cost, duties)?;
     Ok(Cert { parts })
 }
 
@@ -113,7 +163,7 @@ fn read_shaped(alloc: Global, shape: &Shape, tables: &[Table]) -> Result<Cert, C
     let class_prices = read_prices(alloc, Priced::Classes, shape, tables)?;
     let duties = read_duty_marks(alloc, shape, tables)?;
     let blocks = read_block_marks(alloc, shape, tables)?;
-    Ok(cert_from(alloc, prices, class_prices, duties, blocks)?)
+    Ok(cert_from(alloc, &prices, class_prices, duties, blocks)?)
 }
 
 /// The certificate that the four tables X_PREIS, X_KLASSENPREIS, X_MARKE and X_UMARKE say of a day and of so many pieces of its blocks.
