@@ -9,12 +9,14 @@
 #![tactic(auto)]
 
 mod climbing;
+mod counting;
 mod fault;
 mod known;
 mod laws;
 mod making;
 mod planned;
 
+pub use counting::Counting;
 pub use fault::PlanFault;
 pub use known::KnownPlan;
 pub use laws::ends_once;

@@ -14,6 +14,7 @@ ghost use Rattle.cover_plan.specs.Ends.{IsCause, IsCountBoundOf, IsCountCause, I
 ghost use Rattle.cover_plan.specs.Steps.{IsCostCause, IsRoundedCause, HasPool};
 
 use crate::climbing::{climbed_count, climbed_plan};
+use crate::counting::{Counting, counting_effort};
 use crate::fault::PlanFault;
 use crate::planned::Planned;
 use cover_core::{Columns, Plan, Pricer, plan_sizes};
@@ -58,6 +59,7 @@ fn kept_count<R: Threads + Sync, P: Pricer + Sync, G: Gate + Sync>(
     alloc: Global,
     counted: &P,
     effort: &Effort,
+    counting: Counting,
     gate: &G,
 ) -> Result<Kept, Memory>
     requires effort { IsEffort effort.now }
@@ -65,7 +67,7 @@ fn kept_count<R: Threads + Sync, P: Pricer + Sync, G: Gate + Sync>(
     ensures paid { IfOk result (IsPaidOffer (P.problem counted.now)) }
 {
     if effort.climb {
-        climbed_count(rt, alloc, counted, effort, gate)
+        climbed_count(rt, alloc, counted, &counting_effort(effort, counting), gate)
     } else {
         first_count(rt, alloc, counted, effort, gate)
     }
@@ -73,7 +75,8 @@ fn kept_count<R: Threads + Sync, P: Pricer + Sync, G: Gate + Sync>(
 
 /// The first pass alone: the kept offer with each worth 1, by the method of the effort. No plan has fewer columns than its bound.
 ///
-/// `counted` is the problem with each worth 1, and `costed` the one with costs, of whose plans the bound speaks.
+/// `counted` is the problem with each worth 1, and `costed` the one with costs, of whose plans the bound speaks. `counting` says how many of
+/// the effort's rounds the pass is given where it climbs; with fixed rounds it changes nothing.
 ///
 /// # Errors
 ///
@@ -84,6 +87,7 @@ pub fn count_of<R: Threads + Sync, P: Pricer + Sync, G: Gate + Sync>(
     counted: &P,
     costed: &P,
     effort: &Effort,
+    counting: Counting,
     gate: &G,
 ) -> Result<Kept, PlanFault>
     requires effort { IsEffort effort.now }
@@ -94,7 +98,7 @@ pub fn count_of<R: Threads + Sync, P: Pricer + Sync, G: Gate + Sync>(
     ensures cause { IfErr result (IsCountCause (P.problem counted.now) (P.problem costed.now) (numbers_of effort.now)) }
 {
     plan_sizes::<P>();
-    match kept_count(rt, alloc, counted, effort, gate) {
+    match kept_count(rt, alloc, counted, effort, counting, gate) {
         Err(Memory) => Err(PlanFault::Memory),
         Ok(kept) => {
             let places = places(counted);
@@ -188,7 +192,8 @@ fn cost_plan<R: Threads + Sync, P: Pricer + Sync, G: Gate + Sync>(
 
 /// Plans a problem: a pass with each worth 1, which bounds the number of columns of every plan; a pass with costs, which bounds their
 /// costs; then the pool of the second pass is rounded at its kept prices, and exchange steps make the plan cheaper. Where the effort is to
-/// climb, both passes are made by [`climb_rounds`] instead, and the second one has the plan.
+/// climb, both passes are made by [`climb_rounds`] instead, and the second one has the plan; `counting` says how many of the effort's rounds
+/// the first one is then given.
 ///
 /// `counted` is the problem with each worth 1 and `costed` the one with costs. What is given is defined without workers and gates
 /// (`specs/Endings.antt`). The definition admits one ending alone, unless the effort is to climb: then it says that the plan is one, and
@@ -205,6 +210,7 @@ pub fn plan_of<R: Threads + Sync, P: Pricer + Sync, G: Gate + Sync>(
     counted: &P,
     costed: &P,
     effort: &Effort,
+    counting: Counting,
     gate: &G,
 ) -> Result<Planned, PlanFault>
     requires effort { IsEffort effort.now }
@@ -218,7 +224,7 @@ pub fn plan_of<R: Threads + Sync, P: Pricer + Sync, G: Gate + Sync>(
     ensures cost_paid { IfOk result (λ r. IsPaidOffer (P.problem costed.now) r.cost) }
     ensures cause { IfErr result (IsCause (P.problem counted.now) (P.problem costed.now) (numbers_of effort.now)) }
 {
-    match count_of(rt, alloc, counted, costed, effort, gate) {
+    match count_of(rt, alloc, counted, costed, effort, counting, gate) {
         Err(fault) => Err(fault),
         Ok(count) => match cost_plan(rt, alloc, costed, effort, gate) {
             Err(fault) => Err(fault),

@@ -22,7 +22,7 @@ use crate::flow::known_blocks;
 use crate::method::Method;
 use block_cut::cut;
 use cover_core::{Plan, Pricer, Worth};
-use cover_plan::{KnownPlan, PlanFault as CoverFault, Planned, count_of, plan_of};
+use cover_plan::{Counting, KnownPlan, PlanFault as CoverFault, Planned, count_of, plan_of};
 use day_method::Side;
 use day_model::Day;
 use depot_network::{PoolNet, counted_blocks};
@@ -44,6 +44,7 @@ fn planned_side<R: Threads + Sync, P: Pricer + Sync, G: Gate + Sync>(
     counted: &P,
     costed: &P,
     effort: &Effort,
+    counting: Counting,
     gate: &G,
 ) -> Result<Planned, CoverFault>
     requires effort { IsEffort effort.now }
@@ -52,7 +53,7 @@ fn planned_side<R: Threads + Sync, P: Pricer + Sync, G: Gate + Sync>(
     ensures cheap { IfOk result (λ planned. AreCheap planned.plan.columns) }
     ensures cause { IfErr result (IsCause (P.problem counted.now) (P.problem costed.now) (numbers_of effort.now)) }
 {
-    match plan_of(rt, alloc, counted, costed, effort, gate) {
+    match plan_of(rt, alloc, counted, costed, effort, counting, gate) {
         Err(fault) => Err(fault),
         Ok(Planned { plan, count, cost }) => match in_printed_order(plan) {
             Err(Memory) => Err(CoverFault::Memory),
@@ -82,7 +83,7 @@ fn known_side<R: Threads + Sync, P: Pricer + Sync, G: Gate + Sync>(
     ensures cause { IfErr result (IsCountCause (P.problem counted.now) (P.problem costed.now) (numbers_of effort.now)) }
 {
     let KnownPlan { plan, cost } = known;
-    match count_of(rt, alloc, counted, costed, effort, gate) {
+    match count_of(rt, alloc, counted, costed, effort, Counting::Whole, gate) {
         Err(fault) => Err(fault),
         Ok(count) => match in_printed_order(plan) {
             Err(Memory) => Err(CoverFault::Memory),
@@ -113,7 +114,7 @@ fn side_by<R: Threads + Sync, P: Pricer + Sync, G: Gate + Sync>(
 {
     match known {
         Some(known) => known_side(rt, alloc, counted, costed, known, effort, gate),
-        None => planned_side(rt, alloc, counted, costed, effort, gate),
+        None => planned_side(rt, alloc, counted, costed, effort, Counting::Whole, gate),
     }
 }
 
@@ -214,7 +215,7 @@ fn planned_duties<R: Threads + Sync, G: Gate + Sync>(
     };
     let counted = DutyPricer::new(&count_net);
     let costed = DutyPricer::new(&cost_net);
-    planned_side(rt, alloc, &counted, &costed, effort, gate)
+    planned_side(rt, alloc, &counted, &costed, effort, Counting::Half, gate)
 }
 
 /// Why there are no duties over pieces.

@@ -20,7 +20,7 @@ ghost use Rattle.replan_command.specs.Steps.{AreNewBlocks, IsEarlierPlan, IsFaul
 
 use block_rest::{BlockRest, heads, heads_are_heads};
 use cover_core::{Plan, Worth};
-use cover_plan::{PlanFault as CoverFault, Planned, plan_of};
+use cover_plan::{Counting, PlanFault as CoverFault, Planned, plan_of};
 use cover_rest::bodies_stand_for_all;
 use day_method::Side;
 use day_model::Day;
@@ -113,7 +113,7 @@ fn blocks_of_rests<R: Threads + Sync, G: Gate + Sync>(
     ensures cheap { IfOk result (λ blocks. AreCheap blocks.plan.columns) }
     ensures cause { IfErr result (IsWrittenCause SideOf.Vehicles (rests counted.now) (rests costed.now) (trip_name_of costed.now.day.trips (items_of_blocks costed.now)) (items_of_blocks costed.now) (numbers_of effort.now)) }
 {
-    match plan_of(rt, alloc, counted, costed, effort, gate) {
+    match plan_of(rt, alloc, counted, costed, effort, Counting::Whole, gate) {
         Err(fault) => Err(blocks_fault(alloc, costed, fault)),
         Ok(Planned { plan, count, cost }) => match written_blocks(alloc, costed, &plan) {
             Err(Memory) => Err(PlanFault::Memory),

@@ -20,7 +20,7 @@ ghost use Rattle.replan_command.specs.Replanning.{IsRestCause, piece_name as pie
 ghost use Rattle.replan_command.specs.Steps.{AreNewBlocks, AreNewDuties, IsEarlierPlan, IsFaultIn, IsMadeSide, IsWrittenCause, IsWrittenFault, items_of_duties};
 
 use cover_core::{Plan, Worth};
-use cover_plan::{PlanFault as CoverFault, Planned, plan_of};
+use cover_plan::{Counting, PlanFault as CoverFault, Planned, plan_of};
 use cover_rest::bodies_stand_for_all;
 use day_method::Side;
 use day_model::Day;
@@ -114,7 +114,7 @@ fn duties_of_rests<R: Threads + Sync, G: Gate + Sync>(
     ensures cheap { IfOk result (λ duties. AreCheap duties.plan.columns) }
     ensures cause { IfErr result (IsWrittenCause SideOf.Drivers (rests counted.now) (rests costed.now) (piece_name_of costed.now.net.pieces (items_of_duties costed.now)) (items_of_duties costed.now) (numbers_of effort.now)) }
 {
-    match plan_of(rt, alloc, counted, costed, effort, gate) {
+    match plan_of(rt, alloc, counted, costed, effort, Counting::Half, gate) {
         Err(fault) => Err(duties_fault(alloc, costed, fault)),
         Ok(Planned { plan, count, cost }) => match written_duties(alloc, costed, &plan) {
             Err(Memory) => Err(PlanFault::Memory),
