@@ -12,8 +12,6 @@ mod lists;
 mod made;
 mod marks;
 mod moves;
-#[cfg(test)]
-mod tests;
 
 pub use cover::{first_block_gap, make_block_cover};
 pub use laws::block_cover_is_paid;

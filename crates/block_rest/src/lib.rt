@@ -13,8 +13,6 @@ mod head;
 mod laws;
 mod pricing;
 mod rest;
-#[cfg(test)]
-mod tests;
 mod walk;
 
 pub use earlier::heads;

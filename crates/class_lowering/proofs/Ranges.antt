@@ -1,11 +1,10 @@
 -- Numbers and columns of lists in range, one at a time.
-use Rattle.std.proofs.Common.{◌≡◌, ◌≢◌, ℕ, ℤ, pos, ◌≤ℤ◌, ◌≤◌, ◌+◌, ◌<◌, true, false, cond, zero, suc, List, [], ◌∷◌, ◌++◌, length, get_or, refl, arith, All, IsPermutation}
+use Rattle.std.proofs.Common.{◌≡◌, ◌≢◌, ℕ, ℤ, pos, ◌≤ℤ◌, ◌≤◌, ◌+◌, ◌<◌, zero, suc, List, [], ◌∷◌, length, get_or, refl, arith, All, IsPermutation}
 use Rattle.std.proofs.lemmas.List.Elements.{All-get_or, All-nil, All-cons}
 use Rattle.std.proofs.lemmas.List.Sorted.{All-permutation}
 use Rattle.cover_core.specs.declared.Column.{Column}
 use Rattle.cover_core.specs.Plans.{number_at}
-use Rattle.column_pool.specs.Pools.{is_refused, places_from, pool_after}
-use Rattle.cover_core.specs.Fitting.{AreFit}
+use Rattle.column_pool.specs.Pools.{places_from}
 use Rattle.lagrangian_climb.specs.Choices.{AreAsked}
 use Rattle.class_lowering.specs.Lowering.{HaveItems}
 
@@ -39,19 +38,3 @@ pub place-there : (m : ℕ) (places : List ℕ) (i : ℕ) → IsPermutation (pla
 place-there m places i perm h =
     let all : All (IsBelow m) (places_from m 0) = places-below m 0 m (omega arith) in
     All-get_or (IsBelow m) places i 0 h (All-permutation (IsBelow m) (places_from m 0) places perm all)
-
-fit-push : (n k : ℕ) (pool : List Column) (c : Column) → AreFit n k pool → AreFit n k (c ∷ []) → AreFit n k (pool ++ c ∷ [])
-fit-push n k [] c are one = one
-fit-push n k (x ∷ xs) c are one = (are.0, fit-push n k xs c are.1 one)
-
-pub fit-after : (n k : ℕ) (pool : List Column) (c : Column) → AreFit n k pool → AreFit n k (c ∷ []) → AreFit n k (pool_after pool c)
-fit-after n k pool c are one =
-    elim (is_refused pool c) as (λ b. AreFit n k (cond b pool (pool ++ c ∷ []))) [ true ↦ are | false ↦ fit-push n k pool c are one ]
-
-items-push : (pool : List Column) (c : Column) → HaveItems pool → HaveItems (c ∷ []) → HaveItems (pool ++ c ∷ [])
-items-push [] c are one = one
-items-push (x ∷ xs) c are one = (are.0, items-push xs c are.1 one)
-
-pub items-after : (pool : List Column) (c : Column) → HaveItems pool → HaveItems (c ∷ []) → HaveItems (pool_after pool c)
-items-after pool c are one =
-    elim (is_refused pool c) as (λ b. HaveItems (cond b pool (pool ++ c ∷ []))) [ true ↦ are | false ↦ items-push pool c are one ]

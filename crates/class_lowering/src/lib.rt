@@ -20,9 +20,6 @@ ghost use Rattle.cover_master.specs.Method.{clamped, share_of, lowered_by};
 ghost use Rattle.lagrangian_climb.specs.Choices.{AreAsked};
 ghost use Rattle.class_lowering.specs.Lowering.{HaveItems, IsLowered, lowered_prices};
 
-#[cfg(test)]
-mod tests;
-
 use column_pool::Pool;
 use cover_core::{Column, Prices, value};
 use plan_core::{Memory, Price, Seq};

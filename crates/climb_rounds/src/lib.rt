@@ -20,10 +20,6 @@ mod passes;
 mod rounds;
 mod setting;
 mod start;
-#[cfg(test)]
-mod test_pricer;
-#[cfg(test)]
-mod tests;
 mod walk;
 
 pub use climbed::{ClimbFault, Climbed};

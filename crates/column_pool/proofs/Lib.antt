@@ -1,3 +1,2 @@
 mod Chains
 mod ByValue
-pub mod Fitting

@@ -6,7 +6,5 @@ mod buckets;
 mod key;
 mod order;
 mod pool;
-#[cfg(test)]
-mod tests;
 
 pub use pool::Pool;

@@ -2,4 +2,3 @@ pub mod Sums
 pub mod Webs
 pub mod Nearest
 pub mod Woven
-pub mod Example

@@ -17,8 +17,6 @@ mod link;
 mod links;
 mod nearest;
 mod sums;
-#[cfg(test)]
-mod tests;
 mod weaving;
 mod web;
 

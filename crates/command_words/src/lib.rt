@@ -6,8 +6,6 @@ mod command;
 mod fault;
 mod options;
 mod request;
-#[cfg(test)]
-mod tests;
 mod words;
 
 pub use command::{Command, Making};

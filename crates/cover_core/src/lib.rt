@@ -16,8 +16,6 @@ ghost use Rattle.cover_core.specs.Best.{best_of, within};
 mod items;
 mod laws;
 mod marks;
-#[cfg(test)]
-mod tests;
 
 pub use items::Items;
 pub use laws::{backward_order, best_is_first_least, least_is_paid, plan_sizes, weak_duality};

@@ -1,4 +1,3 @@
 pub mod Method
 pub mod Fitting
 pub mod Candidates
-pub mod Example

@@ -14,8 +14,6 @@ mod key;
 mod lowering;
 mod selection;
 mod start;
-#[cfg(test)]
-mod tests;
 mod turns;
 
 pub use lowering::lower;

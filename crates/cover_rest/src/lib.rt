@@ -10,8 +10,6 @@ mod begun;
 mod laws;
 mod member;
 mod stand;
-#[cfg(test)]
-mod tests;
 mod write;
 
 pub use begun::Begun;

@@ -2,8 +2,6 @@
 #![tactic(auto)]
 
 mod day;
-#[cfg(test)]
-mod tests;
 mod trips;
 
 pub use day::{DayFault, DayKind, kind_of};

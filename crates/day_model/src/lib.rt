@@ -12,8 +12,6 @@ mod fault;
 mod going;
 mod layout;
 mod link;
-#[cfg(test)]
-mod tests;
 
 pub use building::{MOST_TRIPS, build_day};
 pub use day::Day;

@@ -1,5 +1,5 @@
 -- The trips of a day have the numbers of their rows, and a day's tables are plain.
-use Rattle.std.proofs.Common.{◌≡◌, ℕ, suc, ◌≤◌, ◌<◌, ◌^◌, ◌⊎◌, inl, inr, ◌&&◌, map, codes, get_or, Bool, true, false, if◌then◌else◌, ◌+◌, nat_le, List, [], ◌∷◌, length, Option, Some, None, Result, Ok, Err, OnOk, All, IsTrue, slice_get, sum_by, refl, sym, ◌∙◌, ap, subst, arith}
+use Rattle.std.proofs.Common.{◌≡◌, ℕ, suc, ◌≤◌, ◌<◌, ◌^◌, ◌⊎◌, inl, inr, ◌&&◌, map, codes, get_or, Bool, true, false, if◌then◌else◌, ◌+◌, nat_le, List, [], ◌∷◌, length, Option, Some, None, Result, Ok, Err, OnOk, All, IsTrue, slice_get, sum_by, refl, ◌∙◌, ap, subst, arith}
 use Rattle.std.proofs.lemmas.List.Elements.{All-nil, All-cons, All-get_or, All-head, All-tail}
 use Rattle.std.proofs.lemmas.Option.{slice_get_cases}
 use Rattle.std.proofs.lemmas.List.{length-map}
@@ -96,12 +96,6 @@ pub plain_day : (net : Net) (day : DayFacts) → IsTrue (are_plain (day_tables_o
 plain_day net day =
     and_from (is_plain_table (tag_table day)) (is_plain_table (trip_table net day) && true) (plain_tag day)
     (and_from (is_plain_table (trip_table net day)) true (plain_trips net day) refl)
-
--- a day of a kind is one of its own kind
-pub own_kind : (net : Net) (kind : DayKind) (day : DayFacts) → IsDayOf net kind day → IsDayOf net day.kind day
-own_kind net kind day is =
-    let P : DayKind → Type 0 = λ k. IsDayOf net k day in
-    subst P (sym is.kind_is) is
 
 zip_all : {A B : Type 0} (xs : List A) (ys : List B) → length xs ≡ length ys → length (zip xs ys) ≡ length ys
 zip_all [] [] same = refl

@@ -4,8 +4,6 @@
 //! BASIS_VERSION of FIRMENKALENDER, FRT_FID and LI_NR of REC_FRT. Moments are seconds of the operating day, lengths metres.
 #![tactic(auto)]
 
-#[cfg(test)]
-mod tests;
 mod writing;
 
 pub use writing::tables_of_day;

@@ -8,8 +8,6 @@ mod network;
 mod open;
 mod opening;
 mod step;
-#[cfg(test)]
-mod tests;
 
 pub use laws::counted_blocks;
 pub use network::PoolNet;

@@ -11,8 +11,6 @@ ghost use Rattle.cover_core.specs.FirstLeast.{AllWithin, class_price_of};
 ghost use Rattle.dual_bound.specs.Ranges.{AreAtLeast};
 
 mod kept;
-#[cfg(test)]
-mod tests;
 
 use cover_core::Prices;
 pub use kept::Kept;

@@ -8,8 +8,6 @@ mod laws;
 mod layout;
 mod marks;
 mod net;
-#[cfg(test)]
-mod tests;
 
 pub use laws::counted_duties;
 pub use net::DutyNet;

@@ -13,8 +13,6 @@ mod pricer;
 mod reach;
 mod rows;
 mod tables;
-#[cfg(test)]
-mod tests;
 
 pub use labels::DutyLabels;
 pub use numbering::{PieceNumbers, numbers_of};

@@ -14,8 +14,6 @@ mod head;
 mod laws;
 mod pricing;
 mod rest;
-#[cfg(test)]
-mod tests;
 mod walk;
 
 pub use earlier::duty_heads;

@@ -12,8 +12,6 @@ mod fault;
 mod inputs;
 mod parts;
 mod stage;
-#[cfg(test)]
-mod tests;
 mod transfer;
 
 pub use fault::FileFault;

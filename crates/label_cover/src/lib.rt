@@ -10,8 +10,6 @@ mod making;
 mod marks;
 mod open_mark;
 mod steps;
-#[cfg(test)]
-mod tests;
 
 pub use gaps::first_gap;
 pub use laws::duty_cover_is_paid;

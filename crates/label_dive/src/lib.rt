@@ -9,8 +9,6 @@
 mod dive;
 mod floors;
 mod guess;
-#[cfg(test)]
-mod tests;
 
 pub use dive::{begins_within, dive_from_each, dive_from_least};
 pub use floors::Floors;

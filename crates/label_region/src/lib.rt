@@ -5,7 +5,5 @@ mod block;
 mod places;
 mod raw;
 mod region;
-#[cfg(test)]
-mod tests;
 
 pub use region::Region;

@@ -12,8 +12,6 @@ mod later;
 mod least;
 mod levels;
 mod node;
-#[cfg(test)]
-mod tests;
 
 pub use columns::{best_column, cover_pays};
 pub use labels::Labels;

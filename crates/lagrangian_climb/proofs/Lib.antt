@@ -5,4 +5,3 @@ mod Walks
 mod Keeps
 mod Times
 mod Ranges
-mod Fits

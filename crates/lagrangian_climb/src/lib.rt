@@ -23,8 +23,6 @@ mod covers;
 mod key;
 mod numbers;
 mod playing;
-#[cfg(test)]
-mod tests;
 mod vectors;
 
 pub use choosing::{Choice, choose};

@@ -2,6 +2,5 @@ pub mod Marking
 pub mod Covers
 pub mod Orders
 pub mod Searches
-pub mod Samples
 pub mod Minimal
 pub mod Levels

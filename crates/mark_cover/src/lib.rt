@@ -11,8 +11,6 @@ mod gaps;
 mod groups;
 mod making;
 mod marks;
-#[cfg(test)]
-mod tests;
 
 pub use covers::{cover_is_paid, kept_marks_are_minimal};
 pub use gaps::{closes_below, first_gap};

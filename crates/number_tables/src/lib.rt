@@ -4,8 +4,6 @@
 mod rows;
 mod signed;
 mod tables;
-#[cfg(test)]
-mod tests;
 
 pub use rows::number_row;
 pub use signed::signed_row;

@@ -11,8 +11,6 @@
 
 mod guessing;
 mod scales;
-#[cfg(test)]
-mod tests;
 
 pub use guessing::{Estimate, best_guess};
 pub use scales::{Scale, scaled};

@@ -10,8 +10,6 @@ mod laws;
 mod net;
 mod plan;
 mod table;
-#[cfg(test)]
-mod tests;
 
 use day_model::Day;
 pub use laws::{flow_is_one, flow_plan_of_blocks, plans_are_covers};

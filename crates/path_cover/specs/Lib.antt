@@ -11,4 +11,3 @@ pub mod Searching
 pub mod Outcomes
 pub mod Firsts
 pub mod Sweeps
-pub mod Example

@@ -14,8 +14,6 @@ mod numbers;
 mod placing;
 mod prices;
 mod search;
-#[cfg(test)]
-mod tests;
 
 pub use arcs::Arcs;
 pub use growth::Falls;

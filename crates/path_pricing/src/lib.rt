@@ -6,8 +6,6 @@
 mod behind;
 mod labels;
 mod pricer;
-#[cfg(test)]
-mod tests;
 
 pub use behind::rests_from;
 pub use labels::BlockLabels;

@@ -2,7 +2,5 @@
 #![tactic(auto)]
 
 mod lengths;
-#[cfg(test)]
-mod tests;
 
 pub use lengths::route_length;

@@ -17,8 +17,6 @@ mod rows;
 mod shape;
 mod slots;
 mod table;
-#[cfg(test)]
-mod tests;
 mod writing;
 
 pub use cert::{Cert, CertPart, Pass};

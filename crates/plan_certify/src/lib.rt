@@ -9,8 +9,6 @@
 
 mod laws;
 mod parts;
-#[cfg(test)]
-mod tests;
 mod whole;
 
 pub use laws::{day_is_certified_once, days_alike_are_certified_alike};

@@ -4,4 +4,3 @@ pub mod Judged
 pub mod Counts
 pub mod Found
 pub mod Firsts
-pub mod Example

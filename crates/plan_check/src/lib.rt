@@ -6,8 +6,6 @@ mod check;
 mod counts;
 mod firsts;
 mod laws;
-#[cfg(test)]
-mod tests;
 mod verdict;
 
 pub use check::check_plan;

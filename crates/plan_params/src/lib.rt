@@ -23,6 +23,3 @@ pub use reading::read_params;
 pub use rows::group::Group;
 pub use rows::pool::Pool;
 pub use rows::settings::Settings;
-
-#[cfg(test)]
-mod tests;

@@ -11,12 +11,6 @@ mod parts;
 mod reading;
 mod rows;
 mod table;
-#[cfg(test)]
-mod test_day;
-#[cfg(test)]
-mod test_ranges;
-#[cfg(test)]
-mod tests;
 mod told;
 
 pub use laws::{plans_are_read_back, printed_once};

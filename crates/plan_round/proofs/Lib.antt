@@ -6,4 +6,3 @@ pub mod Fills
 pub mod Takes
 pub mod Room
 pub mod Places
-pub mod Offers

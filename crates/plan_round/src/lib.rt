@@ -13,8 +13,6 @@ mod insert;
 mod laws;
 mod rounding;
 mod take;
-#[cfg(test)]
-mod tests;
 
 pub use fault::RoundFault;
 pub use laws::rounds_to_plan;

@@ -4,8 +4,6 @@
 
 mod grid;
 mod numbering;
-#[cfg(test)]
-mod tests;
 
 pub use grid::{Grid, PointTimes, grid_of, time_at};
 pub use numbering::{Numbering, numbering_of};

@@ -1,6 +1,5 @@
 pub mod Leasts
 pub mod Offers
-pub mod Pairs
 pub mod Passes
 pub mod Pools
 pub mod Prices

@@ -1,4 +1,3 @@
 pub mod Efforts
-pub mod Example
 pub mod Rounds
 pub mod Steps

@@ -15,10 +15,6 @@ mod moves;
 mod passing;
 mod pricing;
 mod progress;
-#[cfg(test)]
-mod test_pricer;
-#[cfg(test)]
-mod tests;
 
 pub use effort::Effort;
 pub use laws::offers_are_paid;

@@ -12,8 +12,6 @@ mod laws;
 mod marks;
 mod prices;
 mod pricing;
-#[cfg(test)]
-mod tests;
 
 pub use begins::{ItemRange, first_items};
 pub use best::best_of_rest;

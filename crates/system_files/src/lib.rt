@@ -7,8 +7,6 @@
 
 mod files;
 mod streams;
-#[cfg(test)]
-mod tests;
 mod words;
 
 pub use files::{DiskFiles, copy_front};

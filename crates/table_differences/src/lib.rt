@@ -8,8 +8,6 @@ mod difference;
 mod fields;
 mod rows;
 mod tables;
-#[cfg(test)]
-mod tests;
 
 pub use difference::Difference;
 pub use tables::{Aside, first_difference};

@@ -3,4 +3,3 @@ pub mod Exchange
 pub mod Leasts
 pub mod Searches
 pub mod Kept
-pub mod Example

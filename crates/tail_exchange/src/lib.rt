@@ -17,8 +17,6 @@ mod moves;
 mod search;
 mod shifts;
 mod swaps;
-#[cfg(test)]
-mod tests;
 
 pub use exchange::improve;
 pub use laws::steps_keep_plans;

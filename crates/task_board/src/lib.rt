@@ -23,8 +23,6 @@ mod board;
 mod desk;
 mod machine;
 mod sheet;
-#[cfg(test)]
-mod tests;
 
 pub use board::close;
 pub use desk::{Board, Desk};

@@ -1,8 +1,6 @@
 //! From where to where a trip goes, and from when to when.
 #![tactic(auto)]
 
-#[cfg(test)]
-mod tests;
 mod timing;
 mod trip;
 

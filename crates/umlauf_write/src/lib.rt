@@ -13,8 +13,6 @@ mod legs;
 mod numbers;
 mod printed;
 mod tables;
-#[cfg(test)]
-mod tests;
 mod text;
 mod trips;
 

@@ -9,8 +9,6 @@ mod columns;
 mod covers;
 mod labels;
 mod lists;
-#[cfg(test)]
-mod tests;
 
 pub use columns::{first_unpaid, least_is_best};
 pub use covers::least_cover;

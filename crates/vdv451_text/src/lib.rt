@@ -36,8 +36,6 @@ mod record;
 mod state;
 mod steps;
 mod table;
-#[cfg(test)]
-mod tests;
 mod writing;
 
 pub use fault::{TextFault, TextKind};

@@ -32,6 +32,3 @@ pub use rows::times::{DeadRow, GroupDwellRow, RunRow, SectionRow, TripDwellRow};
 pub use rows::{CalendarRow, TripRow, VersionRow};
 pub use schema::GREATEST_SECONDS;
 pub use table::column_place;
-
-#[cfg(test)]
-mod tests;

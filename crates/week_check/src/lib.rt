@@ -19,8 +19,6 @@ mod rest;
 mod rests;
 mod roster;
 mod span;
-#[cfg(test)]
-mod tests;
 mod turn;
 mod verdict;
 mod weeks;

@@ -4,5 +4,4 @@ pub mod Gathering
 pub mod InOrder
 pub mod Choosing
 pub mod Runs
-pub mod SinglesAre
 pub mod Bounds

@@ -3,4 +3,3 @@ pub mod Work
 pub mod Gathered
 pub mod Runs
 pub mod Order
-pub mod Singles

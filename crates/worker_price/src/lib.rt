@@ -13,12 +13,6 @@ mod laws;
 mod order;
 mod price;
 mod priced;
-#[cfg(test)]
-mod test_gate;
-#[cfg(test)]
-mod test_pricer;
-#[cfg(test)]
-mod tests;
 mod worker;
 mod workers;
 

@@ -1,0 +1,9 @@
+mod Accepting
+mod CertNumbers
+mod ClassPrices
+mod FactNumbers
+mod FilesBack
+mod GivenWords
+mod LegNumbers
+mod PlanNumbers
+mod TextsBack

@@ -1,0 +1,17 @@
+//! Tests of blocks: what no contract says, and that calls succeed.
+//!
+//! A crate with tests is proved twice, so those of a floor stand above it.
+#![tactic(auto)]
+
+#[cfg(test)]
+mod block_cover_tests;
+#[cfg(test)]
+mod days;
+#[cfg(test)]
+mod depot_network_tests;
+#[cfg(test)]
+mod one_pool_flow_tests;
+#[cfg(test)]
+mod path_pricing_tests;
+#[cfg(test)]
+mod searches;

@@ -1,0 +1,222 @@
+//! The settings of a few drivers, and nets of two and three pieces under them.
+
+ghost use Rattle.std.specs.Prelude.{◌≡◌, ◌-ℤ◌, ◌≤ℤ◌, ◌↔◌, pos, All, IfOk, IsTrue, length};
+ghost use Rattle.cover_core.specs.FirstLeast.{AllWithin};
+ghost use Rattle.plan_params.specs.Limits.{HaveRanges};
+ghost use Rattle.duty_network.specs.Ranges.{IsShift};
+
+use cover_core::{Prices, Worth};
+use duty_network::DutyNet;
+use plan_core::{Memory, Piece, Point, Price, Sec, Seq};
+use plan_params::{Params, read_params};
+use std::alloc::Global;
+use std::test::Fail;
+use vdv451_text::read_file;
+use vdv452_tables::{Needs, read_tables};
+
+/// The way between the depot (2, 9) and the point (1, 2) takes 1,200 seconds. There is one group of drivers.
+const SETTINGS: &[u8] = b"tbl; BASIS_VER_GUELTIGKEIT
+atr; VER_GUELTIGKEIT; BASIS_VERSION
+frm; num[10.0]; num[10.0]
+end; 0
+tbl; FIRMENKALENDER
+atr; BASIS_VERSION; BETRIEBSTAG; TAGESART_NR
+frm; num[10.0]; num[10.0]; num[10.0]
+end; 0
+tbl; REC_ORT
+atr; BASIS_VERSION; ONR_TYP_NR; ORT_NR
+frm; num[10.0]; num[10.0]; num[10.0]
+rec; 1; 1; 2
+rec; 1; 2; 9
+end; 2
+tbl; REC_SEL
+atr; BASIS_VERSION; BEREICH_NR; ONR_TYP_NR; ORT_NR; SEL_ZIEL_TYP; SEL_ZIEL; SEL_LAENGE
+frm; num[10.0]; num[10.0]; num[10.0]; num[10.0]; num[10.0]; num[10.0]; num[10.0]
+end; 0
+tbl; SEL_FZT_FELD
+atr; BASIS_VERSION; BEREICH_NR; FGR_NR; ONR_TYP_NR; ORT_NR; SEL_ZIEL_TYP; SEL_ZIEL; SEL_FZT
+frm; num[10.0]; num[10.0]; num[10.0]; num[10.0]; num[10.0]; num[10.0]; num[10.0]; num[10.0]
+end; 0
+tbl; REC_LID
+atr; BASIS_VERSION; LI_NR; STR_LI_VAR; BEREICH_NR
+frm; num[10.0]; num[10.0]; num[10.0]; num[10.0]
+end; 0
+tbl; LID_VERLAUF
+atr; BASIS_VERSION; LI_NR; STR_LI_VAR; LI_LFD_NR; ONR_TYP_NR; ORT_NR
+frm; num[10.0]; num[10.0]; num[10.0]; num[10.0]; num[10.0]; num[10.0]
+end; 0
+tbl; REC_FRT
+atr; BASIS_VERSION; FRT_FID; FRT_START; LI_NR; TAGESART_NR; FAHRTART_NR; FGR_NR; STR_LI_VAR; UM_UID
+frm; num[10.0]; num[10.0]; num[10.0]; num[10.0]; num[10.0]; num[10.0]; num[10.0]; num[10.0]; num[10.0]
+end; 0
+tbl; UEB_FZT
+atr; BASIS_VERSION; BEREICH_NR; FGR_NR; ONR_TYP_NR; ORT_NR; UEB_ZIEL_TYP; UEB_ZIEL; UEB_FAHRZEIT
+frm; num[10.0]; num[10.0]; num[10.0]; num[10.0]; num[10.0]; num[10.0]; num[10.0]; num[10.0]
+end; 0
+tbl; MENGE_FZG_TYP
+atr; BASIS_VERSION; FZG_TYP_NR
+frm; num[10.0]; num[10.0]
+end; 0
+tbl; X_PLAN
+atr; UEB_BEREICH_NR; UEB_FGR_NR; WENDE_SEK; MAX_WARTE_SEK; UEBERGABE_SEK
+frm; num[10.0]; num[10.0]; num[10.0]; num[10.0]; num[10.0]
+rec; 1; 1; 300; 7200; 300
+end; 1
+tbl; X_HOF
+atr; HOF_NR; ONR_TYP_NR; ORT_NR; FZG_TYP_NR; ANZAHL; FIX_KOSTEN; LEER_SATZ; STAND_SATZ
+frm; num[10.0]; num[10.0]; num[10.0]; num[10.0]; num[10.0]; num[10.0]; num[10.0]; num[10.0]
+end; 0
+tbl; X_WEG
+atr; ONR_TYP_NR; ORT_NR; ZIEL_TYP; ZIEL_NR; WEG_SEK
+frm; num[10.0]; num[10.0]; num[10.0]; num[10.0]; num[10.0]
+rec; 1; 2; 2; 9; 1200
+rec; 2; 9; 1; 2; 1200
+end; 2
+tbl; X_FAHRER
+atr; GRUPPE_NR; ONR_TYP_NR; ORT_NR; ANZAHL; FIX_KOSTEN; SATZ; ANMELDE_SEK; ABMELDE_SEK; ZEHN_STD; KURZE_RUHE
+frm; num[10.0]; num[10.0]; num[10.0]; num[10.0]; num[10.0]; num[10.0]; num[10.0]; num[10.0]; num[10.0]; num[10.0]
+rec; 1; 2; 9; 2; 500; 1; 600; 300; 0; 0
+end; 1
+eof; 14
+";
+
+/// The settings of a text.
+fn settings_of(alloc: Global, text: &[u8]) -> Result<Params, Fail>
+    ensures { IfOk result HaveRanges }
+{
+    let tables = read_file(alloc, text, 100_000)?;
+    let net = read_tables(alloc, tables.as_slice(), Needs::All)?;
+    Ok(read_params(alloc, &net, 1)?)
+}
+
+/// The settings of all tests. The text stands here alone, so that no other proof carries it along.
+pub(crate) fn settings(alloc: Global) -> Result<Params, Fail>
+    ensures { IfOk result HaveRanges }
+{
+    settings_of(alloc, SETTINGS)
+}
+
+const DEPOT: Point = Point { typ: 2, nr: 9 };
+
+const STOP: Point = Point { typ: 1, nr: 2 };
+
+/// How long a piece lasts.
+fn lasting(begin: i64, end: i64) -> i64
+    requires begin { pos 0 ≤ℤ begin }
+    requires order { begin ≤ℤ end }
+    ensures { result ≡ end -ℤ begin }
+{
+    end - begin
+}
+
+/// Whether a piece begins at 0 or later, ends not before that and within four days, and drives no longer than it lasts.
+fn is_shift(piece: &Piece) -> bool
+    ensures { IsTrue result ↔ IsShift piece.now }
+{
+    let (begin, end) = (piece.begin.0, piece.end.0);
+    0 <= begin && begin <= end && end <= 345_600 && piece.driving as i64 <= lasting(begin, end)
+}
+
+fn are_shifts(pieces: &[Piece]) -> bool
+    ensures { IsTrue result ↔ All IsShift pieces.now }
+{
+    pieces.iter().all(|piece| is_shift(piece))
+}
+
+/// A piece from the depot to the stop, one of another block from there to the depot, and the next one of the first block. With `pause`
+/// seconds between the first one and those.
+pub(crate) fn pieces(alloc: Global, pause: u16) -> Result<Vec<Piece>, Memory> {
+    let begin = 32_400 + pause as i64;
+    let first = Piece {
+        block: 1,
+        index: 1,
+        from: DEPOT,
+        begin: Sec(28_200),
+        to: STOP,
+        end: Sec(32_400),
+        driving: 4_200,
+    };
+    let other = Piece {
+        block: 2,
+        index: 1,
+        from: STOP,
+        begin: Sec(begin),
+        to: DEPOT,
+        end: Sec(begin + 3_600),
+        driving: 3_600,
+    };
+    let next = Piece {
+        block: 1,
+        index: 2,
+        from: STOP,
+        begin: Sec(begin + 100),
+        to: DEPOT,
+        end: Sec(begin + 4_300),
+        driving: 4_200,
+    };
+    Ok(vec![in alloc; first, other, next]?)
+}
+
+/// The two pieces of one block: from the depot to the stop, and from there to the depot.
+pub(crate) fn demonstration(alloc: Global) -> Result<Vec<Piece>, Memory> {
+    let first = Piece {
+        block: 1,
+        index: 1,
+        from: DEPOT,
+        begin: Sec(28_200),
+        to: STOP,
+        end: Sec(32_400),
+        driving: 4_200,
+    };
+    let next = Piece {
+        block: 1,
+        index: 2,
+        from: STOP,
+        begin: Sec(33_000),
+        to: DEPOT,
+        end: Sec(37_200),
+        driving: 4_200,
+    };
+    Ok(vec![in alloc; first, next]?)
+}
+
+/// A net of these pieces, where they are in their ranges.
+pub(crate) fn net_of<'p>(
+    alloc: Global,
+    pieces: Vec<Piece>,
+    params: &'p Params,
+    worth: Worth,
+) -> Result<Option<DutyNet<'p>>, Memory>
+    requires { HaveRanges params.now }
+{
+    let pieces = Seq::from_vec(pieces);
+    if !are_shifts(pieces.as_slice()) || pieces.len() > 3_000 {
+        return Ok(None);
+    }
+    Ok(Some(DutyNet::new(alloc, pieces, params, worth)?))
+}
+
+/// The prices of three pieces.
+pub(crate) fn prices_of(alloc: Global, prices: [u32; 3]) -> Result<Prices, Memory>
+    ensures three { IfOk result (λ prices. length prices.items ≡ 3) }
+    ensures moderate { IfOk result (λ prices. AllWithin 3000000000000000 prices.items) }
+{
+    let [first, second, third] = prices;
+    Ok(Prices {
+        items: Seq::from_vec(vec![in alloc;
+            Price(first as i64),
+            Price(second as i64),
+            Price(third as i64),
+        ]?),
+    })
+}
+
+/// The prices of two pieces.
+pub(crate) fn two_prices(alloc: Global, first: u32, second: u32) -> Result<Prices, Memory>
+    ensures two { IfOk result (λ prices. length prices.items ≡ 2) }
+    ensures moderate { IfOk result (λ prices. AllWithin 3000000000000000 prices.items) }
+{
+    Ok(Prices {
+        items: Seq::from_vec(vec![in alloc; Price(first as i64), Price(second as i64)]?),
+    })
+}

@@ -1,7 +1,0 @@
-use Rattle.std.proofs.Common.{◌≡◌, ◌<◌, ℕ, length}
-use Rattle.std.specs.Prelude.{Some, slice_get}
-use Rattle.mark_cover.specs.Samples.{Step}
-use Rattle.mark_cover.proofs.tests.are_there.Given as goal
-
-abbrev pub invariant-loop-place : goal.invariant-loop-place
-invariant-loop-place l = (k : ℕ) (a : Step) → k < l.place → slice_get l.marks k ≡ Some a → (a.0 < 2) × (a.1 < length l.rising.prices.items)

@@ -1,5 +1,0 @@
-use Rattle.planner_cli.proofs.WeekOutcomes.{roster_refused}
-use Rattle.planner_cli.proofs.week.week_text.Goals as goal
-
-pub returns-in-Err-clause-cause : goal.returns-in-Err-clause-cause
-returns-in-Err-clause-cause c = rw c.roster_status.ensures (roster_refused c.args.tables.now c.in-Err.fault c.in-Err.ensures.wrong)

@@ -1,0 +1,16 @@
+pub mod CertText
+pub mod CheckText
+pub mod Codes
+pub mod DayText
+pub mod MadeText
+pub mod Endings
+pub mod Model
+pub mod PlanText
+pub mod Reasons
+pub mod ReplanText
+pub mod Run
+pub mod Tasks
+pub mod Trips
+pub mod WeekText
+pub mod Lines
+pub mod MadeEnds

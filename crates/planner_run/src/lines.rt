@@ -1,0 +1,321 @@
+//! The lines on standard error.
+
+ghost use Rattle.std.specs.Prelude.{◌≡◌, false, ◌++◌, ◌∷◌, [], ℕ, List, Option, codes, decimal};
+ghost use Rattle.planner_run.specs.Endings.{is_done};
+ghost use Rattle.planner_run.specs.Lines as spec;
+ghost use Rattle.planner_run.specs.Reasons.{reason_name as reason_name_of, reason_number as reason_number_of};
+
+use crate::check::{reason_name, reason_number};
+use crate::status::{InputFault, Status};
+use cert_check::Reason;
+use day_calendar::DayFault;
+use day_method::Side;
+use input_files::write_whole;
+use itoa::Buffer;
+use plan_command::ItemName;
+use plan_core::{Point, Sink};
+use plan_params::{ParamFault, ParamKind};
+use trip_times::TripFault;
+use vdv451_text::{TextFault, TextKind};
+use vdv452_tables::{TableFault, TableKind};
+
+/// The name of a kind of fault of a text.
+fn text_kind(kind: TextKind) -> &'static [u8]
+    ensures { result.now ≡ spec.text_kind kind }
+{
+    match kind {
+        TextKind::Keyword => b"Keyword",
+        TextKind::Order => b"Order",
+        TextKind::Field => b"Field",
+        TextKind::Count => b"Count",
+        TextKind::EndCount => b"EndCount",
+        TextKind::EofCount => b"EofCount",
+        TextKind::Unended => b"Unended",
+        TextKind::TooLarge => b"TooLarge",
+        TextKind::Memory => b"Memory",
+    }
+}
+
+/// The name of a kind of fault of the tables.
+fn table_kind(kind: TableKind) -> &'static [u8]
+    ensures { result.now ≡ spec.table_kind kind }
+{
+    match kind {
+        TableKind::TableTwice => b"TableTwice",
+        TableKind::NoTable => b"NoTable",
+        TableKind::NoColumn => b"NoColumn",
+        TableKind::NoValue => b"NoValue",
+        TableKind::Range => b"Range",
+        TableKind::KeyTwice => b"KeyTwice",
+        TableKind::Memory => b"Memory",
+    }
+}
+
+/// The name of a kind of fault of the settings.
+fn param_kind(kind: ParamKind) -> &'static [u8]
+    ensures { result.now ≡ spec.param_kind kind }
+{
+    match kind {
+        ParamKind::NotOne => b"NotOne",
+        ParamKind::TooMany => b"TooMany",
+        ParamKind::UnknownPoint => b"UnknownPoint",
+        ParamKind::UnknownType => b"UnknownType",
+        ParamKind::Memory => b"Memory",
+    }
+}
+
+/// The name of a fault of a day.
+fn day_kind(fault: DayFault) -> &'static [u8]
+    ensures { result.now ≡ spec.day_kind fault }
+{
+    match fault {
+        DayFault::NoVersion => b"NoVersion",
+        DayFault::NoDay => b"NoDay",
+        DayFault::NoDate => b"NoDate",
+    }
+}
+
+/// The name of a side.
+fn side_name(side: Side) -> &'static [u8]
+    ensures { result.now ≡ spec.side_name side }
+{
+    match side {
+        Side::Vehicles => b"vehicles",
+        Side::Drivers => b"drivers",
+    }
+}
+
+/// Writes a further part of a line, unless a part before it failed. It tells whether all parts so far are there.
+fn write_part<E: Sink>(err: &mut E, is_whole: bool, part: &[u8]) -> bool
+    ensures { (old : Option (List ℕ)) (faults : ℕ) (line rest : List ℕ) → spec.IsTelling old (E.taken err.old) faults (E.faults err.old) line (part.now ++ rest) is_whole
+        → spec.IsTelling old (E.taken err.new) faults (E.faults err.new) line rest result }
+{
+    if !is_whole {
+        return false;
+    }
+    match write_whole(err, part) {
+        Ok(()) => true,
+        Err(_) => false,
+    }
+}
+
+/// Writes a further number of a line.
+fn write_number<E: Sink>(err: &mut E, is_whole: bool, number: u64) -> bool
+    ensures { (old : Option (List ℕ)) (faults : ℕ) (line rest : List ℕ) → spec.IsTelling old (E.taken err.old) faults (E.faults err.old) line (decimal number ++ rest) is_whole
+        → spec.IsTelling old (E.taken err.new) faults (E.faults err.new) line rest result }
+{
+    let mut digits = Buffer::new();
+    write_part(err, is_whole, digits.format(number).as_bytes())
+}
+
+fn tell_text<E: Sink>(err: &mut E, file: u32, fault: &TextFault)
+    ensures { (day : List ℕ) → spec.IsTold (E.taken err.old) (E.taken err.new) (E.faults err.old) (E.faults err.new) (spec.line_of day (Status.Input (InputFault.Text file fault.now))) }
+{
+    let is_whole = write_part(err, true, b"file ");
+    let is_whole = write_number(err, is_whole, file as u64);
+    let is_whole = write_part(err, is_whole, b" line ");
+    let is_whole = write_number(err, is_whole, fault.line as u64);
+    let is_whole = write_part(err, is_whole, b": ");
+    let is_whole = write_part(err, is_whole, text_kind(fault.kind));
+    let _ = write_part(err, is_whole, b"\n");
+}
+
+fn tell_table<E: Sink>(err: &mut E, fault: &TableFault)
+    ensures { (day : List ℕ) → spec.IsTold (E.taken err.old) (E.taken err.new) (E.faults err.old) (E.faults err.new) (spec.line_of day (Status.Input (InputFault.Table fault.now))) }
+{
+    let is_whole = write_part(err, true, b"table ");
+    let is_whole = write_part(err, is_whole, fault.table.as_slice());
+    let is_whole = write_part(err, is_whole, b" column ");
+    let is_whole = write_part(err, is_whole, fault.column.as_slice());
+    let is_whole = write_part(err, is_whole, b" row ");
+    let is_whole = write_number(err, is_whole, fault.row as u64);
+    let is_whole = write_part(err, is_whole, b": ");
+    let is_whole = write_part(err, is_whole, table_kind(fault.kind));
+    let _ = write_part(err, is_whole, b"\n");
+}
+
+fn tell_params<E: Sink>(err: &mut E, fault: &ParamFault)
+    ensures { (day : List ℕ) → spec.IsTold (E.taken err.old) (E.taken err.new) (E.faults err.old) (E.faults err.new) (spec.line_of day (Status.Input (InputFault.Params fault.now))) }
+{
+    let is_whole = write_part(err, true, b"table ");
+    let is_whole = write_part(err, is_whole, fault.table.as_slice());
+    let is_whole = write_part(err, is_whole, b" row ");
+    let is_whole = write_number(err, is_whole, fault.row as u64);
+    let is_whole = write_part(err, is_whole, b": ");
+    let is_whole = write_part(err, is_whole, param_kind(fault.kind));
+    let _ = write_part(err, is_whole, b"\n");
+}
+
+/// Writes a trip and a word.
+fn tell_word<E: Sink>(err: &mut E, fid: u64, word: &[u8])
+    ensures { spec.IsTold (E.taken err.old) (E.taken err.new) (E.faults err.old) (E.faults err.new) (spec.joined (codes "trip " ∷ decimal fid ∷ codes ": " ∷ word.now ∷ codes "\n" ∷ [])) }
+{
+    let is_whole = write_part(err, true, b"trip ");
+    let is_whole = write_number(err, is_whole, fid);
+    let is_whole = write_part(err, is_whole, b": ");
+    let is_whole = write_part(err, is_whole, word);
+    let _ = write_part(err, is_whole, b"\n");
+}
+
+/// Writes a trip and the link that has no run time.
+fn tell_gap<E: Sink>(err: &mut E, fid: u64, from: Point, to: Point)
+    ensures { spec.IsTold (E.taken err.old) (E.taken err.new) (E.faults err.old) (E.faults err.new) (spec.joined (codes "trip " ∷ decimal fid ∷ codes ": " ∷ codes "NoRunTime " ∷ decimal from.typ ∷ codes "/" ∷ decimal from.nr ∷ codes " to " ∷ decimal to.typ ∷ codes "/" ∷ decimal to.nr ∷ codes "\n" ∷ [])) }
+{
+    let is_whole = write_part(err, true, b"trip ");
+    let is_whole = write_number(err, is_whole, fid);
+    let is_whole = write_part(err, is_whole, b": ");
+    let is_whole = write_part(err, is_whole, b"NoRunTime ");
+    let is_whole = write_number(err, is_whole, from.typ as u64);
+    let is_whole = write_part(err, is_whole, b"/");
+    let is_whole = write_number(err, is_whole, from.nr as u64);
+    let is_whole = write_part(err, is_whole, b" to ");
+    let is_whole = write_number(err, is_whole, to.typ as u64);
+    let is_whole = write_part(err, is_whole, b"/");
+    let is_whole = write_number(err, is_whole, to.nr as u64);
+    let _ = write_part(err, is_whole, b"\n");
+}
+
+fn tell_trip<E: Sink>(err: &mut E, fid: u64, fault: TripFault)
+    ensures { (day : List ℕ) → spec.IsTold (E.taken err.old) (E.taken err.new) (E.faults err.old) (E.faults err.new) (spec.line_of day (Status.Input (InputFault.Trip fid fault))) }
+{
+    match fault {
+        TripFault::NoRoute => tell_word(err, fid, b"NoRoute"),
+        TripFault::ShortRoute => tell_word(err, fid, b"ShortRoute"),
+        TripFault::NoRunTime { from, to } => tell_gap(err, fid, from, to),
+        TripFault::PastEnd => tell_word(err, fid, b"PastEnd"),
+    }
+}
+
+/// Writes some text, a number and the line end.
+fn tell_number<E: Sink>(err: &mut E, text: &[u8], number: u64)
+    ensures { spec.IsTold (E.taken err.old) (E.taken err.new) (E.faults err.old) (E.faults err.new) (spec.joined (text.now ∷ decimal number ∷ codes "\n" ∷ [])) }
+{
+    let is_whole = write_part(err, true, text);
+    let is_whole = write_number(err, is_whole, number);
+    let _ = write_part(err, is_whole, b"\n");
+}
+
+fn tell_day<E: Sink>(err: &mut E, day: &[u8], fault: DayFault)
+    ensures { spec.IsTold (E.taken err.old) (E.taken err.new) (E.faults err.old) (E.faults err.new) (spec.line_of day.now (Status.Day fault)) }
+{
+    let is_whole = write_part(err, true, b"day ");
+    let is_whole = write_part(err, is_whole, day);
+    let is_whole = write_part(err, is_whole, b": ");
+    let is_whole = write_part(err, is_whole, day_kind(fault));
+    let _ = write_part(err, is_whole, b"\n");
+}
+
+/// Writes that a side has no plan, with the bound and the places.
+fn tell_no_plan<E: Sink>(err: &mut E, side: Side, bound: u64, places: u64)
+    ensures { spec.IsTold (E.taken err.old) (E.taken err.new) (E.faults err.old) (E.faults err.new) (spec.joined (codes "no plan: " ∷ spec.side_name side ∷ codes " bound " ∷ decimal bound ∷ codes " places " ∷ decimal places ∷ codes "\n" ∷ [])) }
+{
+    let is_whole = write_part(err, true, b"no plan: ");
+    let is_whole = write_part(err, is_whole, side_name(side));
+    let is_whole = write_part(err, is_whole, b" bound ");
+    let is_whole = write_number(err, is_whole, bound);
+    let is_whole = write_part(err, is_whole, b" places ");
+    let is_whole = write_number(err, is_whole, places);
+    let _ = write_part(err, is_whole, b"\n");
+}
+
+/// Writes that a trip is left.
+fn tell_left_trip<E: Sink>(err: &mut E, fid: u64)
+    ensures { spec.IsTold (E.taken err.old) (E.taken err.new) (E.faults err.old) (E.faults err.new) (spec.joined (codes "not placed: " ∷ codes "trip " ∷ decimal fid ∷ codes "\n" ∷ [])) }
+{
+    let is_whole = write_part(err, true, b"not placed: ");
+    let is_whole = write_part(err, is_whole, b"trip ");
+    let is_whole = write_number(err, is_whole, fid);
+    let _ = write_part(err, is_whole, b"\n");
+}
+
+/// Writes that a piece is left.
+fn tell_left_piece<E: Sink>(err: &mut E, block: u32, index: u32)
+    ensures { spec.IsTold (E.taken err.old) (E.taken err.new) (E.faults err.old) (E.faults err.new) (spec.joined (codes "not placed: " ∷ codes "block " ∷ decimal block ∷ codes " piece " ∷ decimal index ∷ codes "\n" ∷ [])) }
+{
+    let is_whole = write_part(err, true, b"not placed: ");
+    let is_whole = write_part(err, is_whole, b"block ");
+    let is_whole = write_number(err, is_whole, block as u64);
+    let is_whole = write_part(err, is_whole, b" piece ");
+    let is_whole = write_number(err, is_whole, index as u64);
+    let _ = write_part(err, is_whole, b"\n");
+}
+
+fn tell_left<E: Sink>(err: &mut E, name: ItemName)
+    ensures { spec.IsTold (E.taken err.old) (E.taken err.new) (E.faults err.old) (E.faults err.new) (spec.joined (codes "not placed: " ∷ (spec.item_words name ++ codes "\n" ∷ []))) }
+{
+    match name {
+        ItemName::Trip { fid } => tell_left_trip(err, fid),
+        ItemName::Piece { block, index } => tell_left_piece(err, block, index),
+    }
+}
+
+/// Writes that an earlier plan is refused, with the number and the name of the reason.
+fn tell_old_plan<E: Sink>(err: &mut E, reason: &Reason)
+    ensures { spec.IsTold (E.taken err.old) (E.taken err.new) (E.faults err.old) (E.faults err.new) (spec.joined (codes "old plan " ∷ decimal (reason_number_of reason.now) ∷ codes " " ∷ reason_name_of reason.now ∷ codes "\n" ∷ [])) }
+{
+    let is_whole = write_part(err, true, b"old plan ");
+    let is_whole = write_number(err, is_whole, reason_number(reason));
+    let is_whole = write_part(err, is_whole, b" ");
+    let is_whole = write_part(err, is_whole, reason_name(reason));
+    let _ = write_part(err, is_whole, b"\n");
+}
+
+/// Writes a line of one part.
+fn tell_line<E: Sink>(err: &mut E, line: &[u8])
+    ensures { spec.IsTold (E.taken err.old) (E.taken err.new) (E.faults err.old) (E.faults err.new) line.now }
+{
+    let _ = write_whole(err, line);
+}
+
+/// Writes the first and the last day of a roster.
+fn tell_days<E: Sink>(err: &mut E, first: u32, last: u32)
+    ensures { (day : List ℕ) → spec.IsTold (E.taken err.old) (E.taken err.new) (E.faults err.old) (E.faults err.new) (spec.line_of day (Status.Input (InputFault.Days first last))) }
+{
+    let is_whole = write_part(err, true, b"days: ");
+    let is_whole = write_number(err, is_whole, first as u64);
+    let is_whole = write_part(err, is_whole, b" to ");
+    let is_whole = write_number(err, is_whole, last as u64);
+    let _ = write_part(err, is_whole, b"\n");
+}
+
+fn tell_input<E: Sink>(err: &mut E, fault: &InputFault)
+    ensures { (day : List ℕ) → spec.IsTold (E.taken err.old) (E.taken err.new) (E.faults err.old) (E.faults err.new) (spec.line_of day (Status.Input fault.now)) }
+{
+    match fault {
+        InputFault::Text { file, fault } => tell_text(err, *file, fault),
+        InputFault::Table(fault) => tell_table(err, fault),
+        InputFault::Params(fault) => tell_params(err, fault),
+        InputFault::Trip { fid, fault } => tell_trip(err, *fid, *fault),
+        InputFault::Days { first, last } => tell_days(err, *first, *last),
+        InputFault::Trips { count } => tell_number(err, b"trips: ", *count as u64),
+    }
+}
+
+/// Writes the line of a refusal, for a day as its word has it. It takes no memory. Where a write fails, the rest of the line is left out.
+pub fn tell<E: Sink>(err: &mut E, day: &[u8], status: &Status)
+    requires { is_done status.now ≡ false }
+    ensures { spec.IsTold (E.taken err.old) (E.taken err.new) (E.faults err.old) (E.faults err.new) (spec.line_of day.now status.now) }
+{
+    match status {
+        Status::Ok => unreachable!(),
+        Status::CheckNo(_) => unreachable!(),
+        Status::Usage => {
+            tell_line(
+                err,
+                b"usage: planner trips|day|plan|certify|check|make|replan|week\n",
+            );
+        }
+        Status::Input(fault) => tell_input(err, fault),
+        Status::Day(fault) => tell_day(err, day, *fault),
+        Status::NoPlan {
+            side,
+            bound,
+            places,
+        } => tell_no_plan(err, *side, *bound, *places),
+        Status::NotPlaced { name, .. } => tell_left(err, *name),
+        Status::OldPlan(reason) => tell_old_plan(err, reason),
+        Status::ReadFault { file } => tell_number(err, b"read fault: file ", *file as u64),
+        Status::WriteFault => tell_line(err, b"write fault\n"),
+        Status::Memory => tell_line(err, b"out of memory\n"),
+    }
+}

@@ -1,0 +1,144 @@
+//! The command `plan`: the vehicle blocks and driver duties of a day, and bounds on their numbers and costs.
+
+ghost use Rattle.std.specs.Prelude.{◌≡◌, ◌<◌, ◌^◌, All, IsTrue, IfOk, IfErr, length};
+ghost use Rattle.vdv451_text.specs.Plain.{are_plain, is_plain_table};
+ghost use Rattle.price_rounds.specs.Efforts.{IsEffort};
+ghost use Rattle.plan_command.specs.PlanText.{HasTripRows, IsPlanTextOver};
+ghost use Rattle.plan_command.specs.ShortText.{IsShortTextOver};
+ghost use Rattle.plan_command.specs.Planning.{asked_of};
+ghost use Rattle.planner_run.specs.MadeText.{IsShortText};
+ghost use Rattle.planner_run.specs.PlanText.{IsPlanRefused, IsPlanStatus, IsPlanText, plan_status_of};
+
+use crate::ready::ready_day;
+use crate::status::Status;
+use day_model::Day;
+use plan_command::{Method, PlanFault, plan_text as plan_day_text, short_text as short_day_text};
+use plan_core::{Bytes, Gate, Seq};
+use std::alloc::Global;
+use std::thread::Threads;
+use vdv451_text::Table;
+
+/// The status for a day without a plan.
+pub(crate) fn plan_status(fault: PlanFault) -> Status
+    ensures { result ≡ plan_status_of fault }
+{
+    match fault {
+        PlanFault::NoPlan {
+            side,
+            bound,
+            places,
+        } => Status::NoPlan {
+            side,
+            bound,
+            places,
+        },
+        PlanFault::NotPlaced {
+            side,
+            item,
+            name,
+            partial,
+        } => Status::NotPlaced {
+            side,
+            item,
+            name,
+            partial,
+        },
+        PlanFault::Memory => Status::Memory,
+    }
+}
+
+/// The text of the plan of a day, from the table that its trips were read from.
+fn text_over<R: Threads + Sync, G: Gate + Sync>(
+    rt: &R,
+    alloc: Global,
+    model: &Day,
+    rec_frt: &Table,
+    method: &Method,
+    gate: &G,
+) -> Result<Bytes, Status>
+    requires plain { IsTrue (is_plain_table rec_frt.now) }
+    requires trips { HasTripRows model.now rec_frt.now }
+    requires effort { IsEffort method.now.effort }
+    ensures written { IfOk result (IsPlanTextOver model.now (asked_of method.now) rec_frt.now) }
+    ensures cause { IfErr result (IsPlanStatus model.now (asked_of method.now)) }
+{
+    match plan_day_text(rt, alloc, model, rec_frt, method, gate) {
+        Ok(bytes) => Ok(bytes),
+        Err(fault) => Err(plan_status(fault)),
+    }
+}
+
+/// The short text of the plan of a day, from the table that its trips were read from.
+fn short_over<R: Threads + Sync, G: Gate + Sync>(
+    rt: &R,
+    alloc: Global,
+    model: &Day,
+    rec_frt: &Table,
+    method: &Method,
+    gate: &G,
+) -> Result<Bytes, Status>
+    requires plain { IsTrue (is_plain_table rec_frt.now) }
+    requires trips { HasTripRows model.now rec_frt.now }
+    requires effort { IsEffort method.now.effort }
+    ensures written { IfOk result (IsShortTextOver model.now (asked_of method.now)) }
+    ensures cause { IfErr result (IsPlanStatus model.now (asked_of method.now)) }
+{
+    match short_day_text(rt, alloc, model, rec_frt, method, gate) {
+        Ok(bytes) => Ok(bytes),
+        Err(fault) => Err(plan_status(fault)),
+    }
+}
+
+/// The text of the plan of the day that the tables of all files tell: REC_UMLAUF, REC_FRT, X_UMLAUF, X_UMLAUF_TEIL, X_DIENST,
+/// X_DIENST_STUECK and X_SCHRANKE.
+///
+/// # Errors
+///
+/// `Input` with the first fault of the tables; then `Day` where the day has no kind; then `Input` with the number of trips where there
+/// are more than 3,000, the first fault of the settings, or the first trip without times; then, for vehicles and after them for drivers,
+/// `NoPlan` where the bound on their number is above how many there are, and `NotPlaced` where rounding leaves a trip or a piece; and
+/// `Memory`.
+pub fn plan_text<R: Threads + Sync, G: Gate + Sync>(
+    rt: &R,
+    alloc: Global,
+    tables: Seq<Table>,
+    day: u32,
+    method: &Method,
+    gate: &G,
+) -> Result<Bytes, Status>
+    requires plain { IsTrue (are_plain tables) }
+    requires sized { All (λ table. length table.rows < 2 ^ 32) tables }
+    requires effort { IsEffort method.now.effort }
+    ensures written { IfOk result (IsPlanText (asked_of method.now) tables day) }
+    ensures cause { IfErr result (IsPlanRefused (asked_of method.now) tables day) }
+{
+    match ready_day(alloc, tables, day) {
+        Ok(ready) => text_over(rt, alloc, &ready.model, &ready.rec_frt, method, gate),
+        Err(status) => Err(status),
+    }
+}
+
+/// The short text of the plan of the day that tables tell: X_KURZ and X_SCHRANKE.
+///
+/// # Errors
+///
+/// Those of [`plan_text`].
+pub fn short_text<R: Threads + Sync, G: Gate + Sync>(
+    rt: &R,
+    alloc: Global,
+    tables: Seq<Table>,
+    day: u32,
+    method: &Method,
+    gate: &G,
+) -> Result<Bytes, Status>
+    requires plain { IsTrue (are_plain tables) }
+    requires sized { All (λ table. length table.rows < 2 ^ 32) tables }
+    requires effort { IsEffort method.now.effort }
+    ensures written { IfOk result (IsShortText (asked_of method.now) tables day) }
+    ensures cause { IfErr result (IsPlanRefused (asked_of method.now) tables day) }
+{
+    match ready_day(alloc, tables, day) {
+        Ok(ready) => short_over(rt, alloc, &ready.model, &ready.rec_frt, method, gate),
+        Err(status) => Err(status),
+    }
+}

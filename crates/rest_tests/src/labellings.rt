@@ -1,0 +1,335 @@
+//! Small labellings: ways from the first item to the last, lists under a load, and lists of one item.
+
+ghost use Rattle.std.specs.Prelude.{◌≡◌, ◌≤◌, ◌+ℤ◌, ◌*◌, pos, int_le};
+ghost use Rattle.label_search.specs.Limits.{passed};
+ghost use Rattle.label_search.specs.Samples.{any_haul, any_way, AnyWay, haul_close, haul_good, HaulFits, hauls, hauls-hide, hauls-kept, hauls-safe, hauls-stepwise, hauls-valued, single_problem, singles, singles-hide, singles-kept, singles-listed, singles-safe, singles-stepwise, singles-valued, toll, value_closes, way_close, way_good, way_may_close, WayFits, ways, ways-end, ways-hide, ways-kept, ways-safe, ways-stepwise, ways-valued, weight};
+
+use cover_core::Columns;
+use label_search::Labels;
+
+/// The ways from the first item to the last: a shortest path without any resource.
+#[derive(Drop)]
+pub struct Ways {
+    pub count: u32,
+    pub seed: u8,
+}
+
+/// What the step from an item to a later one costs: from -5 to 5.
+pub fn toll(seed: u8, from: u32, item: u32) -> i64
+    ensures { result ≡ toll seed from item }
+{
+    let sum = from as u64 * 7 + item as u64 * 13 + seed as u64;
+    (sum % 11) as i64 - 5
+}
+
+/// What an item weighs.
+pub fn weight(item: u32) -> u32
+    ensures { result ≡ weight item }
+{
+    (item as u64 * 5 % 7) as u32 + 1
+}
+
+/// Whether a value with 5 for each of some steps is at most the limit with 5 for each item: each further step takes off at most 5.
+fn is_within(value: i64, steps: u64, limit: i64, count: u32) -> bool
+    requires { steps ≤ 4294967296 }
+    ensures { result ≡ int_le (value +ℤ pos (5 * steps)) (limit +ℤ pos (5 * count)) }
+{
+    with_steps(value, steps) <= with_steps(limit, count as u64)
+}
+
+/// A value with 5 for each of some steps.
+fn with_steps(value: i64, steps: u64) -> i128
+    requires { steps ≤ 4294967296 }
+    ensures { result ≡ value +ℤ pos (5 * steps) }
+{
+    value as i128 + 5 * steps as i128
+}
+
+impl Ways {
+    /// A label that may still close within the limit.
+    fn within(&self, label: Option<(u32, i64)>, limit: i64) -> Option<(u32, i64)>
+        ensures { result ≡ passed (way_may_close self.now.count limit) label }
+    {
+        match label {
+            None => None,
+            Some(label) => {
+                if is_within(label.1, label.0 as u64 + 1, limit, self.count) {
+                    Some(label)
+                } else {
+                    None
+                }
+            }
+        }
+    }
+
+    /// The label of one item.
+    fn first(&self, item: u32) -> Option<(u32, i64)>
+        ensures { result ≡ (ways self.now.count self.now.seed).start item }
+    {
+        if item == 0 && item < self.count {
+            Some((item, 0))
+        } else {
+            None
+        }
+    }
+
+    /// The label of one item more.
+    fn next(&self, label: &(u32, i64), item: u32) -> Option<(u32, i64)>
+        requires { WayFits label.now }
+        ensures { result ≡ (ways self.now.count self.now.seed).extend label.now item }
+    {
+        if label.0 < item && item < self.count {
+            Some((item, label.1 + toll(self.seed, label.0, item)))
+        } else {
+            None
+        }
+    }
+}
+
+impl Labels for Ways {
+    type Label = (u32, i64);
+
+    ghost count = { λ s. s.count };
+
+    ghost labelling = { λ s. ways s.count s.seed };
+
+    ghost good = { λ s. way_good };
+
+    ghost value_at = { λ s a. a.1 };
+
+    ghost close_of = { λ s. way_close s.count };
+
+    ghost last = { λ s a. a.0 };
+
+    ghost sound = { λ s. WayFits };
+
+    ghost may_close = { λ s. way_may_close s.count };
+
+    ghost kept = { λ s. ways-kept s.count s.seed };
+
+    ghost valued = { λ s. ways-valued s.count s.seed };
+
+    ghost stepwise = { λ s. ways-stepwise s.count s.seed };
+
+    ghost safe = { λ s. ways-safe s.count s.seed };
+
+    ghost hides_none = { λ s. ways-hide s.count s.seed };
+
+    fn items(&self) -> u32 {
+        self.count
+    }
+
+    fn start(&self, item: u32, limit: i64) -> Option<(u32, i64)> {
+        self.within(self.first(item), limit)
+    }
+
+    fn extend(&self, label: &(u32, i64), item: u32, limit: i64) -> Option<(u32, i64)> {
+        self.within(self.next(label, item), limit)
+    }
+
+    fn may_reach(&self, least: i64, item: u32, limit: i64) -> bool {
+        is_within(least, item as u64, limit, self.count)
+    }
+
+    fn may_follow(&self, _before: u32, least: i64, item: u32, limit: i64) -> bool {
+        is_within(least, item as u64, limit, self.count)
+    }
+
+    fn value(&self, label: &(u32, i64)) -> i64 {
+        label.1
+    }
+
+    fn is_as_good(&self, a: &(u32, i64), b: &(u32, i64)) -> bool {
+        a.0 == b.0 && a.1 <= b.1
+    }
+
+    fn close(&self, label: &(u32, i64)) -> Option<i64> {
+        if label.0 as u64 + 1 == self.count as u64 {
+            Some(label.1)
+        } else {
+            None
+        }
+    }
+}
+
+/// Lists of items whose weights are below a room: a path with a resource.
+#[derive(Drop)]
+pub struct Hauls {
+    pub count: u32,
+    pub seed: u8,
+    pub room: u32,
+}
+
+impl Labels for Hauls {
+    type Label = (u32, i64, u32);
+
+    ghost count = { λ s. s.count };
+
+    ghost labelling = { λ s. hauls s.count s.seed s.room };
+
+    ghost good = { λ s. haul_good };
+
+    ghost value_at = { λ s a. a.1 };
+
+    ghost close_of = { λ s. haul_close };
+
+    ghost last = { λ s a. a.0 };
+
+    ghost sound = { λ s. HaulFits s.room };
+
+    ghost may_close = { λ s. any_haul };
+
+    ghost kept = { λ s. hauls-kept s.count s.seed s.room };
+
+    ghost valued = { λ s. hauls-valued s.count s.seed s.room };
+
+    ghost stepwise = { λ s. hauls-stepwise s.count s.seed s.room };
+
+    ghost safe = { λ s. hauls-safe s.count s.seed s.room };
+
+    ghost hides_none = { λ s. hauls-hide s.count s.seed s.room };
+
+    fn items(&self) -> u32 {
+        self.count
+    }
+
+    fn start(&self, item: u32, _limit: i64) -> Option<(u32, i64, u32)> {
+        if item < self.count && weight(item) < self.room {
+            Some((item, toll(self.seed, item, item), weight(item)))
+        } else {
+            None
+        }
+    }
+
+    fn extend(&self, label: &(u32, i64, u32), item: u32, _limit: i64) -> Option<(u32, i64, u32)> {
+        let load = label.2 as u64 + weight(item) as u64;
+        if label.0 < item && item < self.count && load < self.room as u64 {
+            Some((item, label.1 + toll(self.seed, label.0, item), load as u32))
+        } else {
+            None
+        }
+    }
+
+    fn may_reach(&self, _least: i64, _item: u32, _limit: i64) -> bool {
+        true
+    }
+
+    fn may_follow(&self, _before: u32, _least: i64, _item: u32, _limit: i64) -> bool {
+        true
+    }
+
+    fn value(&self, label: &(u32, i64, u32)) -> i64 {
+        label.1
+    }
+
+    fn is_as_good(&self, a: &(u32, i64, u32), b: &(u32, i64, u32)) -> bool {
+        a.0 == b.0 && a.1 <= b.1 && (a.2 as u64) < b.2 as u64 + 1
+    }
+
+    fn close(&self, label: &(u32, i64, u32)) -> Option<i64> {
+        Some(label.1)
+    }
+}
+
+/// Lists of one item, each worth 1 in the only class.
+#[derive(Drop)]
+pub struct Singles {
+    pub count: u8,
+}
+
+impl Columns for Singles {
+    ghost problem = { λ s. single_problem s.count };
+
+    ghost listed = { λ s. singles-listed s.count };
+
+    fn items(&self) -> u32 {
+        self.count as u32
+    }
+
+    fn classes(&self) -> u32 {
+        1
+    }
+
+    fn cap(&self, _class: u32) -> u32 {
+        1
+    }
+
+    fn worth(&self, _class: u32, list: &[u32]) -> Option<u64> {
+        match list {
+            [item] => {
+                if *item < self.count as u32 {
+                    Some(1)
+                } else {
+                    None
+                }
+            }
+            _ => None,
+        }
+    }
+}
+
+impl Labels for Singles {
+    type Label = (u32, i64);
+
+    ghost count = { λ s. s.count };
+
+    ghost labelling = { λ s. singles s.count };
+
+    ghost good = { λ s. way_good };
+
+    ghost value_at = { λ s a. a.1 };
+
+    ghost close_of = { λ s. value_closes };
+
+    ghost last = { λ s a. a.0 };
+
+    ghost sound = { λ s. AnyWay };
+
+    ghost may_close = { λ s. any_way };
+
+    ghost kept = { λ s. singles-kept s.count };
+
+    ghost valued = { λ s. singles-valued s.count };
+
+    ghost stepwise = { λ s. singles-stepwise s.count };
+
+    ghost safe = { λ s. singles-safe s.count };
+
+    ghost hides_none = { λ s. singles-hide s.count };
+
+    fn items(&self) -> u32 {
+        self.count as u32
+    }
+
+    fn start(&self, item: u32, _limit: i64) -> Option<(u32, i64)> {
+        if item < self.count as u32 {
+            Some((item, 1000))
+        } else {
+            None
+        }
+    }
+
+    fn extend(&self, _label: &(u32, i64), _item: u32, _limit: i64) -> Option<(u32, i64)> {
+        None
+    }
+
+    fn may_reach(&self, _least: i64, _item: u32, _limit: i64) -> bool {
+        false
+    }
+
+    fn may_follow(&self, _before: u32, _least: i64, _item: u32, _limit: i64) -> bool {
+        false
+    }
+
+    fn value(&self, label: &(u32, i64)) -> i64 {
+        label.1
+    }
+
+    fn is_as_good(&self, a: &(u32, i64), b: &(u32, i64)) -> bool {
+        a.0 == b.0 && a.1 <= b.1
+    }
+
+    fn close(&self, label: &(u32, i64)) -> Option<i64> {
+        Some(label.1)
+    }
+}

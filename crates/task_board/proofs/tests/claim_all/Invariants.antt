@@ -1,5 +1,0 @@
-use Rattle.task_board.specs.Desks.{IsPartOf}
-use Rattle.task_board.proofs.tests.claim_all.Given as goal
-
-abbrev pub invariant-loop-claim : goal.invariant-loop-claim
-invariant-loop-claim l = IsPartOf l.board l.desk
