@@ -55,13 +55,13 @@ fn answer_of(alloc: Global, model: &Day, plan: DayPlan) -> Result<Answer, Memory
     requires worths { All (HasWorth model.now) plan.blocks.plan.columns }
     ensures { IfOk result (λ answer. answer ≡ answer_of_plan model.now (side_of plan.blocks) (side_of plan.duties)) }
 {
+    let bounds = bounds_of(alloc, &plan.blocks, &plan.duties)?;
+    let legs = block_legs(alloc, model, plan.blocks.plan.columns.as_slice())?;
     let DayPlan {
         blocks,
         pieces,
         duties,
     } = plan;
-    let bounds = bounds_of(alloc, &blocks, &duties)?;
-    let legs = block_legs(alloc, model, blocks.plan.columns.as_slice())?;
     Ok(Answer {
         blocks: blocks.plan,
         legs,

@@ -99,11 +99,9 @@ impl Network {
         requires { HasRanges rows }
         ensures { IfOk result (λ net. net ≡ rows) }
     {
-        let indexes = indexes_of(alloc, &rows)?;
-        Ok(Network {
-            rows: Box::new(alloc, rows)?,
-            indexes: Box::new(alloc, indexes)?,
-        })
+        let indexes = Box::new(alloc, indexes_of(alloc, &rows)?)?;
+        let rows = Box::new(alloc, rows)?;
+        Ok(Network { rows, indexes })
     }
 
     /// The version in force on a day given as YYYYMMDD: that of the greatest VER_GUELTIGKEIT not
