@@ -7,3 +7,4 @@ pub mod Labels
 pub mod Values
 pub mod Parts
 pub mod Fits
+pub mod Ranges

@@ -6,3 +6,4 @@ pub mod Laws
 pub mod Labels
 pub mod Parts
 pub mod Fitting
+pub mod Ranges

@@ -10,6 +10,7 @@
 ghost use Rattle.std.specs.Prelude.{◌≡◌, ◌<◌, ◌≤◌, length, slice_index, ◌*◌, IfOk, IfSome};
 ghost use Rattle.cover_core.specs.Cover.{Problem, AllBelow, Rises};
 ghost use Rattle.cover_core.specs.Plans.{HasListedColumns, cost, price_at};
+ghost use Rattle.cover_core.specs.Ranges.{HasFewPlaces, HasModestWorths};
 ghost use Rattle.cover_core.specs.FirstLeast.{value, AreCheap, AllWithin};
 ghost use Rattle.cover_core.specs.Best.{best_of, within};
 
@@ -66,10 +67,14 @@ pub trait Columns {
         ensures value { result ≡ (problem self.now).items }
         ensures few { result ≤ 3000 };
 
-    /// How many classes there are: at most 32.
+    /// How many classes there are: at most 32. No class may have more than 10,000 columns, and no list is worth more than 4,000,000,000 cost
+    /// units in a class. Both are said here of all classes at once, since whoever goes through a plan's columns or caps asks for the number
+    /// of classes anyway.
     fn classes(&self) -> u32
         ensures value { result ≡ length (problem self.now).caps }
-        ensures few { result ≤ 32 };
+        ensures few { result ≤ 32 }
+        ensures places { HasFewPlaces (problem self.now) }
+        ensures worths { HasModestWorths (problem self.now) };
 
     /// How many columns of a class a plan may have: at most 10,000.
     fn cap(&self, class: u32) -> u32

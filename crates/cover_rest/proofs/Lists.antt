@@ -1,12 +1,13 @@
 -- Lists of a rest.
-use Rattle.std.proofs.Common.{◌≡◌, ◌≢◌, ℕ, ◌<◌, ◌&&◌, Bool, true, false, cond, nat_lt, List, [], ◌∷◌, length, Option, Some, None, refl, ap, subst, ◌∙◌, arith}
-use Rattle.std.specs.Prelude.{unwrap_or}
+use Rattle.std.proofs.Common.{◌≡◌, ◌≢◌, ℕ, ◌<◌, ◌≤◌, ◌&&◌, Bool, true, false, cond, nat_lt, List, [], ◌∷◌, length, Option, Some, None, refl, ap, subst, ◌∙◌, arith}
+use Rattle.std.specs.Prelude.{IfSome, unwrap_or}
 use Rattle.std.proofs.lemmas.Bool.Decides.{nat_tests}
 use Rattle.cover_core.specs.declared.Column.{Column}
 use Rattle.cover_core.specs.Cover.{Problem, AllBelow, Rises}
 use Rattle.cover_core.specs.Plans.{HasListedColumns, AreColumns}
+use Rattle.cover_core.specs.Ranges.{HasModestWorths}
 use Rattle.cover_rest.specs.declared.begun.Begun.{Begun}
-use Rattle.cover_rest.specs.Rest.{all_below, bodies, keeps_heads, rest_of, rest_worth, rises, written, written_plan}
+use Rattle.cover_rest.specs.Rest.{all_below, bodies, is_rest_list, keeps_heads, rest_of, rest_worth, rises, written, written_plan}
 
 pub both-true : (a b : Bool) → (a && b) ≡ true → (a ≡ true) × (b ≡ true)
 both-true true b e = (refl, e)
@@ -77,6 +78,15 @@ pub rest-listed : (p : Problem) (heads : List Begun) (may : ℕ → List ℕ →
 rest-listed p heads may class list worth e =
     let h = rest-parts p heads (bodies heads p.items) may class list worth e in
     (not-empty heads (bodies heads p.items) may class list h.keeps, rises-rise list h.rises, below-below (length (bodies heads p.items)) list h.below)
+
+-- a list of a rest is worth what the written-out list is, so worths stay modest
+pub rest-modest : (p : Problem) (heads : List Begun) (may : ℕ → List ℕ → Bool) → HasModestWorths p → HasModestWorths (rest_of p heads may)
+rest-modest p heads may modest class list there =
+    let bs = bodies heads p.items in
+    elim (is_rest_list heads bs may class list) as (λ b. IfSome (cond b (p.worth class (written bs list)) None) (λ worth. worth ≤ 4000000000)) [
+      | true ↦ modest class (written bs list) there
+      | false ↦ tt
+    ]
 
 -- the columns of a rest, written out, are columns of the problem
 pub written-columns : (p : Problem) (heads : List Begun) (may : ℕ → List ℕ → Bool) (cs : List Column) → AreColumns (rest_of p heads may) cs →

@@ -3,3 +3,4 @@ pub mod Drives
 pub mod Opens
 pub mod Walks
 pub mod Marked
+pub mod Modest

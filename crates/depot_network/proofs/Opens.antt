@@ -127,7 +127,7 @@ on_few : (day : DayFacts) (pool : Pool) (d t u x : ℕ) → driven_on day pool d
 on_few day pool d t u x e =
     let p = on_parts day pool d t u x e in past_few (is_cut_on day pool p.next p.l) d (seconds_before p.l) (seconds_after p.l + trip_seconds p.next) x p.over
 
-in_is : (day : DayFacts) (pool : Pool) (d t inward : ℕ) (trip : Trip) → slice_get day.trips t ≡ Some trip → pull_in day pool trip ≡ Some inward → driven_in day pool d t ≡ kept (d + inward)
+pub in_is : (day : DayFacts) (pool : Pool) (d t inward : ℕ) (trip : Trip) → slice_get day.trips t ≡ Some trip → pull_in day pool trip ≡ Some inward → driven_in day pool d t ≡ kept (d + inward)
 in_is day pool d t inward trip there is = rw (there, is) refl
 
 in_less : (day : DayFacts) (pool : Pool) (d d' t x : ℕ) → d ≤ d' → driven_in day pool d' t ≡ Some x → (y : ℕ) × (driven_in day pool d t ≡ Some y)

@@ -65,6 +65,8 @@ impl Columns for PoolNet<'_> {
 
     /// The pools, by HOF_NR.
     fn classes(&self) -> u32 {
+        // Trips are daily, so their blocks are worth little: the day says so.
+        let _ = self.day.trips();
         self.day.params().pools().len() as u32
     }
 

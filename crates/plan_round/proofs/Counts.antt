@@ -9,9 +9,11 @@ use Rattle.cover_core.proofs.Parts.{placed-push, placed-set}
 use Rattle.std.specs.Prelude.{nat_lt, slice_index}
 use Rattle.cover_core.specs.Cover.{Problem}
 use Rattle.cover_core.specs.FirstLeast.{AreCheap}
+use Rattle.cover_core.specs.Ranges.{HasFewPlaces}
+use Rattle.cover_core.proofs.Ranges.{few-at}
 use Rattle.plan_round.specs.declared.choice.Spot.{Spot}
 use Rattle.plan_round.specs.declared.choice.Spot.TheVariants.{Into, New}
-use Rattle.plan_round.specs.Drafts.{IsCounted, IsSpotOf, AreFew}
+use Rattle.plan_round.specs.Drafts.{IsCounted, IsSpotOf}
 use Rattle.plan_round.proofs.Puts.{IsAllowedAt}
 
 pub counted-set : (columns : List Column) (counts : List ℕ) (place : ℕ) (new old : Column) → place < length columns → old ≡ get_or columns place old → new.class ≡ old.class → IsCounted columns counts → IsCounted (set columns place new) counts
@@ -48,14 +50,14 @@ AreCheap-push [] c h new = (new, tt)
 AreCheap-push (d ∷ ds) c h new = (h.0, AreCheap-push ds c h.1 new)
 
 -- what a problem allows can be put there
-pub allowed-spot : (p : Problem) (item : ℕ) (columns : List Column) (counts : List ℕ) (rise : ℤ) (worth : ℕ) (spot : Spot) → length counts ≡ length p.caps → IsCounted columns counts → AreFew p.caps →
+pub allowed-spot : (p : Problem) (item : ℕ) (columns : List Column) (counts : List ℕ) (rise : ℤ) (worth : ℕ) (spot : Spot) → length counts ≡ length p.caps → IsCounted columns counts → HasFewPlaces p →
     IsAllowedAt p item columns rise worth spot → IsSpotOf columns counts spot
 allowed-spot p item columns counts rise worth (Into place) sized counted few allowed = allowed.0
 allowed-spot p item columns counts rise worth (New class) sized counted few allowed =
     let inside = allowed.0 in
     let there : class < length counts = omega arith in
     let count : get_or counts class 0 ≡ times class (all_classes columns) = counted class there in
-    let most : slice_index p.caps class ≤ 10000 = few class inside in
+    let most : slice_index p.caps class ≤ 10000 = few-at p class few inside in
     let test : nat_lt (times class (all_classes columns)) (slice_index p.caps class) ≡ true = allowed.1 in
     let room : times class (all_classes columns) < slice_index p.caps class = grind (arith, nat_tests) in
     let free : get_or counts class 0 < 10000 = omega arith in

@@ -13,10 +13,6 @@ use Rattle.plan_round.specs.Rounding.{whole, left, with_choice, first_cheapest, 
 abbrev pub IsCounted : List Column → List ℕ → Type 0
 IsCounted columns counts = (class : ℕ) → class < length counts → slice_index counts class ≡ times class (all_classes columns)
 
--- no class has more than 10,000 places
-abbrev pub AreFew : List ℕ → Type 0
-AreFew caps = (class : ℕ) → class < length caps → slice_index caps class ≤ 10000
-
 -- the item can be put there
 abbrev pub IsSpotOf : List Column → List ℕ → Spot → Type 0
 IsSpotOf columns counts (Into place) = place < length columns

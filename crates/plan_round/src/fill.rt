@@ -5,10 +5,11 @@ ghost use Rattle.cover_core.specs.Cover.{Problem};
 ghost use Rattle.cover_core.specs.Plans.{AreColumns, IsPlan};
 ghost use Rattle.cover_core.specs.Parts.{IsPart};
 ghost use Rattle.cover_core.specs.FirstLeast.{AreCheap};
+ghost use Rattle.cover_core.specs.Ranges.{HasFewPlaces};
 ghost use Rattle.plan_round.specs.Rounding.{choice_for, first_cheapest, into_columns, class_choice, into_classes, choices, put_at};
 ghost use Rattle.plan_round.specs.Rounding.{round_items, whole};
 ghost use Rattle.plan_round.specs.Faults.{FaultIs};
-ghost use Rattle.plan_round.specs.Drafts.{IsCounted, IsSpotOf, AreFew, IsCheapChoice, ShowsFree, IsPlaced};
+ghost use Rattle.plan_round.specs.Drafts.{IsCounted, IsSpotOf, IsCheapChoice, ShowsFree, IsPlaced};
 
 use crate::choice::{Choice, Spot};
 use crate::draft::Draft;
@@ -157,15 +158,6 @@ fn put(alloc: Global, draft: &mut Draft, item: u32, choice: Choice) -> Result<()
     }
 }
 
-/// Each class has at most 10,000 places.
-fn caps_are_few<C: Columns>(columns: &C)
-    ensures { AreFew (C.problem columns.now).caps }
-{
-    for class in 0..columns.classes() {
-        let _cap = columns.cap(class);
-    }
-}
-
 /// Puts the item where it goes, or answers false where it has no place.
 fn place_item<C: Columns>(
     alloc: Global,
@@ -178,7 +170,7 @@ fn place_item<C: Columns>(
     requires cheap { AreCheap draft.old.columns }
     requires sized { length draft.old.counts ≡ length (C.problem columns.now).caps }
     requires counted { IsCounted draft.old.columns draft.old.counts }
-    requires caps { AreFew (C.problem columns.now).caps }
+    requires places { HasFewPlaces (C.problem columns.now) }
     ensures placed { IfOk result (IsPlaced (C.problem columns.now) item draft.old.columns draft.new.columns) }
     ensures cheap { OnOk result (AreCheap draft.new.columns) }
     ensures sized { length draft.new.counts ≡ length draft.old.counts }
@@ -206,6 +198,7 @@ pub fn fill<C: Columns>(
     requires cheap { AreCheap draft.columns }
     requires sized { length draft.counts ≡ length (C.problem columns.now).caps }
     requires counted { IsCounted draft.columns draft.counts }
+    requires places { HasFewPlaces (C.problem columns.now) }
     requires items { length free.now ≡ (C.problem columns.now).items }
     requires free { ShowsFree draft.columns free.now }
     ensures filled { IfOk result (λ plan. round_items (C.problem columns.now) (C.problem columns.now).items draft.columns ≡ whole plan.columns) }
@@ -213,7 +206,6 @@ pub fn fill<C: Columns>(
     ensures cheap { IfOk result (λ plan. AreCheap plan.columns) }
     ensures fault { IfErr result (FaultIs (C.problem columns.now) (round_items (C.problem columns.now) (C.problem columns.now).items draft.columns)) }
 {
-    caps_are_few(columns);
     let mut part = draft;
     for item in 0..columns.items() {
         if free[item as usize] {

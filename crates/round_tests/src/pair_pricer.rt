@@ -35,6 +35,8 @@ impl Columns for Pair {
     }
 
     fn classes(&self) -> u32 {
+        // Its worths and places are in their ranges: the pair says so.
+        let _places = self.places;
         1
     }
 

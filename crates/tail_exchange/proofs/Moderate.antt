@@ -1,5 +1,5 @@
 -- Worths stay moderate where a step is made.
-use Rattle.std.proofs.Common.{◌≡◌, ◌==◌, ℕ, ◌+◌, ◌<◌, ◌≤◌, true, false, cond, zero, suc, List, [], ◌∷◌, ◌++◌, length, get_or, take, Option, Some, None, IfSome, refl, sym, ap, ◌∙◌, subst, arith}
+use Rattle.std.proofs.Common.{◌≡◌, ◌==◌, ℕ, ◌+◌, ◌<◌, ◌≤◌, true, false, cond, zero, suc, List, [], ◌∷◌, ◌++◌, length, get_or, take, refl, sym, ap, ◌∙◌, arith}
 use Rattle.std.proofs.Math.ListN.{set}
 use Rattle.std.proofs.lemmas.List.{take_more}
 use Rattle.cover_core.specs.declared.Column.{Column}
@@ -27,16 +27,6 @@ pub set-push : (cs : List Column) (k : ℕ) (c d : Column) → k < length cs →
 set-push [] k c d h = absurd (omega arith)
 set-push (x ∷ xs) zero c d h = refl
 set-push (x ∷ xs) (suc k) c d h = ap (λ l. x ∷ l) (set-push xs k c d (omega arith))
-
--- one more worth is known to be moderate
-pub AreCheap-more : (plan : List Column) (k : ℕ) (c : Column) → k < length plan → c ≡ get_or plan k c → c.worth ≤ 4000000000 → AreCheap (take k plan) → AreCheap (take (k + 1) plan)
-AreCheap-more plan k c h is cheap so_far =
-    let P : Column → Type 0 = λ d. d.worth ≤ 4000000000 in
-    subst AreCheap (sym (take_more plan k c h)) (AreCheap-push (take k plan) (get_or plan k c) so_far (subst P is cheap))
-
-pub some-moderate : (o : Option ℕ) (worth : ℕ) → o ≡ Some worth → IfSome o (λ w. w ≤ 4000000000) → worth ≤ 4000000000
-some-moderate None worth e h = cc
-some-moderate (Some w) worth e h = let same : w ≡ worth = cc in omega arith
 
 -- one more column is counted
 pub counted-more : (class : ℕ) (plan : List Column) (k : ℕ) (c : Column) → k < length plan → c ≡ get_or plan k c →

@@ -21,16 +21,6 @@ use plan_core::{Memory, Seq};
 use std::alloc::Global;
 use std::thread::Threads;
 
-/// The worths of a plan's columns are moderate, as the problem says where it is asked for them.
-fn ask_worths<C: Columns>(columns: &C, plan: &[Column])
-    requires { IsPlan (C.problem columns.now) plan.now }
-    ensures { AreCheap plan.now }
-{
-    for column in plan {
-        let _worth = columns.worth(column.class, column.items.as_slice());
-    }
-}
-
 /// How many columns of a class there are.
 fn count_of(plan: &[Column], class: u32) -> usize
     ensures { result ≡ times class (all_classes plan.now) }
@@ -44,12 +34,18 @@ fn count_of(plan: &[Column], class: u32) -> usize
     count
 }
 
-/// Which classes have a place left.
-fn rooms<C: Columns>(alloc: Global, columns: &C, plan: &[Column]) -> Result<Seq<bool>, Memory>
+/// Which of so many classes have a place left.
+fn rooms<C: Columns>(
+    alloc: Global,
+    columns: &C,
+    classes: u32,
+    plan: &[Column],
+) -> Result<Seq<bool>, Memory>
+    requires { classes ≡ length (C.problem columns.now).caps }
     ensures { IfOk result (ShowsRooms (C.problem columns.now) plan.now) }
 {
     let mut rooms = Seq::new(alloc);
-    for class in 0..columns.classes() {
+    for class in 0..classes {
         rooms.push(count_of(plan, class) < columns.cap(class) as usize)?;
     }
     Ok(rooms)
@@ -114,9 +110,11 @@ fn make_step<R: Threads + Sync, C: Columns + Sync>(
     rt: &R,
     alloc: Global,
     columns: &C,
+    classes: u32,
     plan: &mut Seq<Column>,
     leasts: &mut Vec<Option<Candidate>>,
 ) -> Result<bool, Memory>
+    requires classes { classes ≡ length (C.problem columns.now).caps }
     requires ready { IsSearchable (C.problem columns.now) plan.old }
     requires leasts { ShowsLeasts (C.problem columns.now) plan.old leasts.old.items }
     ensures step { IfOk result (IsStepOrNone (C.problem columns.now) plan.old plan.new) }
@@ -124,7 +122,7 @@ fn make_step<R: Threads + Sync, C: Columns + Sync>(
     ensures ready { IsSearchable (C.problem columns.now) plan.new }
     ensures memory { OnErr result (LeadsSome (C.problem columns.now) 1 plan.old plan.new) }
 {
-    let rooms = rooms(alloc, columns, plan.as_slice())?;
+    let rooms = rooms(alloc, columns, classes, plan.as_slice())?;
     match cheapest(
         rt,
         columns,
@@ -174,13 +172,13 @@ pub fn improve<R: Threads + Sync, C: Columns + Sync>(
     ensures cost { cost plan.new.columns ≤ cost plan.old.columns }
 {
     steps_keep_plans::<C>();
-    ask_worths(columns, plan.columns.as_slice());
+    let classes = columns.classes();
     if steps == 0 {
         return Ok(0);
     }
     let mut leasts = all_leasts(rt, alloc, columns, plan.columns.as_slice())?;
     for made in 0..steps {
-        if !make_step(rt, alloc, columns, &mut plan.columns, &mut leasts)? {
+        if !make_step(rt, alloc, columns, classes, &mut plan.columns, &mut leasts)? {
             return Ok(made);
         }
     }

@@ -19,7 +19,7 @@ put-requires-clause-spot g c =
     let choice = c.in-Some.choice in
     let found : first_cheapest None (choices p c.args.item part) ≡ Some choice = chosen-is p c.args.item part c.as_slice.result.now c.in_ok-column.column (Some choice) c.in_ok-column.ensures.best c.as_slice.ensures c.in-Some.ensures.best in
     let allowed = subst (IfChosen (IsAllowed p c.args.item part)) found (first_cheapest-each (IsAllowed p c.args.item part) None (choices p c.args.item part) tt (choices-allowed p c.args.item part)) in
-    allowed-spot p c.args.item part c.args.draft.now.counts choice.rise choice.worth choice.spot c.requires.sized c.requires.counted c.requires.caps allowed
+    allowed-spot p c.args.item part c.args.draft.now.counts choice.rise choice.worth choice.spot c.requires.sized c.requires.counted c.requires.places allowed
 
 pub returns-clause-placed : goal.returns-clause-placed
 returns-clause-placed g c =

@@ -1,9 +1,38 @@
-use Rattle.std.proofs.Common.{◌≡◌, true, add-one, ap, sym, subst, arith, rules}
+use Rattle.std.proofs.Common.{◌≡◌, true, List, add-one, ap, refl, sym, subst, arith, rules}
+use Rattle.cover_core.specs.declared.Column.{Column}
 use Rattle.cover_core.specs.Plans.{cost}
+use Rattle.cover_core.proofs.Ranges.{modest-columns}
 use Rattle.tail_exchange.specs.Exchange.{Leads}
-use Rattle.tail_exchange.specs.Searches.{IsStepOrNone}
+use Rattle.tail_exchange.specs.Searches.{IsSearchable, IsStepOrNone}
 use Rattle.tail_exchange.proofs.Steps.{leads-more, leads-cheaper}
 use Rattle.tail_exchange.proofs.exchange.improve.Goals as goal
+
+pub returns-then-steps-eq0-clause-cheap : goal.returns-then-steps-eq0-clause-cheap
+returns-then-steps-eq0-clause-cheap g c =
+    modest-columns (g.C.Columns.problem c.args.columns.now) c.args.plan.now.columns c.classes-classes.ensures.worths c.requires.plan.worths
+
+pub all_leasts-requires-after_bounds : goal.all_leasts-requires-after_bounds
+all_leasts-requires-after_bounds g c κs within =
+    let p = g.C.Columns.problem c.args.columns.now in
+    let plan : List Column = c.args.plan.now.columns in
+    let cheap = modest-columns p plan c.classes-classes.ensures.worths c.requires.plan.worths in
+    let Ready : List Column → Type 0 = λ l. IsSearchable p l in
+    subst Ready (sym c.as_slice.ensures) (record { plan = c.requires.plan; cheap = cheap })
+
+pub returns-in_err-leasts-clause-cheap : goal.returns-in_err-leasts-clause-cheap
+returns-in_err-leasts-clause-cheap g c =
+    modest-columns (g.C.Columns.problem c.args.columns.now) c.args.plan.now.columns c.classes-classes.ensures.worths c.requires.plan.worths
+
+pub loop-made-init : goal.loop-made-init
+loop-made-init g c =
+    let p = g.C.Columns.problem c.args.columns.now in
+    let plan : List Column = c.args.plan.now.columns in
+    let cheap = modest-columns p plan c.classes-classes.ensures.worths c.requires.plan.worths in
+    record {
+      leads = refl;
+      ready = record { plan = c.requires.plan; cheap = cheap };
+      leasts = search rules;
+    }
 
 pub loop-made-preserved : goal.loop-made-preserved
 loop-made-preserved g c =
