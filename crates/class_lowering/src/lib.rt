@@ -11,18 +11,18 @@
 //! chapters on dual ascent for set partitioning have relatives of it.
 #![tactic(auto)]
 
-ghost use Rattle.std.specs.Prelude.{◌≡◌, ◌≢◌, ℕ, ◌<◌, ◌≤◌, ◌≤ℤ◌, ◌<ℤ◌, ◌-ℤ◌, [], pos, neg_ℤ, length, OnOk, OnErr};
+ghost use Rattle.std.specs.Prelude.{◌≡◌, ◌≢◌, ◌<◌, ◌≤◌, ◌≤ℤ◌, [], pos, length, OnOk, OnErr};
 ghost use Rattle.cover_core.specs.Cover.{AllBelow, Rises};
 ghost use Rattle.cover_core.specs.FirstLeast.{AllWithin};
 ghost use Rattle.cover_core.specs.Fitting.{AreFit};
-ghost use Rattle.cover_core.specs.Plans.{price_at, number_at};
-ghost use Rattle.cover_master.specs.Method.{clamped, share_of, lowered_by};
+ghost use Rattle.cover_core.specs.Plans.{number_at};
 ghost use Rattle.lagrangian_climb.specs.Choices.{AreAsked};
 ghost use Rattle.class_lowering.specs.Lowering.{HaveItems, IsLowered, lowered_prices};
 
 use column_pool::Pool;
 use cover_core::{Column, Prices, value};
-use plan_core::{Memory, Price, Seq};
+use cover_master::{lower_items, share};
+use plan_core::Memory;
 
 /// Lowers prices by all columns of a pool, by value and place at the old prices, each at the prices reached by then. There are at most
 /// 3,000 items and 32 classes; prices are from -10,000,000,000,000 to 10,000,000,000,000, and so they stay; each class asks from 0 to
@@ -85,69 +85,5 @@ pub fn lower_by(prices: &mut Prices, column: &Column, asked: i64)
     if value < 0 {
         let items = column.items.as_slice();
         lower_items(&mut prices.items, items, share(value, items.len()));
-    }
-}
-
-/// The share that each of so many items bears of a loss, rounded up.
-fn share(value: i64, count: usize) -> i64
-    requires low { neg_ℤ (pos 100000000000000000) ≤ℤ value }
-    requires loss { value <ℤ pos 0 }
-    requires some { 0 < count }
-    requires few { count ≤ 3000 }
-    ensures value { result ≡ pos (share_of value count) }
-    ensures low { pos 0 ≤ℤ result }
-    ensures high { result ≤ℤ pos 200000000000000000 }
-{
-    let loss = value.unsigned_abs();
-    let count = count as u64;
-    ((loss + (count - 1)) / count) as i64
-}
-
-/// Lowers the price of each item of a list by a share.
-fn lower_items(prices: &mut Seq<Price>, items: &[u32], share: i64)
-    requires moderate { AllWithin 10000000000000 prices.old }
-    requires rises { Rises items.now }
-    requires items { AllBelow (length prices.old) items.now }
-    requires low { pos 0 ≤ℤ share }
-    requires high { share ≤ℤ pos 200000000000000000 }
-    ensures len { length prices.new ≡ length prices.old }
-    ensures lowered { (item : ℕ) → price_at prices.new item ≡ lowered_by items.now share prices.old item }
-{
-    for item in items {
-        let place = *item as usize;
-        let price = price_in(prices, place);
-        prices.set(place, Price(lowered(price, share)));
-    }
-}
-
-/// The price of an item.
-fn price_in(prices: &Seq<Price>, item: usize) -> i64
-    requires { item < length prices.now }
-    ensures { result ≡ price_at prices.now item }
-{
-    prices.as_slice()[item].0
-}
-
-/// A price that is lowered by a share.
-fn lowered(price: i64, share: i64) -> i64
-    requires price_low { neg_ℤ (pos 10000000000000) ≤ℤ price }
-    requires price_high { price ≤ℤ pos 10000000000000 }
-    requires low { pos 0 ≤ℤ share }
-    requires high { share ≤ℤ pos 200000000000000000 }
-    ensures { result ≡ clamped (price -ℤ share) }
-{
-    clamp(price - share)
-}
-
-/// A price kept in its range.
-fn clamp(price: i64) -> i64
-    ensures { result ≡ clamped price }
-{
-    if 10000000000000 < price {
-        10000000000000
-    } else if price < -10000000000000 {
-        -10000000000000
-    } else {
-        price
     }
 }

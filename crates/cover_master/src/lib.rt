@@ -16,7 +16,7 @@ mod selection;
 mod start;
 mod turns;
 
-pub use lowering::lower;
+pub use lowering::{lower, lower_items, share};
 pub use start::start_prices;
 pub use turns::turn;
 

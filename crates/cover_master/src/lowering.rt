@@ -30,8 +30,9 @@ pub fn lower(prices: &mut Prices, column: &Column)
     }
 }
 
-/// The share that each of so many items bears of a loss, rounded up.
-fn share(value: i64, count: usize) -> i64
+/// The share that each of so many items bears of a loss, rounded up: minus a value below 0, divided by the number of items. The value is at
+/// least -100,000,000,000,000,000, in thousandths of a cost unit; there are 1 to 3,000 items.
+pub fn share(value: i64, count: usize) -> i64
     requires low { neg_ℤ (pos 100000000000000000) ≤ℤ value }
     requires loss { value <ℤ pos 0 }
     requires some { 0 < count }
@@ -45,8 +46,9 @@ fn share(value: i64, count: usize) -> i64
     ((loss + (count - 1)) / count) as i64
 }
 
-/// Lowers the price of each item of a list by a share.
-fn lower_items(prices: &mut Seq<Price>, items: &[u32], share: i64)
+/// Lowers the price of each item of a list by a share, and no other price. Prices are from -10,000,000,000,000 to 10,000,000,000,000, and so
+/// they stay; the list rises and its items are there; the share is from 0 to 200,000,000,000,000,000.
+pub fn lower_items(prices: &mut Seq<Price>, items: &[u32], share: i64)
     requires moderate { AllWithin 10000000000000 prices.old }
     requires rises { Rises items.now }
     requires items { AllBelow (length prices.old) items.now }

@@ -1,7 +1,7 @@
 use Rattle.std.proofs.Common.{◌≡◌, ◌<ℤ◌, ◌≤ℤ◌, ◌+ℤ◌, int_lt, ◌≤◌, ℕ, ℤ, pos, true, false, List, length, sym, ap, subst, ◌∙◌, arith, rules, FitsSigned, w64, to_z, of_z, to_z-of_z}
 use Rattle.std.proofs.lemmas.Int.{ints}
 use Rattle.plan_core.specs.declared.Price.{Price}
-use Rattle.cover_core.specs.FirstLeast.{value, AllWithin}
+use Rattle.cover_core.specs.FirstLeast.{AllWithin}
 use Rattle.cover_core.proofs.Values.{Rises-length, price_of-within}
 use Rattle.cover_master.specs.Method.{share_of}
 use Rattle.class_lowering.specs.Lowering.{value_with}
