@@ -1,15 +1,15 @@
 -- The nodes stand level by level, and a level that nothing follows adds nothing.
-use Rattle.std.proofs.Common.{◌≡◌, ℕ, ℤ, zero, suc, ◌+◌, ◌-◌, ◌≤◌, ◌<◌, ◌≤ℤ◌, Bool, List, [], ◌∷◌, ◌++◌, length, get_or, take, drop, refl, sym, ap, ◌∙◌, subst, arith, append_assoc, length-append}
+use Rattle.std.proofs.Common.{◌≡◌, ℕ, ℤ, zero, suc, ◌+◌, ◌-◌, ◌≤◌, ◌<◌, ◌≤ℤ◌, ◌<ℤ◌, Bool, List, [], ◌∷◌, ◌++◌, length, get_or, take, drop, refl, sym, ap, ◌∙◌, subst, arith, append_assoc, length-append}
 use Rattle.std.specs.Prelude.{Option, None, Result, Ok, Err, OnOk, fold}
-use Rattle.std.proofs.lemmas.List.{append-nil, take_more, take_all, drop_all, take-append-le, drop-append-le, drop-drop, drop_more, length-drop}
+use Rattle.std.proofs.lemmas.List.{append-nil, take_all, drop_all, take-append-le, drop-append-le, drop-drop, drop_more, length-drop}
 use Rattle.std.proofs.lemmas.Int.{ints}
 use Rattle.cover_core.specs.Labels.{Labelling}
 use Rattle.label_search.specs.declared.node.Node.{Node}
 use Rattle.label_search.specs.declared.node.Level.{Level}
 use Rattle.label_search.specs.Laws.{IsStepwise, IsSafe}
-use Rattle.label_search.specs.Limits.{limited}
-use Rattle.label_search.specs.Levels.{NoneFollows, EndsAt, IsOfLevel, NoneReaches, AreLevels, level_so_far}
-use Rattle.label_search.specs.Nodes.{AllSound, AllAtLeast, insert_node, node_of, next_nodes, level_of}
+use Rattle.label_search.specs.Limits.{limited, passed}
+use Rattle.label_search.specs.Levels.{AllAtLeast, AreLevels, AreUnfollowed, EndsAt, IsAbove, IsFrom, IsOfLevel, NoneFollows, NoneFollowsAbove, NoneReaches, NoneReachesAbove, level_so_far}
+use Rattle.label_search.specs.Nodes.{AllSound, insert_node, node_of, next_nodes, level_of}
 use Rattle.label_search.proofs.Sound.{AllSound-append, AllSound-fold, AllSound-node_of}
 
 -- a fact of all labels of nodes that follows from another one
@@ -42,22 +42,68 @@ take-between (x ∷ xs) (suc from) (suc end) h =
     let same : end - from ≡ suc end - suc from = omega arith in
     ap (λ l. x ∷ l) (take-between xs from end (omega arith)) ∙ ap (λ k. x ∷ (take from xs ++ take k (drop from xs))) same
 
--- a level that nothing follows adds nothing
-pub level-skipped : {L : Type 0} (w : Labelling L) (test : L → Bool) (good : L → L → Bool) (value_at : L → ℤ) (sound : L → Type 0) (last : L → ℕ)
-    (nodes : List (Node L)) (item from : ℕ) (l : Level) → from ≤ l.end →
-    AllSound (IsOfLevel sound last value_at l) (take (l.end - from) (drop from nodes)) →
-    NoneFollows w sound last value_at test l.item l.least item →
-    level_so_far (limited w test) good value_at nodes item from ≡ level_so_far (limited w test) good value_at nodes item l.end
-level-skipped {L = L} w test good value_at sound last nodes item from l order all none =
-    let part : List (Node L) = take (l.end - from) (drop from nodes) in
-    let whole : take l.end nodes ≡ take from nodes ++ part = take-between nodes from l.end order in
+-- no label of the nodes has an extension by an item that passes
+abbrev pub AreEnded : {L : Type 0} → Labelling L → (L → Bool) → ℕ → List (Node L) → Type 0
+AreEnded w test item nodes = AllSound (λ a. passed test (w.extend a item) ≡ None) nodes
+
+-- nodes of which nothing goes on add nothing
+pub level-skipped : {L : Type 0} (w : Labelling L) (test : L → Bool) (good : L → L → Bool) (value_at : L → ℤ)
+    (nodes : List (Node L)) (item from end : ℕ) → from ≤ end → AreEnded w test item (take (end - from) (drop from nodes)) →
+    level_so_far (limited w test) good value_at nodes item from ≡ level_so_far (limited w test) good value_at nodes item end
+level-skipped {L = L} w test good value_at nodes item from end order none =
+    let part : List (Node L) = take (end - from) (drop from nodes) in
+    let whole : take end nodes ≡ take from nodes ++ part = take-between nodes from end order in
     let v : Labelling L = limited w test in
-    let nothing : (place : ℕ) → next_nodes v item place part ≡ [] =
-    λ place. next_nodes-none v item place part (AllSound-map (IsOfLevel sound last value_at l) (λ a. v.extend a item ≡ None) (λ a (fits, ends, least). none a fits ends least) part all) in
-    let same : next_nodes v item 0 (take l.end nodes) ≡ next_nodes v item 0 (take from nodes) =
+    let nothing : (place : ℕ) → next_nodes v item place part ≡ [] = λ place. next_nodes-none v item place part none in
+    let same : next_nodes v item 0 (take end nodes) ≡ next_nodes v item 0 (take from nodes) =
     ap (next_nodes v item 0) whole ∙ next_nodes-join v item 0 (take from nodes) part ∙
     ap (λ l. next_nodes v item 0 (take from nodes) ++ l) (nothing (0 + length (take from nodes))) ∙ append-nil (next_nodes v item 0 (take from nodes)) in
     ap (λ l. fold (insert_node good value_at) [] (node_of item 0 (v.start item) ++ l)) (sym same)
+
+pub one-skipped : {L : Type 0} (w : Labelling L) (test : L → Bool) (good : L → L → Bool) (value_at : L → ℤ)
+    (nodes : List (Node L)) (item place : ℕ) → AreEnded w test item (take 1 (drop place nodes)) →
+    level_so_far (limited w test) good value_at nodes item place ≡ level_so_far (limited w test) good value_at nodes item (place + 1)
+one-skipped w test good value_at nodes item place none =
+    let one : 1 ≡ (place + 1) - place = omega arith in
+    let P : ℕ → Type 0 = λ k. AreEnded w test item (take k (drop place nodes)) in
+    level-skipped w test good value_at nodes item place (place + 1) (omega arith) (subst P one none)
+
+-- nothing goes on from a level that ends with an item that nothing follows
+pub ended-follows : {L : Type 0} (w : Labelling L) (test : L → Bool) (value_at : L → ℤ) (sound : L → Type 0) (last : L → ℕ) (item : ℕ) (l : Level) (ns : List (Node L)) →
+    AllSound (IsOfLevel sound last value_at l) ns → NoneFollows w sound last test l.item item → AreEnded w test item ns
+ended-follows w test value_at sound last item l ns all none =
+    AllSound-map (IsOfLevel sound last value_at l) (λ a. passed test (w.extend a item) ≡ None) (λ a (fits, ends, from). none a fits ends) ns all
+
+-- nor from one whose values are above the most
+pub ended-above : {L : Type 0} (w : Labelling L) (test : L → Bool) (value_at : L → ℤ) (sound : L → Type 0) (last : L → ℕ) (item : ℕ) (most : ℤ) (l : Level) (ns : List (Node L)) →
+    AllSound (IsOfLevel sound last value_at l) ns → most <ℤ l.least → NoneFollowsAbove w sound last value_at test l.item item most → AreEnded w test item ns
+ended-above w test value_at sound last item most l ns all high none =
+    AllSound-map (IsOfLevel sound last value_at l) (λ a. passed test (w.extend a item) ≡ None)
+    (λ a (fits, ends, from). let low = from.0 in none a fits ends (omega (arith, ints), from.1)) ns all
+
+pub ended-reach : {L : Type 0} (w : Labelling L) (test : L → Bool) (value_at : L → ℤ) (sound : L → Type 0) (last : L → ℕ) (item : ℕ) (reach : ℤ) (l : Level) (ns : List (Node L)) →
+    AllSound (IsOfLevel sound last value_at l) ns → reach <ℤ l.least → NoneReachesAbove w sound value_at test item reach → AreEnded w test item ns
+ended-reach w test value_at sound last item reach l ns all high none =
+    AllSound-map (IsOfLevel sound last value_at l) (λ a. passed test (w.extend a item) ≡ None)
+    (λ a (fits, ends, from). let low = from.0 in none a fits (omega (arith, ints), from.1)) ns all
+
+-- those of a level that are above the most do not go on
+pub level-most : {L : Type 0} (w : Labelling L) (test : L → Bool) (value_at : L → ℤ) (sound : L → Type 0) (last : L → ℕ) (item : ℕ) (most : ℤ) (l : Level) (ns : List (Node L)) →
+    AllSound (IsOfLevel sound last value_at l) ns → NoneFollowsAbove w sound last value_at test l.item item most → AreUnfollowed w value_at test item most ns
+level-most w test value_at sound last item most l ns all none =
+    AllSound-map (IsOfLevel sound last value_at l) (λ a. IsAbove most (value_at a) → passed test (w.extend a item) ≡ None)
+    (λ a (fits, ends, from) above. none a fits ends above) ns all
+
+-- one node of some that stand together
+pub part-one : {L : Type 0} (p : L → Type 0) (ns : List (Node L)) (from k place : ℕ) → from ≤ place → place < from + k →
+    AllSound p (take k (drop from ns)) → AllSound p (take 1 (drop place ns))
+part-one p [] from k zero low high all = tt
+part-one p [] from k (suc place) low high all = tt
+part-one p (n ∷ ns) zero zero place low high all = absurd (omega arith)
+part-one p (n ∷ ns) zero (suc k) zero low high all = (all.0, tt)
+part-one p (n ∷ ns) zero (suc k) (suc place) low high all = part-one p ns zero k place (omega arith) (omega arith) all.1
+part-one p (n ∷ ns) (suc from) k zero low high all = absurd (omega arith)
+part-one p (n ∷ ns) (suc from) k (suc place) low high all = part-one p ns from k place (omega arith) (omega arith) all
 
 -- two facts of all labels of nodes
 pub AllSound-both : {L : Type 0} (p q : L → Type 0) (ns : List (Node L)) → AllSound p ns → AllSound q ns → AllSound (λ a. p a × q a) ns
@@ -65,16 +111,23 @@ AllSound-both p q [] h k = tt
 AllSound-both p q (n ∷ ns) h k = ((h.0, k.0), AllSound-both p q ns h.1 k.1)
 
 -- an item that nothing reaches has the start alone
-pub level-unreached : {L : Type 0} (w : Labelling L) (test : L → Bool) (good : L → L → Bool) (value_at : L → ℤ) (sound : L → Type 0)
-    (nodes : List (Node L)) (item : ℕ) (least : ℤ) → AllSound sound nodes → AllAtLeast value_at least nodes → NoneReaches w sound value_at test least item →
+pub level-unreached : {L : Type 0} (w : Labelling L) (test : L → Bool) (good : L → L → Bool) (value_at : L → ℤ) (nodes : List (Node L)) (item : ℕ) → AreEnded w test item nodes →
     fold (insert_node good value_at) [] (node_of item 0 ((limited w test).start item)) ≡ level_of (limited w test) good value_at nodes item
-level-unreached {L = L} w test good value_at sound nodes item least fits low none =
+level-unreached {L = L} w test good value_at nodes item none =
     let v : Labelling L = limited w test in
-    let both : AllSound (λ a. sound a × (least ≤ℤ value_at a)) nodes = AllSound-both sound (λ a. least ≤ℤ value_at a) nodes fits low in
-    let nothing : next_nodes v item 0 nodes ≡ [] =
-    next_nodes-none v item 0 nodes (AllSound-map (λ a. sound a × (least ≤ℤ value_at a)) (λ a. v.extend a item ≡ None) (λ a (f, l). none a f l) nodes both) in
     ap (fold (insert_node good value_at) []) (sym (append-nil (node_of item 0 (v.start item)))) ∙
-    ap (λ l. fold (insert_node good value_at) [] (node_of item 0 (v.start item) ++ l)) (sym nothing)
+    ap (λ l. fold (insert_node good value_at) [] (node_of item 0 (v.start item) ++ l)) (sym (next_nodes-none v item 0 nodes none))
+
+pub ended-all : {L : Type 0} (w : Labelling L) (test : L → Bool) (sound : L → Type 0) (item : ℕ) (nodes : List (Node L)) →
+    AllSound sound nodes → NoneReaches w sound test item → AreEnded w test item nodes
+ended-all w test sound item nodes fits none = AllSound-map sound (λ a. passed test (w.extend a item) ≡ None) (λ a f. none a f) nodes fits
+
+pub ended-least : {L : Type 0} (w : Labelling L) (test : L → Bool) (value_at : L → ℤ) (sound : L → Type 0) (item : ℕ) (least reach : ℤ) (nodes : List (Node L)) →
+    AllSound sound nodes → AllAtLeast value_at least nodes → reach <ℤ least → NoneReachesAbove w sound value_at test item reach → AreEnded w test item nodes
+ended-least w test value_at sound item least reach nodes fits low high none =
+    AllSound-map (λ a. sound a × IsFrom least (value_at a)) (λ a. passed test (w.extend a item) ≡ None)
+    (λ a (f, from). let floor = from.0 in none a f (omega (arith, ints), from.1)) nodes
+    (AllSound-both sound (λ a. IsFrom least (value_at a)) nodes fits low)
 
 -- what a level has before any extension, and after all of them
 pub level-starts : {L : Type 0} (w : Labelling L) (good : L → L → Bool) (value_at : L → ℤ) (nodes : List (Node L)) (item : ℕ) →
@@ -165,16 +218,6 @@ pub of-level : {L : Type 0} (sound : L → Type 0) (last : L → ℕ) (value_at 
 of-level sound last value_at l [] h k = tt
 of-level sound last value_at l (n ∷ ns) h k = ((h.0.0, h.0.1, k.0), of-level sound last value_at l ns h.1 k.1)
 
--- the least value so far
-pub least-step : {L : Type 0} (value_at : L → ℤ) (i : ℕ) (nodes : List (Node L)) (n : Node L) (before least : ℤ) →
-    i < length nodes → n ≡ get_or nodes i n → AllAtLeast value_at before (take i nodes) → least ≤ℤ before → least ≤ℤ value_at n.label →
-    AllAtLeast value_at least (take (i + 1) nodes)
-least-step {L = L} value_at i nodes n before least below is all lower one =
-    let next : take (i + 1) nodes ≡ take i nodes ++ n ∷ [] = take_more nodes i n below ∙ ap (λ m. take i nodes ++ m ∷ []) (sym is) in
-    let P : List (Node L) → Type 0 = λ ns. AllAtLeast value_at least ns in
-    subst P (sym next) (AllSound-append (λ a. least ≤ℤ value_at a) (take i nodes) (n ∷ [])
-    (AllSound-map (λ a. before ≤ℤ value_at a) (λ a. least ≤ℤ value_at a) (λ a h. omega (arith, ints)) (take i nodes) all) (one, tt))
-
 -- the levels with one that was made put behind them
 pub levels-kept : {L : Type 0} (sound : L → Type 0) (last : L → ℕ) (value_at : L → ℤ) (nodes new nodes' : List (Node L)) (levels levels' : List Level) (l : Level) →
     nodes' ≡ nodes ++ new → levels' ≡ levels ++ l ∷ [] → l.end ≡ length nodes' → AreLevels sound last value_at 0 nodes levels →
@@ -191,9 +234,9 @@ pub least-more : {L : Type 0} (value_at : L → ℤ) (nodes new nodes' : List (N
     AllAtLeast value_at before nodes → AllAtLeast value_at made new → least ≤ℤ before → least ≤ℤ made → AllAtLeast value_at least nodes'
 least-more {L = L} value_at nodes new nodes' before made least nodes-are all more low lower =
     let P : List (Node L) → Type 0 = λ ns. AllAtLeast value_at least ns in
-    subst P (sym nodes-are) (AllSound-append (λ a. least ≤ℤ value_at a) nodes new
-    (AllSound-map (λ a. before ≤ℤ value_at a) (λ a. least ≤ℤ value_at a) (λ a h. omega (arith, ints)) nodes all)
-    (AllSound-map (λ a. made ≤ℤ value_at a) (λ a. least ≤ℤ value_at a) (λ a h. omega (arith, ints)) new more))
+    subst P (sym nodes-are) (AllSound-append (λ a. IsFrom least (value_at a)) nodes new
+    (AllSound-map (λ a. IsFrom before (value_at a)) (λ a. IsFrom least (value_at a)) (λ a (from, held). (omega (arith, ints, low, from), held)) nodes all)
+    (AllSound-map (λ a. IsFrom made (value_at a)) (λ a. IsFrom least (value_at a)) (λ a (from, held). (omega (arith, ints, lower, from), held)) new more))
 
 -- a fact after an answer that follows from another one
 pub on-ok : {T E : Type 0} (r : Result T E) (P Q : Type 0) → (P → Q) → OnOk r P → OnOk r Q

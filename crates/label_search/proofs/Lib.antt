@@ -12,3 +12,4 @@ pub mod Pricing
 pub mod Losses
 pub mod Rising
 pub mod Places
+pub mod Values

@@ -1,5 +1,5 @@
 -- The nodes that a search by labels keeps.
-use Rattle.std.specs.Prelude.{ℕ, ℤ, ◌+◌, ◌≤ℤ◌, int_lt, Bool, cond, not, ◌&&◌, zero, suc, List, [], ◌∷◌, ◌++◌, Option, Some, None, drop, filter, fold, take}
+use Rattle.std.specs.Prelude.{ℕ, ℤ, ◌+◌, int_lt, Bool, cond, not, ◌&&◌, zero, suc, List, [], ◌∷◌, ◌++◌, Option, Some, None, drop, filter, fold, take}
 use Rattle.std.specs.List.{list_any}
 use Rattle.label_search.specs.declared.node.Node.{Node}
 use Rattle.label_search.specs.declared.node.Best.{Best}
@@ -58,6 +58,7 @@ abbrev pub AllSound : {L : Type 0} → (L → Type 0) → List (Node L) → Type
 AllSound sound [] = Unit {0}
 AllSound sound (n ∷ ns) = sound n.label × AllSound sound ns
 
--- no label of the nodes has a value below this one
-abbrev pub AllAtLeast : {L : Type 0} → (L → ℤ) → ℤ → List (Node L) → Type 0
-AllAtLeast value_at least nodes = AllSound (λ a. least ≤ℤ value_at a) nodes
+-- the values of the labels of nodes
+abbrev pub values_of : {L : Type 0} → (L → ℤ) → List (Node L) → List ℤ
+values_of value_at [] = []
+values_of value_at (n ∷ ns) = value_at n.label ∷ values_of value_at ns

@@ -7,7 +7,7 @@ use Rattle.cover_core.specs.Cover.{Problem}
 use Rattle.cover_core.specs.Plans.{HasListedColumns}
 use Rattle.cover_core.specs.Labels.{Labelling, IsKept, IsValued}
 use Rattle.label_search.specs.Laws.{GoodAs, IsStepwise, IsSafe, HidesNone}
-use Rattle.label_search.specs.Levels.{NoneFollows, NoneReaches}
+use Rattle.label_search.specs.Levels.{IsAbove, NoneFollowsAbove, NoneReachesAbove}
 use Rattle.label_search.specs.Limits.{passed}
 
 -- what the step from an item to a later one costs: from -5 to 5
@@ -177,10 +177,10 @@ ways-hide count seed = record {
       is-low (a.1 +ℤ pos (5 * (a.0 + 1))) (limit +ℤ pos (5 * count)) (omega (arith, ints));
 }
 
--- a least value that is too high for each further step
-pub ways-unreached : (count seed : ℕ) (least : ℤ) (item : ℕ) (limit : ℤ) → int_le (least +ℤ pos (5 * item)) (limit +ℤ pos (5 * count)) ≡ false →
-    NoneReaches (ways count seed) WayFits (λ a. a.1) (way_may_close count limit) least item
-ways-unreached count seed least item limit high a fits more =
+-- values above the most are too high for each further step
+pub ways-unreached : (count seed : ℕ) (item : ℕ) (limit most : ℤ) → ((v : ℤ) → IsAbove most v → (limit +ℤ pos (5 * count)) <ℤ (v +ℤ pos (5 * item))) →
+    NoneReachesAbove (ways count seed) WayFits (λ a. a.1) (way_may_close count limit) item most
+ways-unreached count seed item limit most high a fits more =
     let w : Labelling Way = ways count seed in
     let test : Way → Bool = way_may_close count limit in
     elim (w.extend a item) as (λ o. w.extend a item ≡ o → passed test o ≡ None) [
@@ -190,14 +190,14 @@ ways-unreached count seed least item limit high a fits more =
           let item_is = x.item_is in
           let value_is = x.value_is in
           let (low, up) = toll-range seed a.0 item in
-          let above = not-low (least +ℤ pos (5 * item)) (limit +ℤ pos (5 * count)) high in
+          let above = high a.1 more in
           let over : int_le (b.1 +ℤ pos (5 * (b.0 + 1))) (limit +ℤ pos (5 * count)) ≡ false = over-limit (b.1 +ℤ pos (5 * (b.0 + 1))) (limit +ℤ pos (5 * count)) (omega (arith, ints)) in
           ap (λ t. cond t (Some b) None) over
     ] refl
 
-pub ways-end : (count seed before : ℕ) (least : ℤ) (item : ℕ) (limit : ℤ) → int_le (least +ℤ pos (5 * item)) (limit +ℤ pos (5 * count)) ≡ false →
-    NoneFollows (ways count seed) WayFits (λ a. a.0) (λ a. a.1) (way_may_close count limit) before least item
-ways-end count seed before least item limit high a fits ends more = ways-unreached count seed least item limit high a fits more
+pub ways-end : (count seed before : ℕ) (item : ℕ) (limit most : ℤ) → ((v : ℤ) → IsAbove most v → (limit +ℤ pos (5 * count)) <ℤ (v +ℤ pos (5 * item))) →
+    NoneFollowsAbove (ways count seed) WayFits (λ a. a.0) (λ a. a.1) (way_may_close count limit) before item most
+ways-end count seed before item limit most high a fits ends more = ways-unreached count seed item limit most high a fits more
 
 -- the last item, the cost so far, and the load so far
 abbrev pub Haul : Type 0

@@ -1,10 +1,10 @@
 //! Labels of lists of items.
 #![tactic(auto)]
 
-ghost use Rattle.std.specs.Prelude.{◌≡◌, ◌<◌, ℕ, ℤ, Option, Bool, false};
+ghost use Rattle.std.specs.Prelude.{◌≡◌, ◌<◌, ℕ, ℤ, IfNone, IfSome, Option, Bool};
 ghost use Rattle.cover_core.specs.Labels.{Labelling, IsKept, IsValued};
 ghost use Rattle.label_search.specs.Laws.{GoodAs, IsStepwise, IsSafe, HidesNone};
-ghost use Rattle.label_search.specs.Levels.{NoneFollows, NoneReaches};
+ghost use Rattle.label_search.specs.Levels.{NoneFollows, NoneFollowsAbove, NoneReaches, NoneReachesAbove};
 ghost use Rattle.label_search.specs.Limits.{passed};
 
 /// Labels of lists of items. A label says enough of its list to go on: which items may come next, and with what value the list closes.
@@ -56,17 +56,18 @@ pub trait Labels {
         requires sound { sound self.now label.now }
         ensures { result ≡ passed (may_close self.now limit) ((labelling self.now).extend label.now item) };
 
-    /// Whether a list with a value of at least `least` may go on with an item within the limit. It may say yes where none does; a
-    /// labelling that cannot tell says yes.
-    fn may_reach(&self, least: i64, item: u32, limit: i64) -> bool
+    /// The greatest value with which a list may go on with an item within the limit, and `None` where none may. It may be a greater one; a
+    /// labelling that cannot tell says `Some(i64::MAX)`.
+    fn most_reaching(&self, item: u32, limit: i64) -> Option<i64>
         requires { item < count self.now }
-        ensures { result ≡ false → NoneReaches (labelling self.now) (sound self.now) (value_at self.now) (may_close self.now limit) least item };
+        ensures none { IfNone result (NoneReaches (labelling self.now) (sound self.now) (may_close self.now limit) item) }
+        ensures most { IfSome result (λ most. NoneReachesAbove (labelling self.now) (sound self.now) (value_at self.now) (may_close self.now limit) item most) };
 
-    /// Whether a list that ends with the item `before` and has a value of at least `least` may go on with an item within the limit.
-    /// It may say yes where none does; a labelling that cannot tell says yes.
-    fn may_follow(&self, before: u32, least: i64, item: u32, limit: i64) -> bool
+    /// The same of lists that end with the item `before`.
+    fn most_following(&self, before: u32, item: u32, limit: i64) -> Option<i64>
         requires { item < count self.now }
-        ensures { result ≡ false → NoneFollows (labelling self.now) (sound self.now) (last self.now) (value_at self.now) (may_close self.now limit) before least item };
+        ensures none { IfNone result (NoneFollows (labelling self.now) (sound self.now) (last self.now) (may_close self.now limit) before item) }
+        ensures most { IfSome result (λ most. NoneFollowsAbove (labelling self.now) (sound self.now) (last self.now) (value_at self.now) (may_close self.now limit) before item most) };
 
     /// The value so far.
     fn value(&self, label: &Self::Label) -> i64

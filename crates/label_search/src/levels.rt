@@ -4,11 +4,12 @@
 //! lists compared from the last items backwards, and no list is ever compared.
 #![tactic(auto)]
 
-ghost use Rattle.std.specs.Prelude.{◌≡◌, [], ◌∷◌, ◌++◌, ◌<◌, ◌≤◌, ◌≤ℤ◌, ◌+◌, ◌-◌, length, take, drop, OnOk, filter, fold};
+ghost use Rattle.std.specs.Prelude.{◌≡◌, [], ◌∷◌, ◌++◌, ◌<◌, ◌≤◌, ◌≤ℤ◌, ◌+◌, ◌-◌, length, take, drop, IfOk, OnOk, filter, fold};
 ghost use Rattle.std.specs.List.{list_any};
-ghost use Rattle.label_search.specs.Levels.{AreLevels, EndsAt, IsOfLevel, level_so_far};
+ghost use Rattle.cover_core.specs.Plans.{number_at};
+ghost use Rattle.label_search.specs.Levels.{AllAtLeast, AreLevels, AreUnfollowed, EndsAt, IsOfLevel, NoneFollowsAbove, NoneReachesAbove, level_so_far};
 ghost use Rattle.label_search.specs.Limits.{limited};
-ghost use Rattle.label_search.specs.Nodes.{AllSound, AllAtLeast, is_beaten_node, insert_node, level_of, node_of, nodes_below, stays_beside, without};
+ghost use Rattle.label_search.specs.Nodes.{AllSound, is_beaten_node, insert_node, level_of, node_of, nodes_below, stays_beside, values_of, without};
 
 use crate::labels::Labels;
 use crate::node::{Level, Node};
@@ -16,10 +17,12 @@ use label_store::Stock;
 use plan_core::Memory;
 use std::alloc::Global;
 
-/// The nodes of a search and of the level that is being made, its levels, and a value that no label of the nodes is below.
+/// The nodes of a search and of the level that is being made, the values of those that are kept, in their order, the levels, and a value
+/// that no label of the nodes is below.
 #[derive(Drop)]
 pub struct Nodes<L: Copy> {
     pub stock: Stock<Node<L>>,
+    pub values: Vec<i64>,
     pub levels: Vec<Level>,
     pub least: i64,
 }
@@ -29,6 +32,7 @@ impl<L: Copy> Nodes<L> {
     pub fn new(alloc: Global) -> Nodes<L> {
         Nodes {
             stock: Stock::new(alloc),
+            values: Vec::new(alloc),
             levels: Vec::new(alloc),
             least: i64::MAX,
         }
@@ -123,38 +127,49 @@ fn insert_some<W: Labels>(
     }
 }
 
-/// Puts in the extensions of the nodes from a place to another one.
-fn extend_all<W: Labels>(
+/// The value at a place.
+fn at(values: &[i64], place: usize) -> i64
+    requires { place < length values.now }
+    ensures { result ≡ number_at values.now place }
+{
+    values[place]
+}
+
+/// Puts in the extension of a node, unless its value is above the most with which one goes on.
+fn extend_one<W: Labels>(
     labels: &W,
     stock: &mut Stock<Node<W::Label>>,
-    from: u32,
-    end: u32,
+    values: &[i64],
+    place: u32,
+    most: i64,
     item: u32,
     limit: i64,
 ) -> Result<(), Memory>
     requires item { item < W.count labels.now }
-    requires order { from ≤ end }
-    requires there { end ≤ length stock.old.kept }
+    requires there { place < length stock.old.kept }
     requires few { length stock.old.kept < 4294967295 }
     requires sound { AllSound (W.sound labels.now) stock.old.kept }
-    requires so_far { stock.old.made ≡ level_so_far (limited (W.labelling labels.now) (W.may_close labels.now limit)) (W.good labels.now) (W.value_at labels.now) stock.old.kept item from }
+    requires values { values.now ≡ values_of (W.value_at labels.now) stock.old.kept }
+    requires above { AreUnfollowed (W.labelling labels.now) (W.value_at labels.now) (W.may_close labels.now limit) item most (take 1 (drop place stock.old.kept)) }
+    requires so_far { stock.old.made ≡ level_so_far (limited (W.labelling labels.now) (W.may_close labels.now limit)) (W.good labels.now) (W.value_at labels.now) stock.old.kept item place }
     ensures kept { stock.new.kept ≡ stock.old.kept }
-    ensures made { OnOk result (stock.new.made ≡ level_so_far (limited (W.labelling labels.now) (W.may_close labels.now limit)) (W.good labels.now) (W.value_at labels.now) stock.old.kept item end) }
+    ensures made { OnOk result (stock.new.made ≡ level_so_far (limited (W.labelling labels.now) (W.may_close labels.now limit)) (W.good labels.now) (W.value_at labels.now) stock.old.kept item (place + 1)) }
 {
-    stock.reserve(end - from)?;
-    for place in from..end {
-        let label = labels.extend(&stock.kept_at(place as usize).label, item, limit);
-        insert_some(labels, stock, label, item, place + 1)?;
+    if at(values, place as usize) > most {
+        return Ok(());
     }
-    Ok(())
+    let label = labels.extend(&stock.kept_at(place as usize).label, item, limit);
+    insert_some(labels, stock, label, item, place + 1)
 }
 
-/// Puts in the extensions of a level's nodes, the first of which has this place, unless there is none.
-fn follow<W: Labels>(
+/// Puts in the extensions of a level's nodes, the first of which has this place and none of which goes on with a value above the most.
+fn extend_all<W: Labels>(
     labels: &W,
     stock: &mut Stock<Node<W::Label>>,
-    level: &Level,
+    values: &[i64],
     from: u32,
+    level: &Level,
+    most: i64,
     item: u32,
     limit: i64,
 ) -> Result<(), Memory>
@@ -163,47 +178,92 @@ fn follow<W: Labels>(
     requires there { level.now.end ≤ length stock.old.kept }
     requires few { length stock.old.kept < 4294967295 }
     requires sound { AllSound (W.sound labels.now) stock.old.kept }
+    requires values { values.now ≡ values_of (W.value_at labels.now) stock.old.kept }
     requires level { AllSound (IsOfLevel (W.sound labels.now) (W.last labels.now) (W.value_at labels.now) level.now) (take (level.now.end - from) (drop from stock.old.kept)) }
+    requires most { NoneFollowsAbove (W.labelling labels.now) (W.sound labels.now) (W.last labels.now) (W.value_at labels.now) (W.may_close labels.now limit) level.now.item item most }
     requires so_far { stock.old.made ≡ level_so_far (limited (W.labelling labels.now) (W.may_close labels.now limit)) (W.good labels.now) (W.value_at labels.now) stock.old.kept item from }
     ensures kept { stock.new.kept ≡ stock.old.kept }
     ensures made { OnOk result (stock.new.made ≡ level_so_far (limited (W.labelling labels.now) (W.may_close labels.now limit)) (W.good labels.now) (W.value_at labels.now) stock.old.kept item level.now.end) }
 {
-    if labels.may_follow(level.item, level.least, item, limit) {
-        extend_all(labels, stock, from, level.end, item, limit)
-    } else {
-        Ok(())
+    stock.reserve(level.end - from)?;
+    for place in from..level.end {
+        extend_one(labels, stock, values, place, most, item, limit)?;
+    }
+    Ok(())
+}
+
+/// Puts in the extensions of a level's nodes, the first of which has this place, unless there is none: no node goes on with a value above
+/// `reach`.
+fn follow<W: Labels>(
+    labels: &W,
+    stock: &mut Stock<Node<W::Label>>,
+    values: &[i64],
+    from: u32,
+    level: &Level,
+    reach: i64,
+    item: u32,
+    limit: i64,
+) -> Result<(), Memory>
+    requires item { item < W.count labels.now }
+    requires order { from ≤ level.now.end }
+    requires there { level.now.end ≤ length stock.old.kept }
+    requires few { length stock.old.kept < 4294967295 }
+    requires sound { AllSound (W.sound labels.now) stock.old.kept }
+    requires values { values.now ≡ values_of (W.value_at labels.now) stock.old.kept }
+    requires level { AllSound (IsOfLevel (W.sound labels.now) (W.last labels.now) (W.value_at labels.now) level.now) (take (level.now.end - from) (drop from stock.old.kept)) }
+    requires reach { NoneReachesAbove (W.labelling labels.now) (W.sound labels.now) (W.value_at labels.now) (W.may_close labels.now limit) item reach }
+    requires so_far { stock.old.made ≡ level_so_far (limited (W.labelling labels.now) (W.may_close labels.now limit)) (W.good labels.now) (W.value_at labels.now) stock.old.kept item from }
+    ensures kept { stock.new.kept ≡ stock.old.kept }
+    ensures made { OnOk result (stock.new.made ≡ level_so_far (limited (W.labelling labels.now) (W.may_close labels.now limit)) (W.good labels.now) (W.value_at labels.now) stock.old.kept item level.now.end) }
+{
+    if level.least > reach {
+        return Ok(());
+    }
+    match labels.most_following(level.item, item, limit) {
+        None => Ok(()),
+        Some(most) => {
+            if level.least <= most {
+                extend_all(labels, stock, values, from, level, most, item, limit)
+            } else {
+                Ok(())
+            }
+        }
     }
 }
 
-/// Makes the nodes of the lists that end with an item, from the nodes of the items before it.
-fn make_level<W: Labels>(
+/// Puts in the extensions of the nodes of the levels, none of which goes on with a value above `reach`.
+fn follow_all<W: Labels>(
     labels: &W,
     stock: &mut Stock<Node<W::Label>>,
+    values: &[i64],
     levels: &[Level],
+    reach: i64,
     item: u32,
     limit: i64,
 ) -> Result<(), Memory>
     requires item { item < W.count labels.now }
     requires few { length stock.old.kept < 4294967295 }
     requires sound { AllSound (W.sound labels.now) stock.old.kept }
+    requires values { values.now ≡ values_of (W.value_at labels.now) stock.old.kept }
     requires levels { AreLevels (W.sound labels.now) (W.last labels.now) (W.value_at labels.now) 0 stock.old.kept levels.now }
-    requires empty { stock.old.made ≡ [] }
+    requires reach { NoneReachesAbove (W.labelling labels.now) (W.sound labels.now) (W.value_at labels.now) (W.may_close labels.now limit) item reach }
+    requires so_far { stock.old.made ≡ level_so_far (limited (W.labelling labels.now) (W.may_close labels.now limit)) (W.good labels.now) (W.value_at labels.now) stock.old.kept item 0 }
     ensures kept { stock.new.kept ≡ stock.old.kept }
     ensures made { OnOk result (stock.new.made ≡ level_of (limited (W.labelling labels.now) (W.may_close labels.now limit)) (W.good labels.now) (W.value_at labels.now) stock.old.kept item) }
 {
-    insert_some(labels, stock, labels.start(item, limit), item, 0)?;
     let mut from = 0;
     for level in levels {
-        follow(labels, stock, level, from, item, limit)?;
+        follow(labels, stock, values, from, level, reach, item, limit)?;
         from = level.end;
     }
     Ok(())
 }
 
-/// The same, with no look at the nodes where no list of their values may go on with the item.
+/// Makes the nodes of the lists that end with an item, from the nodes of the items before it.
 fn make_item<W: Labels>(
     labels: &W,
     stock: &mut Stock<Node<W::Label>>,
+    values: &[i64],
     levels: &[Level],
     least: i64,
     item: u32,
@@ -212,28 +272,24 @@ fn make_item<W: Labels>(
     requires item { item < W.count labels.now }
     requires few { length stock.old.kept < 4294967295 }
     requires sound { AllSound (W.sound labels.now) stock.old.kept }
+    requires values { values.now ≡ values_of (W.value_at labels.now) stock.old.kept }
     requires least { AllAtLeast (W.value_at labels.now) least stock.old.kept }
     requires levels { AreLevels (W.sound labels.now) (W.last labels.now) (W.value_at labels.now) 0 stock.old.kept levels.now }
     requires empty { stock.old.made ≡ [] }
     ensures kept { stock.new.kept ≡ stock.old.kept }
     ensures made { OnOk result (stock.new.made ≡ level_of (limited (W.labelling labels.now) (W.may_close labels.now limit)) (W.good labels.now) (W.value_at labels.now) stock.old.kept item) }
 {
-    if labels.may_reach(least, item, limit) {
-        make_level(labels, stock, levels, item, limit)
-    } else {
-        insert_some(labels, stock, labels.start(item, limit), item, 0)
+    insert_some(labels, stock, labels.start(item, limit), item, 0)?;
+    match labels.most_reaching(item, limit) {
+        None => Ok(()),
+        Some(reach) => {
+            if least <= reach {
+                follow_all(labels, stock, values, levels, reach, item, limit)
+            } else {
+                Ok(())
+            }
+        }
     }
-}
-
-/// A value that none of the made nodes' labels is below: the least of theirs.
-fn least_value<W: Labels>(labels: &W, stock: &Stock<Node<W::Label>>) -> i64
-    ensures { AllAtLeast (W.value_at labels.now) result stock.now.made }
-{
-    let mut least = i64::MAX;
-    for place in 0..stock.made_count() {
-        least = lower(least, labels.value(&stock.made_at(place).label));
-    }
-    least
 }
 
 /// The lower of two values.
@@ -254,22 +310,52 @@ fn push_level(levels: &mut Vec<Level>, level: Level) -> Result<(), Memory>
     }
 }
 
+/// Puts a value last.
+fn push_value(values: &mut Vec<i64>, value: i64) -> Result<(), Memory>
+    ensures { OnOk result (values.new.items ≡ values.old.items ++ value ∷ []) }
+{
+    match values.push(value) {
+        Ok(()) => Ok(()),
+        Err(_) => Err(Memory),
+    }
+}
+
+/// Puts the values of the made nodes last, and answers a value that none of them is below: the least.
+fn keep_values<W: Labels>(
+    labels: &W,
+    stock: &Stock<Node<W::Label>>,
+    values: &mut Vec<i64>,
+) -> Result<i64, Memory>
+    ensures values { OnOk result (values.new.items ≡ values.old.items ++ values_of (W.value_at labels.now) stock.now.made) }
+    ensures least { IfOk result (λ least. AllAtLeast (W.value_at labels.now) least stock.now.made) }
+{
+    let mut least = i64::MAX;
+    for place in 0..stock.made_count() {
+        let value = labels.value(&stock.made_at(place).label);
+        push_value(values, value)?;
+        least = lower(least, value);
+    }
+    Ok(least)
+}
+
 /// Puts the level that was made behind the others, where it has nodes.
 fn keep_level<W: Labels>(labels: &W, item: u32, nodes: &mut Nodes<W::Label>) -> Result<(), Memory>
     requires few { length nodes.old.stock.kept < 4294967295 }
+    requires values { nodes.old.values.items ≡ values_of (W.value_at labels.now) nodes.old.stock.kept }
     requires least { AllAtLeast (W.value_at labels.now) nodes.old.least nodes.old.stock.kept }
     requires levels { AreLevels (W.sound labels.now) (W.last labels.now) (W.value_at labels.now) 0 nodes.old.stock.kept nodes.old.levels.items }
     requires made { AllSound (EndsAt (W.sound labels.now) (W.last labels.now) item) nodes.old.stock.made }
     ensures nodes { OnOk result (nodes.new.stock.kept ≡ nodes.old.stock.kept ++ nodes.old.stock.made) }
     ensures empty { OnOk result (nodes.new.stock.made ≡ []) }
     ensures few { OnOk result (length nodes.new.stock.kept < 4294967295) }
+    ensures values { OnOk result (nodes.new.values.items ≡ values_of (W.value_at labels.now) nodes.new.stock.kept) }
     ensures least { OnOk result (AllAtLeast (W.value_at labels.now) nodes.new.least nodes.new.stock.kept) }
     ensures levels { OnOk result (AreLevels (W.sound labels.now) (W.last labels.now) (W.value_at labels.now) 0 nodes.new.stock.kept nodes.new.levels.items) }
 {
     if nodes.stock.made_count() == 0 {
         return Ok(());
     }
-    let least = least_value(labels, &nodes.stock);
+    let least = keep_values(labels, &nodes.stock, &mut nodes.values)?;
     nodes.stock.keep_made()?;
     nodes.least = lower(nodes.least, least);
     let end = nodes.stock.kept_count();
@@ -297,18 +383,21 @@ fn add_item<W: Labels>(
     requires item { item < W.count labels.now }
     requires few { length nodes.old.stock.kept < 4294967295 }
     requires nodes { nodes.old.stock.kept ≡ nodes_below (limited (W.labelling labels.now) (W.may_close labels.now limit)) (W.good labels.now) (W.value_at labels.now) item }
+    requires values { nodes.old.values.items ≡ values_of (W.value_at labels.now) nodes.old.stock.kept }
     requires least { AllAtLeast (W.value_at labels.now) nodes.old.least nodes.old.stock.kept }
     requires levels { AreLevels (W.sound labels.now) (W.last labels.now) (W.value_at labels.now) 0 nodes.old.stock.kept nodes.old.levels.items }
     requires empty { nodes.old.stock.made ≡ [] }
     ensures nodes { OnOk result (nodes.new.stock.kept ≡ nodes_below (limited (W.labelling labels.now) (W.may_close labels.now limit)) (W.good labels.now) (W.value_at labels.now) (item + 1)) }
     ensures empty { OnOk result (nodes.new.stock.made ≡ []) }
     ensures few { OnOk result (length nodes.new.stock.kept < 4294967295) }
+    ensures values { OnOk result (nodes.new.values.items ≡ values_of (W.value_at labels.now) nodes.new.stock.kept) }
     ensures least { OnOk result (AllAtLeast (W.value_at labels.now) nodes.new.least nodes.new.stock.kept) }
     ensures levels { OnOk result (AreLevels (W.sound labels.now) (W.last labels.now) (W.value_at labels.now) 0 nodes.new.stock.kept nodes.new.levels.items) }
 {
     make_item(
         labels,
         &mut nodes.stock,
+        nodes.values.as_slice(),
         nodes.levels.as_slice(),
         nodes.least,
         item,
@@ -323,6 +412,7 @@ pub fn fill<W: Labels>(labels: &W, limit: i64, nodes: &mut Nodes<W::Label>) -> R
     ensures few { OnOk result (length nodes.new.stock.kept < 4294967295) }
 {
     nodes.stock.clear();
+    nodes.values.clear();
     nodes.levels.clear();
     nodes.least = i64::MAX;
     for item in 0..labels.items() {

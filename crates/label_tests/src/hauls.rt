@@ -81,12 +81,12 @@ impl Labels for Hauls {
         }
     }
 
-    fn may_reach(&self, _least: i64, _item: u32, _limit: i64) -> bool {
-        true
+    fn most_reaching(&self, _item: u32, _limit: i64) -> Option<i64> {
+        Some(i64::MAX)
     }
 
-    fn may_follow(&self, _before: u32, _least: i64, _item: u32, _limit: i64) -> bool {
-        true
+    fn most_following(&self, _before: u32, _item: u32, _limit: i64) -> Option<i64> {
+        Some(i64::MAX)
     }
 
     fn value(&self, label: &(u32, i64, u32)) -> i64 {

@@ -88,12 +88,12 @@ impl Labels for Singles {
         None
     }
 
-    fn may_reach(&self, _least: i64, _item: u32, _limit: i64) -> bool {
-        false
+    fn most_reaching(&self, _item: u32, _limit: i64) -> Option<i64> {
+        None
     }
 
-    fn may_follow(&self, _before: u32, _least: i64, _item: u32, _limit: i64) -> bool {
-        false
+    fn most_following(&self, _before: u32, _item: u32, _limit: i64) -> Option<i64> {
+        None
     }
 
     fn value(&self, label: &(u32, i64)) -> i64 {

@@ -1,6 +1,6 @@
 //! A sample without a resource.
 
-ghost use Rattle.std.specs.Prelude.{◌≡◌, ◌≤◌, ◌+ℤ◌, ◌*◌, pos, int_le};
+ghost use Rattle.std.specs.Prelude.{◌≡◌, ◌≤◌, ◌≤ℤ◌, ◌<ℤ◌, ◌+ℤ◌, ◌*◌, pos, int_le};
 ghost use Rattle.label_search.specs.Limits.{passed};
 ghost use Rattle.label_search.specs.Samples.{WayFits, way_close, way_good, way_may_close, ways, ways-hide, ways-kept, ways-safe, ways-stepwise, ways-valued};
 
@@ -20,6 +20,20 @@ fn is_within(value: i64, steps: u64, limit: i64, count: u32) -> bool
     ensures { result ≡ int_le (value +ℤ pos (5 * steps)) (limit +ℤ pos (5 * count)) }
 {
     with_steps(value, steps) <= with_steps(limit, count as u64)
+}
+
+/// The greatest value that is within the limit with 5 for each item before this one.
+fn most_within(item: u32, limit: i64, count: u32) -> i64
+    ensures { result <ℤ pos 9223372036854775807 → (limit +ℤ pos (5 * count)) ≤ℤ (result +ℤ pos (5 * item)) }
+{
+    let most = with_steps(limit, count as u64) - 5 * item as i128;
+    if most < i64::MIN as i128 {
+        i64::MIN
+    } else if most > i64::MAX as i128 {
+        i64::MAX
+    } else {
+        most as i64
+    }
 }
 
 /// A value with 5 for each of some steps.
@@ -112,12 +126,12 @@ impl Labels for Ways {
         self.within(self.next(label, item), limit)
     }
 
-    fn may_reach(&self, least: i64, item: u32, limit: i64) -> bool {
-        is_within(least, item as u64, limit, self.count)
+    fn most_reaching(&self, item: u32, limit: i64) -> Option<i64> {
+        Some(most_within(item, limit, self.count))
     }
 
-    fn may_follow(&self, _before: u32, least: i64, item: u32, limit: i64) -> bool {
-        is_within(least, item as u64, limit, self.count)
+    fn most_following(&self, _before: u32, item: u32, limit: i64) -> Option<i64> {
+        Some(most_within(item, limit, self.count))
     }
 
     fn value(&self, label: &(u32, i64)) -> i64 {

@@ -1,5 +1,6 @@
 -- Labels that are tested at each step are those that are tested at the end.
 use Rattle.std.proofs.Common.{◌≡◌, ℕ, ℤ, ◌≤◌, Bool, true, false, cond, List, [], ◌∷◌, length, drop, get_or, Option, Some, None, refl, sym, ap, ◌∙◌, arith}
+use Rattle.std.specs.Prelude.{IfNone, IfSome}
 use Rattle.std.specs.Option.{option_map}
 use Rattle.cover_core.specs.Labels.{Labelling, label_after, label_of}
 use Rattle.cover_rest.specs.Rest.{body_at}
@@ -8,6 +9,15 @@ use Rattle.rest_labels.specs.Labels.{ending, is_next, labels_of_rest}
 use Rattle.label_search.specs.Laws.{HidesNone, IsSafe}
 use Rattle.label_search.specs.Limits.{limited, passed}
 use Rattle.rest_labels.specs.Kept.{after-back}
+
+-- what holds of an answer, where it follows from what is known of it
+pub if-some : {A : Type 0} (o : Option A) (P Q : A → Type 0) → ((x : A) → P x → Q x) → IfSome o P → IfSome o Q
+if-some None P Q f h = h
+if-some (Some x) P Q f h = f x h
+
+pub if-none : {A : Type 0} (o : Option A) (P Q : Type 0) → (P → Q) → IfNone o P → IfNone o Q
+if-none None P Q f h = f h
+if-none (Some x) P Q f h = h
 
 module _ {L : Type 0} (w : Labelling L) (good : L → L → Bool) (close : L → Option ℤ) (sound : L → Type 0) (may_close : ℤ → L → Bool)
     (safe : IsSafe w sound) (hides : HidesNone w good close sound may_close) (limit : ℤ) where

@@ -189,25 +189,25 @@ impl<W: Labels> Labels for RestLabels<'_, W> {
         )
     }
 
-    fn may_reach(&self, least: i64, item: u32, limit: i64) -> bool {
+    fn most_reaching(&self, item: u32, limit: i64) -> Option<i64> {
         if self.is_head(item) {
-            return false;
+            return None;
         }
         match self.body(item) {
-            [] => true,
-            [first, ..] => self.labels.may_reach(least, *first, limit),
+            [] => Some(i64::MAX),
+            [first, ..] => self.labels.most_reaching(*first, limit),
         }
     }
 
-    fn may_follow(&self, before: u32, least: i64, item: u32, limit: i64) -> bool {
+    fn most_following(&self, before: u32, item: u32, limit: i64) -> Option<i64> {
         if !self.is_next(before, item) {
-            return false;
+            return None;
         }
         match self.body(before) {
-            [] => true,
+            [] => Some(i64::MAX),
             [.., last] => match self.body(item) {
-                [] => true,
-                [first, ..] => self.labels.may_follow(*last, least, *first, limit),
+                [] => Some(i64::MAX),
+                [first, ..] => self.labels.most_following(*last, *first, limit),
             },
         }
     }

@@ -69,12 +69,12 @@ impl<M: ValuedLists> Labels for ClassLabels<'_, M> {
         narrow_some(self.m, self.m.next(label, item))
     }
 
-    fn may_reach(&self, _least: i64, _item: u32, _limit: i64) -> bool {
-        true
+    fn most_reaching(&self, _item: u32, _limit: i64) -> Option<i64> {
+        Some(i64::MAX)
     }
 
-    fn may_follow(&self, _before: u32, _least: i64, _item: u32, _limit: i64) -> bool {
-        true
+    fn most_following(&self, _before: u32, _item: u32, _limit: i64) -> Option<i64> {
+        Some(i64::MAX)
     }
 
     fn value(&self, label: &M::Mark) -> i64 {

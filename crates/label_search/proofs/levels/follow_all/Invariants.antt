@@ -1,7 +1,7 @@
 use Rattle.std.proofs.Common.{◌≡◌, ◌≤◌, length, drop}
 use Rattle.label_search.specs.Levels.{AreLevels, level_so_far}
 use Rattle.label_search.specs.Limits.{limited}
-use Rattle.label_search.proofs.levels.make_level.Given as goal
+use Rattle.label_search.proofs.levels.follow_all.Given as goal
 
 abbrev pub invariant-loop-level : goal.invariant-loop-level
 invariant-loop-level g l =

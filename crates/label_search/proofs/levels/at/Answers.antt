@@ -1,0 +1,10 @@
+use Rattle.std.proofs.Common.{pos, get_or, rules, w64}
+use Rattle.std.proofs.lemmas.Int.{to_z-of_z}
+use Rattle.std.specs.Prelude.{FitsSigned}
+use Rattle.label_search.proofs.Losses.{number-get}
+use Rattle.label_search.proofs.levels.at.Goals as goal
+
+pub returns : goal.returns
+returns c =
+    let fits : FitsSigned w64 (get_or c.args.values.now c.args.place (pos 0)) = search rules in
+    rw (to_z-of_z w64 _ fits) (number-get c.args.values.now c.args.place c.requires)
