@@ -1,5 +1,6 @@
 -- What is read in the layout of a day is what the day says.
-use Rattle.std.proofs.Common.{◌≡◌, ℕ, ◌+◌, ◌*◌, ◌<◌, Bool, true, false, List, length, map, Some, refl, sym, ap, subst, ◌∙◌, slice_get, slice_index, get_or, is_some}
+use Rattle.std.proofs.Common.{◌≡◌, ℕ, ◌+◌, ◌*◌, ◌<◌, Bool, true, false, List, length, map, Option, Some, refl, sym, ap, subst, ◌∙◌, slice_get, slice_index, get_or, is_some}
+use Rattle.std.specs.Prelude.{unwrap_or}
 use Rattle.std.proofs.lemmas.List.{length-map}
 use Rattle.std.proofs.lemmas.Option.{slice_get_within, get_or_from_slice_get}
 use Rattle.plan_core.specs.declared.types.Point.{Point}
@@ -37,7 +38,16 @@ laid_of trips params deads begins ends between outward inward admitted relieved 
       inward = λ class t pool trip at at'. grid_cell (dead_on deads) ends.points (map depot params.pools) inward (slice_index ends.numbers t) class trip.to pool.depot are_inward (last.points t trip.to (mapped_at to trips t trip at')) (mapped_at depot params.pools class pool at);
       admitted = are_admitted;
       relieved = are_relieved;
+      numbers = record {
+        count = first.count ∙ length-map trips from;
+        same = λ t u trip next at at' one.
+            let P : ℕ → Type 0 = λ n. slice_get begins.points n ≡ Some trip.from in
+            one_point trip.from next.from (sym (subst P one (first.points t trip.from (mapped_at from trips t trip at))) ∙ first.points u next.from (mapped_at from trips u next at'));
+      };
     }
+  where
+    one_point : (a b : Point) → Some a ≡ Some b → a ≡ b
+    one_point a b e = let f : Option Point → Point = λ o. unwrap_or o a in ap f e
 
 -- the same, where its parts are over lists of points that are read first
 pub laid_out : (trips : List Trip) (params : ParamRows) (deads : List (Ends × ℕ)) (begins ends : Numbering) (between outward inward : Grid) (admitted relieved : List Bool) (firsts lasts depots from to : List Point) →

@@ -1,4 +1,5 @@
 pub mod Facts
+pub mod Begins
 pub mod Links
 pub mod Blocks
 pub mod Pieces

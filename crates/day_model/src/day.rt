@@ -5,6 +5,7 @@ ghost use Rattle.vdv452_tables.specs.Ranges.{IsTime};
 ghost use Rattle.trip_times.specs.declared.trip.Trip.{Trip};
 ghost use Rattle.plan_params.specs.Limits.{HaveRanges};
 ghost use Rattle.day_model.specs.Building.{most_trips};
+ghost use Rattle.day_model.specs.Begins.{AreBeginNumbers};
 ghost use Rattle.day_model.specs.Facts.{dead, is_relief};
 ghost use Rattle.day_model.specs.Layout.{AreLaidOut};
 ghost use Rattle.day_model.specs.Links.{admits_at, link_at, pull_in_at, pull_out_at, with_pool, with_trip};
@@ -114,8 +115,16 @@ impl Day {
         &self.trips()[number as usize]
     }
 
-    /// How long the deadhead from a trip to another takes.
-    fn between(&self, t: u32, u: u32) -> Option<u32>
+    /// For each trip a number of its first point: trips with one number begin at one point. The numbers are dense, from 0.
+    pub fn begin_numbers(&self) -> &[u32]
+        ensures { AreBeginNumbers self.now.trips result.now }
+    {
+        let layout: &Layout = &self.layout;
+        layout.begins.as_slice()
+    }
+
+    /// How long the deadhead from a trip to another takes, in seconds; none where there is none.
+    pub fn between(&self, t: u32, u: u32) -> Option<u32>
         requires t { t < length self.now.trips }
         requires u { u < length self.now.trips }
         ensures value { result ≡ with_trip self.now t (λ trip. with_trip self.now u (λ next. dead self.now trip.to next.from)) }
@@ -127,8 +136,8 @@ impl Day {
         time_at(&layout.between, from as usize, to as usize)
     }
 
-    /// How long the deadhead from a pool's depot to a trip takes.
-    fn outward(&self, class: u32, u: u32) -> Option<u32>
+    /// How long the deadhead from a pool's depot to a trip takes, in seconds; none where there is none.
+    pub fn outward(&self, class: u32, u: u32) -> Option<u32>
         requires class { class < length self.now.params.pools }
         requires u { u < length self.now.trips }
         ensures value { result ≡ with_pool self.now class (λ pool. with_trip self.now u (λ next. dead self.now pool.depot next.from)) }

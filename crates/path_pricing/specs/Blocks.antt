@@ -42,14 +42,6 @@ pub record AreBoundsFrom (day : DayFacts) (counts : Bool) (prices : List Price) 
   pub steps : (t : ℕ) → from ≤ t → StepsAbove day counts prices pool rests t (length day.trips) (number_at rests t)
   pub deep : (t : ℕ) → from ≤ t → IsDeep (length day.trips) t (number_at rests t)
 
--- of the trips from one on and before an end none has a rest less its price that is lower than a number
-abbrev pub IsLowOver : List Price → List ℤ → ℕ → ℕ → ℤ → Type 0
-IsLowOver prices rests from end low = (u : ℕ) → from ≤ u → u < end → low ≤ℤ (number_at rests u -ℤ price_at prices u)
-
--- for each trip from one on and before an end a number that is so over the trips from it on
-abbrev pub AreLows : List Price → List ℤ → List ℤ → ℕ → ℕ → Type 0
-AreLows prices rests lows from end = (u : ℕ) → from ≤ u → u < end → IsLowOver prices rests u end (number_at lows u)
-
 -- the label of a list of the range: its trips are not before the range's first one
 pub record IsInRange (count first : ℕ) (a : OpenBlock) : Type 0 where
   pub fits : OpenFits count a

@@ -11,7 +11,7 @@ use Rattle.plan_params.specs.Limits.{IsPool}
 use Rattle.day_model.specs.Facts.{DayFacts}
 use Rattle.day_model.specs.Ranges.{IsDaily}
 use Rattle.label_search.specs.Laws.{GoodAs, IsStepwise, IsSafe, HidesNone, IsFloor}
-use Rattle.label_search.specs.Levels.{NoneFollows, NoneReaches}
+use Rattle.label_search.specs.Levels.{IsAbove, NoneFollows, NoneFollowsAbove, NoneReachesAbove}
 use Rattle.label_search.specs.Limits.{is_low, passed}
 use Rattle.label_search.specs.Pricing.{is_between}
 use Rattle.label_search.proofs.Limits.{floor-hides}
@@ -98,10 +98,10 @@ module _ (day : DayFacts) (counts : Bool) (prices : List Price) (pool : Pool) (f
         let test : int_le (floor_of rests b) limit ≡ false = grind (arith, ints) in
         ap (λ t. cond t (Some b) None) test
 
-    -- a trip at which no block of a value of at least the least one stays within the limit
-    pub none_reaches : (limit least : ℤ) (u : ℕ) → limit <ℤ (least +ℤ pos 0 -ℤ price_at prices u +ℤ number_at rests u) →
-        NoneReaches (block_labels day counts prices pool first end) (IsInRange (length day.trips) first) (λ a. a.value) (is_low (floor_of rests) limit) least u
-    none_reaches limit least u high a fits low =
+    -- a trip at which no block of a value above the most stays within the limit
+    pub none_reaches : (limit most : ℤ) (u : ℕ) → ((v : ℤ) → IsAbove most v → limit <ℤ (v +ℤ pos 0 -ℤ price_at prices u +ℤ number_at rests u)) →
+        NoneReachesAbove (block_labels day counts prices pool first end) (IsInRange (length day.trips) first) (λ a. a.value) (is_low (floor_of rests) limit) u most
+    none_reaches limit most u high a fits more_than =
         elim (extended_open day counts prices pool a u) as (λ o. extended_open day counts prices pool a u ≡ o → passed (is_low (floor_of rests) limit) o ≡ None) [
           | None ↦ λ is. refl
           | Some b ↦ λ is.
@@ -109,13 +109,13 @@ module _ (day : DayFacts) (counts : Bool) (prices : List Price) (pool : Pool) (f
               let value = x.value in
               let up = scaled_up x.cost in
               let same : number_at rests b.trip ≡ number_at rests u = ap (number_at rests) x.trip in
-              above b limit (omega (arith, ints, high, low, value, up, same))
+              above b limit (omega (arith, ints, high a.value more_than, value, up, same))
         ] refl
 
     -- there is no link to the trip
-    pub none_linked : (limit least : ℤ) (t u : ℕ) → added day pool t u ≡ None →
-        NoneFollows (block_labels day counts prices pool first end) (IsInRange (length day.trips) first) (λ a. a.trip) (λ a. a.value) (is_low (floor_of rests) limit) t least u
-    none_linked limit least t u none a fits at low =
+    pub none_linked : (limit : ℤ) (t u : ℕ) → added day pool t u ≡ None →
+        NoneFollows (block_labels day counts prices pool first end) (IsInRange (length day.trips) first) (λ a. a.trip) (is_low (floor_of rests) limit) t u
+    none_linked limit t u none a fits at =
         elim (extended_open day counts prices pool a u) as (λ o. extended_open day counts prices pool a u ≡ o → passed (is_low (floor_of rests) limit) o ≡ None) [
           | None ↦ λ is. refl
           | Some b ↦ λ is.
@@ -124,10 +124,11 @@ module _ (day : DayFacts) (counts : Bool) (prices : List Price) (pool : Pool) (f
               absurd (cc)
         ] refl
 
-    -- the link to the trip costs so much that no block stays within the limit
-    pub none_follows : (limit least : ℤ) (t u cost : ℕ) → added day pool t u ≡ Some cost → limit <ℤ (least +ℤ scaled counts cost -ℤ price_at prices u +ℤ number_at rests u) →
-        NoneFollows (block_labels day counts prices pool first end) (IsInRange (length day.trips) first) (λ a. a.trip) (λ a. a.value) (is_low (floor_of rests) limit) t least u
-    none_follows limit least t u cost linked high a fits at low =
+    -- the link to the trip costs so much that no block of a value above the most stays within the limit
+    pub none_follows : (limit most : ℤ) (t u cost : ℕ) → added day pool t u ≡ Some cost →
+        ((v : ℤ) → IsAbove most v → limit <ℤ (v +ℤ scaled counts cost -ℤ price_at prices u +ℤ number_at rests u)) →
+        NoneFollowsAbove (block_labels day counts prices pool first end) (IsInRange (length day.trips) first) (λ a. a.trip) (λ a. a.value) (is_low (floor_of rests) limit) t u most
+    none_follows limit most t u cost linked high a fits at more_than =
         elim (extended_open day counts prices pool a u) as (λ o. extended_open day counts prices pool a u ≡ o → passed (is_low (floor_of rests) limit) o ≡ None) [
           | None ↦ λ is. refl
           | Some b ↦ λ is.
@@ -136,5 +137,5 @@ module _ (day : DayFacts) (counts : Bool) (prices : List Price) (pool : Pool) (f
               let both : Some x.cost ≡ Some cost = sym x.is_cost ∙ ap (λ i. added day pool i u) at ∙ linked in
               let same_cost : scaled counts x.cost ≡ scaled counts cost = ap (scaled counts) (some_same x.cost cost both) in
               let same : number_at rests b.trip ≡ number_at rests u = ap (number_at rests) x.trip in
-              above b limit (omega (arith, ints, high, low, value, same_cost, same))
+              above b limit (omega (arith, ints, high a.value more_than, value, same_cost, same))
         ] refl

@@ -1,93 +1,35 @@
-//! What the continuations of a block add at least.
+//! What the continuations of a block add at least, point by point.
 
-ghost use Rattle.std.specs.Prelude.{◌≡◌, ◌<◌, ◌≤◌, ◌+◌, ◌-◌, ◌*◌, ◌+ℤ◌, ◌-ℤ◌, ◌≤ℤ◌, neg_ℤ, pos, ℕ, ℤ, IfOk, IfSome, Some, length, slice_get};
+ghost use Rattle.std.specs.Prelude.{◌≡◌, ◌<◌, ◌≤◌, ◌+◌, ◌-◌, ◌*◌, ◌+ℤ◌, ◌-ℤ◌, ◌≤ℤ◌, neg_ℤ, pos, ℕ, ℤ, IfOk, Some, length, slice_get};
 ghost use Rattle.cover_core.specs.FirstLeast.{AllWithin};
-ghost use Rattle.cover_core.specs.Plans.{number_at, price_at};
+ghost use Rattle.cover_core.specs.Plans.{number_at};
 ghost use Rattle.plan_params.specs.Limits.{IsPool};
-ghost use Rattle.depot_network.specs.Open.{scaled};
-ghost use Rattle.depot_network.specs.Walk.{added, ended};
-ghost use Rattle.path_pricing.specs.Blocks.{AreBoundsFrom, AreLows, ClosesAbove, IsDeep, IsLowOver, StepsAbove};
+ghost use Rattle.day_model.specs.Begins.{AreBeginNumbers};
+ghost use Rattle.path_pricing.specs.Blocks.{AreBoundsFrom, ClosesAbove, IsDeep, StepsAbove};
+ghost use Rattle.path_pricing.specs.Points.{AreFirsts, passed_value, stood_value};
+ghost use Rattle.path_pricing.specs.Rows.{AreBelow, AreModerate, AreRows, HaveHeads, IsModerate};
 
+use crate::costs::{begin_of, charge, stand_rate};
+use crate::firsts::firsts_of;
+use crate::heads::{heads_of, width_of};
+use crate::points::with_point;
+use crate::rows::add_row;
 use depot_network::{PoolNet, price};
-use label_search::rest;
 use plan_core::{Memory, Price};
 use plan_params::Pool;
 use std::alloc::Global;
 
 /// More than any list closes with.
-const FAR: i64 = 100_000_000_000_000_000;
-
-/// The lower of two numbers.
-fn lower(a: i64, b: i64) -> i64
-    ensures first { result ≤ℤ a }
-    ensures second { result ≤ℤ b }
-    ensures least { (x : ℤ) → x ≤ℤ a → x ≤ℤ b → x ≤ℤ result }
-{
-    if a < b { a } else { b }
-}
-
-/// What a link adds, with the rest behind it.
-fn sum_over(cost: i64, price: i64, rest: i64) -> i64
-    requires cost_low { pos 0 ≤ℤ cost }
-    requires cost_high { cost ≤ℤ pos 3456000000000 }
-    requires price_low { neg_ℤ (pos 10000000000000) ≤ℤ price }
-    requires price_high { price ≤ℤ pos 10000000000000 }
-    requires rest_low { neg_ℤ (pos 30000000000000000) ≤ℤ rest }
-    requires rest_high { rest ≤ℤ pos 100000000000000000 }
-    ensures { result ≡ cost -ℤ price +ℤ rest }
-{
-    cost - price + rest
-}
-
-/// The lower of a number and of a rest less a price.
-fn low_with(low: i64, rest: i64, price: i64) -> i64
-    requires rest_low { neg_ℤ (pos 30000000000000000) ≤ℤ rest }
-    requires rest_high { rest ≤ℤ pos 100000000000000000 }
-    requires price_low { neg_ℤ (pos 10000000000000) ≤ℤ price }
-    requires price_high { price ≤ℤ pos 10000000000000 }
-    ensures first { result ≤ℤ low }
-    ensures second { result ≤ℤ (rest -ℤ price) }
-{
-    lower(low, rest - price)
-}
-
-/// What is known so far of the rest behind a trip, with a further trip looked at.
-fn with_link(
-    net: &PoolNet<'_>,
-    class: u32,
-    pool: &Pool,
-    prices: &[Price],
-    rests: &[i64],
-    t: u32,
-    u: u32,
-    least: i64,
-) -> i64
-    requires there { slice_get net.now.day.params.pools class ≡ Some pool.now }
-    requires ranges { IsPool pool.now }
-    requires moderate { AllWithin 10000000000000 prices.now }
-    requires trip { t < length net.now.day.trips }
-    requires next { u < length net.now.day.trips }
-    requires later { t < u }
-    requires few { length net.now.day.trips ≤ 3000 }
-    requires deep { IsDeep (length net.now.day.trips) u (number_at rests.now u) }
-    requires least_deep { IsDeep (length net.now.day.trips) t least }
-    ensures least { result ≤ℤ least }
-    ensures step { (cost : ℕ) → added net.now.day pool.now t u ≡ Some cost → result ≤ℤ (scaled net.now.counts cost -ℤ price_at prices.now u +ℤ number_at rests.now u) }
-    ensures deep { IsDeep (length net.now.day.trips) t result }
-{
-    match net.link_value(class, pool, t, u) {
-        None => least,
-        Some(cost) => lower(least, sum_over(cost, price(prices, u), rest(rests, u))),
-    }
-}
+pub(crate) const FAR: i64 = 100_000_000_000_000_000;
 
 /// What the pull-in behind a trip adds.
-fn with_pull_in(net: &PoolNet<'_>, class: u32, pool: &Pool, t: u32) -> i64
+pub(crate) fn with_pull_in(net: &PoolNet<'_>, class: u32, pool: &Pool, t: u32) -> i64
     requires there { slice_get net.now.day.params.pools class ≡ Some pool.now }
     requires ranges { IsPool pool.now }
     requires trip { t < length net.now.day.trips }
     ensures closes { ClosesAbove net.now.day net.now.counts pool.now t result }
     ensures deep { IsDeep (length net.now.day.trips) t result }
+    ensures high { result ≤ℤ pos 100000000000000000 }
 {
     match net.pull_in_value(class, pool, t) {
         None => FAR,
@@ -95,65 +37,100 @@ fn with_pull_in(net: &PoolNet<'_>, class: u32, pool: &Pool, t: u32) -> i64
     }
 }
 
-/// The number of a trip.
-fn number(numbers: &[i64], t: u32) -> i64
-    requires { t < length numbers.now }
-    ensures { result ≡ number_at numbers.now t }
+/// A number, raised to what the prices of so many trips can take off.
+fn settled(least: i64, trips: u32) -> i64
+    requires { trips ≤ 3000 }
+    ensures low { neg_ℤ (pos (10000000000000 * trips)) ≤ℤ result }
+    ensures least { (x : ℤ) → least ≤ℤ x → neg_ℤ (pos (10000000000000 * trips)) ≤ℤ x → result ≤ℤ x }
 {
-    numbers[t as usize]
+    let low = -10_000_000_000_000 * trips as i64;
+    if least < low { low } else { least }
 }
 
-/// What the continuations behind a trip add at least, from what those behind later trips do. `lows` has for each later trip a number that
-/// neither its rest less its price nor that of a trip behind it is below: no link adds less than nothing, so once that number is no lower
-/// than what is known, the trips from there on need no look.
+/// What the continuations behind a trip add at least, from what those behind later trips do: the rows have it for each point, over the trips
+/// from each place on that begin there.
 fn rest_behind(
     net: &PoolNet<'_>,
     class: u32,
     pool: &Pool,
     prices: &[Price],
     rests: &[i64],
-    lows: &[i64],
+    numbers: &[u32],
+    firsts: &[u32],
+    heads: &[u32],
+    width: usize,
+    stood: &[i64],
+    passed: &[i64],
     t: u32,
 ) -> i64
     requires there { slice_get net.now.day.params.pools class ≡ Some pool.now }
     requires ranges { IsPool pool.now }
     requires moderate { AllWithin 10000000000000 prices.now }
     requires trip { t < length net.now.day.trips }
-    requires few { length net.now.day.trips ≤ 3000 }
     requires deep { (u : ℕ) → t < u → IsDeep (length net.now.day.trips) u (number_at rests.now u) }
-    requires count { length lows.now ≡ length net.now.day.trips }
-    requires lows { AreLows prices.now rests.now lows.now (t + 1) (length net.now.day.trips) }
+    requires numbers { AreBeginNumbers net.now.day.trips numbers.now }
+    requires below { AreBelow width numbers.now (length net.now.day.trips) }
+    requires count { length heads.now ≡ width }
+    requires heads { HaveHeads numbers.now heads.now (length net.now.day.trips) }
+    requires firsts { AreFirsts net.now.day.trips 2881 firsts.now }
+    requires stood_room { (length net.now.day.trips - t) * width ≤ length stood.now }
+    requires stood_moderate { AreModerate stood.now }
+    requires stood { AreRows (length net.now.day.trips) width (t + 1) numbers.now (stood_value net.now.day net.now.counts prices.now pool.now rests.now) stood.now }
+    requires passed_room { (length net.now.day.trips - t) * width ≤ length passed.now }
+    requires passed_moderate { AreModerate passed.now }
+    requires passed { AreRows (length net.now.day.trips) width (t + 1) numbers.now (passed_value prices.now rests.now) passed.now }
     ensures closes { ClosesAbove net.now.day net.now.counts pool.now t result }
     ensures steps { StepsAbove net.now.day net.now.counts prices.now pool.now rests.now t (length net.now.day.trips) result }
     ensures deep { IsDeep (length net.now.day.trips) t result }
 {
     let count = net.day().trips().len() as u32;
     let mut least = with_pull_in(net, class, pool, t);
-    for u in t + 1..count {
-        if least <= number(lows, u) {
-            return least;
-        }
-        least = with_link(net, class, pool, prices, rests, t, u, least);
+    for number in 0..width {
+        let head = heads[number];
+        least = with_point(
+            net, class, pool, firsts, stood, passed, width, number, head, t, least,
+        );
     }
-    least
+    settled(least, count - t)
 }
 
-/// So many numbers.
-fn blank(alloc: Global, count: usize) -> Result<Vec<i64>, Memory>
-    ensures { IfOk result (λ numbers. length numbers.items ≡ count) }
+/// So many equal numbers.
+pub(crate) fn blank(alloc: Global, count: usize, value: i64) -> Result<Vec<i64>, Memory>
+    ensures count { IfOk result (λ numbers. length numbers.items ≡ count) }
+    ensures moderate { IsModerate value → IfOk result (λ numbers. AreModerate numbers.items) }
 {
-    let mut numbers = Vec::new(alloc);
-    match numbers.resize(count, 0) {
-        Ok(()) => Ok(numbers),
-        Err(_) => Err(Memory),
-    }
+    let numbers = vec![in alloc; value; count]?;
+    Ok(numbers)
 }
 
-/// For each trip from one on what the continuations behind it add at least, as far as links go: nothing is known here of what may be driven
-/// between two cuts. There are at most 3,000 trips; prices are from -10,000,000,000,000 to 10,000,000,000,000. Time is at most in the order
-/// of the square of the trips; for each trip the later ones are looked at as far as one of them may still lower what was found. `Memory` is
-/// the only error.
-pub fn rests_from(
+/// A rest, less the price of its trip.
+fn less(rest: i64, price: i64) -> i64
+    requires rest_low { neg_ℤ (pos 30000000000000000) ≤ℤ rest }
+    requires rest_high { rest ≤ℤ pos 100000000000000000 }
+    requires price_low { neg_ℤ (pos 10000000000000) ≤ℤ price }
+    requires price_high { price ≤ℤ pos 10000000000000 }
+    ensures value { result ≡ rest -ℤ price }
+    ensures low { neg_ℤ (pos 30010000000000000) ≤ℤ result }
+    ensures high { result ≤ℤ pos 100010000000000000 }
+{
+    rest - price
+}
+
+/// A number with a cost.
+fn more(number: i64, cost: i64) -> i64
+    requires number_low { neg_ℤ (pos 30010000000000000) ≤ℤ number }
+    requires number_high { number ≤ℤ pos 100010000000000000 }
+    requires cost_low { pos 0 ≤ℤ cost }
+    requires cost_high { cost ≤ℤ pos 3456000000000 }
+    ensures value { result ≡ number +ℤ cost }
+    ensures moderate { IsModerate result }
+{
+    number + cost
+}
+
+/// For each trip from one on what the continuations behind it add at least, point by point. It takes memory and time with the product of the
+/// trips and of the points at which they begin. `Memory` is the only error.
+pub(crate) fn rests_by_points(
     alloc: Global,
     net: &PoolNet<'_>,
     class: u32,
@@ -167,10 +144,17 @@ pub fn rests_from(
     requires from { from ≤ length net.now.day.trips }
     ensures { IfOk result (λ rests. AreBoundsFrom net.now.day net.now.counts prices.now pool.now rests.items from) }
 {
-    let count = net.day().trips().len();
-    let mut rests = blank(alloc, count)?;
-    let mut lows = blank(alloc, count)?;
-    let mut low = FAR;
+    let day = net.day();
+    let count = day.trips().len();
+    let numbers = day.begin_numbers();
+    let width = width_of(numbers);
+    let heads = heads_of(alloc, numbers, width)?;
+    let firsts = firsts_of(alloc, day)?;
+    let size = (count - from as usize + 1) * width;
+    let mut rests = blank(alloc, count, 0)?;
+    let mut stood = blank(alloc, size, FAR)?;
+    let mut passed = blank(alloc, size, FAR)?;
+    let mut base = 0;
     let mut t = count as u32;
     while t > from {
         t -= 1;
@@ -180,12 +164,22 @@ pub fn rests_from(
             pool,
             prices,
             rests.as_slice(),
-            lows.as_slice(),
+            numbers,
+            firsts.as_slice(),
+            heads.as_slice(),
+            width,
+            stood.as_slice(),
+            passed.as_slice(),
             t,
         );
-        low = low_with(low, rest, price(prices, t));
+        let trip = day.trip(t);
+        let number = numbers[t as usize] as usize;
+        let value = less(rest, price(prices, t));
+        let until = charge(net.counts(), stand_rate(pool, trip), begin_of(trip));
+        add_row(&mut stood, base, width, number, more(value, until));
+        add_row(&mut passed, base, width, number, value);
         rests[t as usize] = rest;
-        lows[t as usize] = low;
+        base += width;
     }
     Ok(rests)
 }

@@ -72,6 +72,26 @@ fn is_within(value: i64, cost: i64, price: i64, rest: i64, limit: i64) -> bool
     total(value, cost, price, rest) <= limit as i128
 }
 
+/// The greatest value that is at most the limit with a cost and a rest, less a price.
+fn most_within(cost: i64, price: i64, rest: i64, limit: i64) -> i64
+    ensures { result <ℤ pos 9223372036854775807 → limit ≤ℤ (result +ℤ cost -ℤ price +ℤ rest) }
+{
+    clamped(limit as i128 - total(0, cost, price, rest))
+}
+
+/// The number of 64 bits that is nearest to a number.
+fn clamped(number: i128) -> i64
+    ensures { result <ℤ pos 9223372036854775807 → number ≤ℤ result }
+{
+    if number < i64::MIN as i128 {
+        i64::MIN
+    } else if number > i64::MAX as i128 {
+        i64::MAX
+    } else {
+        number as i64
+    }
+}
+
 impl BlockLabels<'_> {
     /// A label that can still close within the limit.
     fn within(&self, block: Option<OpenBlock>, limit: i64) -> Option<OpenBlock>
@@ -143,29 +163,23 @@ impl Labels for BlockLabels<'_> {
         )
     }
 
-    fn may_reach(&self, least: i64, item: u32, limit: i64) -> bool {
-        is_within(
-            least,
-            0,
-            price(self.prices, item),
-            rest(self.rests, item),
-            limit,
-        )
+    fn most_reaching(&self, item: u32, limit: i64) -> Option<i64> {
+        let most = most_within(0, price(self.prices, item), rest(self.rests, item), limit);
+        Some(most)
     }
 
-    fn may_follow(&self, before: u32, least: i64, item: u32, limit: i64) -> bool {
+    fn most_following(&self, before: u32, item: u32, limit: i64) -> Option<i64> {
         if before >= self.items() {
-            return true;
+            return Some(i64::MAX);
         }
         match self.net.link_value(self.class, &self.pool, before, item) {
-            None => false,
-            Some(cost) => is_within(
-                least,
+            None => None,
+            Some(cost) => Some(most_within(
                 cost,
                 price(self.prices, item),
                 rest(self.rests, item),
                 limit,
-            ),
+            )),
         }
     }
 

@@ -4,9 +4,16 @@
 #![tactic(auto)]
 
 mod behind;
+mod costs;
+mod firsts;
+mod heads;
 mod labels;
+mod linked;
+mod points;
 mod pricer;
+mod rests;
+mod rows;
 
-pub use behind::rests_from;
 pub use labels::BlockLabels;
 pub use pricer::PathPricer;
+pub use rests::rests_from;

@@ -7,8 +7,8 @@ ghost use Rattle.plan_params.specs.Limits.{IsPool};
 ghost use Rattle.depot_network.specs.Network.{blocks, caps_of};
 ghost use Rattle.path_pricing.specs.Blocks.{AreBoundsFrom};
 
-use crate::behind::rests_from;
 use crate::labels::BlockLabels;
+use crate::rests::rests_from;
 use cover_core::{Column, Columns, Pricer, Prices};
 use depot_network::PoolNet;
 use label_dive::{dive_from_least, likely};

@@ -1,35 +1,72 @@
-use Rattle.std.proofs.Common.{◌≡◌, ◌≤◌, ◌<◌, ◌≤ℤ◌, ◌+◌, ℤ, arith, length, rules, subst, sym, to_z, of_z, w64}
+use Rattle.std.proofs.Common.{◌≡◌, ◌<◌, ◌+◌, ◌∙◌, ℕ, ℤ, ap, arith, length, rules, subst, sym, to_z, of_z, w64}
 use Rattle.std.proofs.lemmas.Int.{ints, to_z-of_z}
-use Rattle.std.specs.Prelude.{FitsSigned}
-use Rattle.path_pricing.specs.Blocks.{ClosesAbove, IsDeep, StepsAbove}
-use Rattle.cover_core.specs.Plans.{number_at}
-use Rattle.path_pricing.proofs.Places.{steps_more, steps_past}
+use Rattle.std.specs.Prelude.{FitsSigned, slice_index}
+use Rattle.path_pricing.specs.Blocks.{ClosesAbove}
+use Rattle.path_pricing.specs.Points.{PointAbove, PointsAbove, passed_value, stood_value}
+use Rattle.path_pricing.proofs.Cells.{entry_read}
+use Rattle.path_pricing.proofs.Going.{points_more, points_none}
+use Rattle.path_pricing.proofs.Places.{settled_closes, settled_steps}
 use Rattle.path_pricing.proofs.behind.rest_behind.Goals as goal
 
-pub loop-u-preserved : goal.loop-u-preserved
-loop-u-preserved c =
+pub loop-number-init : goal.loop-number-init
+loop-number-init c =
     let net = c.args.net.now in
-    let new : ℤ = c.with_link-least.result in
+    let new : ℤ = c.with_pull_in-least.result in
     let fits : FitsSigned w64 new = search rules in
     let back : to_z w64 (of_z w64 new) ≡ new = to_z-of_z w64 new fits in
-    let low = c.with_link-least.ensures.least in
     let Closes : ℤ → Type 0 = λ z. ClosesAbove net.day net.counts c.args.pool.now c.args.t z in
-    let Steps : ℤ → Type 0 = λ z. StepsAbove net.day net.counts c.args.prices.now c.args.pool.now c.args.rests.now c.args.t (c.loop-u.u + 1) z in
-    let Deep : ℤ → Type 0 = λ z. IsDeep (length net.day.trips) c.args.t z in
-    let closes : Closes new = λ cost e. (let old = c.loop-u.invariant.closes cost e in omega (arith, ints, old, low)) in
-    let steps : Steps new = steps_more net.day net.counts c.args.prices.now c.args.pool.now c.args.rests.now c.args.t c.loop-u.u _ new low c.with_link-least.ensures.step c.loop-u.invariant.steps in
     record {
-      closes = subst Closes (sym back) closes;
-      steps = subst Steps (sym back) steps;
-      deep = subst Deep (sym back) c.with_link-least.ensures.deep;
+      closes = subst Closes (sym back) c.with_pull_in-least.ensures.closes;
+      high = omega (arith, ints, c.with_pull_in-least.ensures.high, back);
+      points = points_none net.day net.counts c.args.prices.now c.args.pool.now c.args.rests.now c.args.numbers.now c.args.t _;
     }
 
-pub returns-then-least-number-clause-steps : goal.returns-then-least-number-clause-steps
-returns-then-least-number-clause-steps c =
+pub loop-number-preserved : goal.loop-number-preserved
+loop-number-preserved c =
     let net = c.args.net.now in
-    let u = c.loop-u.u in
-    let behind : c.args.t + 1 ≤ u = search rules in
-    let there : u < length net.day.trips = search rules in
-    let below : to_z w64 c.loop-u.least-bits ≤ℤ number_at c.args.lows.now u = omega (arith, ints, c.if-least-number.true, c.number.ensures) in
-    steps_past net.day net.counts c.args.prices.now c.args.pool.now c.args.rests.now c.args.t u _ (number_at c.args.lows.now u) below
-    (c.requires.lows u behind there) c.loop-u.invariant.steps
+    let day = net.day in
+    let number = c.loop-number.number in
+    let new : ℤ = c.with_point-least.result in
+    let fits : FitsSigned w64 new = search rules in
+    let back : to_z w64 (of_z w64 new) ≡ new = to_z-of_z w64 new fits in
+    let low = c.with_point-least.ensures.low in
+    let high = c.loop-number.invariant.high in
+    let Closes : ℤ → Type 0 = λ z. ClosesAbove day net.counts c.args.pool.now c.args.t z in
+    let Points : ℤ → Type 0 = λ z. PointsAbove day net.counts c.args.prices.now c.args.pool.now c.args.rests.now c.args.numbers.now c.args.t (number + 1) z in
+    let closes : Closes new = λ cost e. (let old = c.loop-number.invariant.closes cost e in omega (arith, ints, old, low)) in
+    let inside : number < length c.args.heads.now = search rules in
+    let here : (u : ℕ) → c.args.t < u → u < length day.trips → slice_index c.args.numbers.now u ≡ number →
+    PointAbove day net.counts c.args.pool.now c.args.numbers.now (stood_value day net.counts c.args.prices.now c.args.pool.now c.args.rests.now) (passed_value c.args.prices.now c.args.rests.now) c.args.t number new =
+    λ u after there same.
+    (let (within, own) = c.requires.heads u there in
+    let P : ℕ → Type 0 = λ n. slice_index c.args.heads.now n < length c.args.numbers.now in
+    let Q : ℕ → Type 0 = λ n. slice_index c.args.numbers.now (slice_index c.args.heads.now n) ≡ n in
+    let within' = subst P same within in
+    let own' = subst Q same own in
+    let count = c.requires.numbers.count in
+    let read = entry_read c.args.heads.now number 0 inside in
+    c.with_point-least.ensures.point c.args.numbers.now (stood_value day net.counts c.args.prices.now c.args.pool.now c.args.rests.now) (passed_value c.args.prices.now c.args.rests.now)
+    (omega (arith, within', count, read)) c.requires.numbers (ap (slice_index c.args.numbers.now) read ∙ own') c.requires.stood c.requires.passed) in
+    record {
+      closes = subst Closes (sym back) closes;
+      high = omega (arith, ints, low, high, back);
+      points = subst Points (sym back) (points_more day net.counts c.args.prices.now c.args.pool.now c.args.rests.now c.args.numbers.now c.args.t number _ new (search rules) low here c.loop-number.invariant.points);
+    }
+
+pub returns-clause-closes : goal.returns-clause-closes
+returns-clause-closes c =
+    let net = c.args.net.now in
+    let fits : FitsSigned w64 c.settled.result = search rules in
+    rw (to_z-of_z w64 _ fits)
+    (settled_closes net.day net.counts c.args.prices.now c.args.pool.now c.args.rests.now c.args.t _ c.settled.result (search (rules, c.settled.ensures.least)) c.loop-number.invariant.closes)
+
+pub returns-clause-steps : goal.returns-clause-steps
+returns-clause-steps c =
+    let net = c.args.net.now in
+    let fits : FitsSigned w64 c.settled.result = search rules in
+    let least : ℤ = to_z w64 c.loop-number.least-bits in
+    let end : c.loop-number.number ≡ c.args.width = search rules in
+    let P : ℕ → Type 0 = λ n. PointsAbove net.day net.counts c.args.prices.now c.args.pool.now c.args.rests.now c.args.numbers.now c.args.t n least in
+    rw (to_z-of_z w64 _ fits)
+    (settled_steps net.day net.counts c.args.prices.now c.args.pool.now c.args.rests.now c.args.t c.args.width c.args.numbers.now least c.settled.result c.requires.moderate c.requires.below c.requires.deep
+    (search (rules, c.settled.ensures.least)) (subst P end c.loop-number.invariant.points))

@@ -2,9 +2,12 @@ use Rattle.std.proofs.Common.{◌≡◌, ◌≤ℤ◌, ◌-ℤ◌, ◌+◌, ◌-
 use Rattle.std.proofs.lemmas.Int.{ints, to_z-of_z}
 use Rattle.std.specs.Prelude.{FitsSigned}
 use Rattle.cover_core.specs.Plans.{price_at}
-use Rattle.path_pricing.specs.Blocks.{AreBoundsFrom, AreLows, IsLowOver, StepsAbove}
-use Rattle.path_pricing.proofs.Places.{low_set, lows_set, rests_end, rests_set, set_length}
-use Rattle.path_pricing.proofs.behind.rests_from.Goals as goal
+use Rattle.path_pricing.specs.Blocks.{AreBoundsFrom, StepsAbove}
+use Rattle.path_pricing.specs.Lows.{AreLows, IsLowOver}
+use Rattle.path_pricing.proofs.Cells.{set_length}
+use Rattle.path_pricing.proofs.LinkSteps.{low_set, lows_set}
+use Rattle.path_pricing.proofs.Places.{rests_end, rests_set}
+use Rattle.path_pricing.proofs.linked.rests_by_links.Goals as goal
 
 pub loop-t-init : goal.loop-t-init
 loop-t-init c =

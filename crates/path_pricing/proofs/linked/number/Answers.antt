@@ -2,7 +2,7 @@ use Rattle.std.proofs.Common.{pos, get_or, rules, w64}
 use Rattle.std.proofs.lemmas.Int.{to_z-of_z}
 use Rattle.std.specs.Prelude.{FitsSigned}
 use Rattle.label_search.proofs.Losses.{number-get}
-use Rattle.path_pricing.proofs.behind.number.Goals as goal
+use Rattle.path_pricing.proofs.linked.number.Goals as goal
 
 pub returns : goal.returns
 returns c =

@@ -1,6 +1,7 @@
 use Rattle.std.proofs.Common.{◌≡◌, ◌≤◌, length}
-use Rattle.path_pricing.specs.Blocks.{AreBoundsFrom, AreLows, IsLowOver}
-use Rattle.path_pricing.proofs.behind.rests_from.Given as goal
+use Rattle.path_pricing.specs.Blocks.{AreBoundsFrom}
+use Rattle.path_pricing.specs.Lows.{AreLows, IsLowOver}
+use Rattle.path_pricing.proofs.linked.rests_by_links.Given as goal
 
 -- the rests of the trips from here on are made, and the numbers that they less their prices are not below
 abbrev pub invariant-loop-t : goal.invariant-loop-t

@@ -3,8 +3,8 @@ use Rattle.std.proofs.lemmas.Int.{ints, to_z-of_z}
 use Rattle.std.specs.Prelude.{FitsSigned}
 use Rattle.cover_core.specs.Plans.{number_at}
 use Rattle.path_pricing.specs.Blocks.{IsDeep}
-use Rattle.path_pricing.proofs.Places.{deep_over}
-use Rattle.path_pricing.proofs.behind.with_link.Goals as goal
+use Rattle.path_pricing.proofs.LinkSteps.{deep_over}
+use Rattle.path_pricing.proofs.linked.with_link.Goals as goal
 
 pub returns-in-Some-clause-deep : goal.returns-in-Some-clause-deep
 returns-in-Some-clause-deep c =

@@ -1,0 +1,69 @@
+-- Going on from a trip, point by point: from where on trips begin late enough, and what going on with one of them adds at least.
+use Rattle.std.specs.Prelude.{◌≡◌, ℕ, ℤ, pos, ◌+◌, ◌*◌, ◌<◌, ◌≤◌, ◌+ℤ◌, ◌-ℤ◌, ◌≤ℤ◌, Bool, cond, List, length, Option, Some, None, ◌⊎◌, slice_get, slice_index}
+use Rattle.std.specs.Int.RustNames.{unsigned_abs}
+use Rattle.plan_core.specs.declared.Price.{Price}
+use Rattle.cover_core.specs.Plans.{number_at, price_at}
+use Rattle.vdv452_tables.specs.Keys.{point_eq}
+use Rattle.trip_times.specs.declared.trip.Trip.{Trip}
+use Rattle.plan_params.specs.declared.rows.pool.Pool.{Pool}
+use Rattle.day_model.specs.Facts.{DayFacts, dead}
+use Rattle.depot_network.specs.Open.{scaled}
+use Rattle.depot_network.specs.Walk.{added}
+
+-- no trip before a place begins at a time or later
+abbrev pub IsFirstFrom : List Trip → ℤ → ℕ → Type 0
+IsFirstFrom trips time first = (u : ℕ) (trip : Trip) → slice_get trips u ≡ Some trip → time ≤ℤ trip.begin.0 → first ≤ u
+
+-- for each of the first minutes such a place
+pub record AreFirsts (trips : List Trip) (end : ℕ) (firsts : List ℕ) : Type 0 where
+  pub count : length firsts ≡ 2881
+  pub within : (minute : ℕ) → minute < end → slice_index firsts minute ≤ length trips
+  pub first : (minute : ℕ) → minute < end → IsFirstFrom trips (pos (60 * minute)) (slice_index firsts minute)
+
+-- the seconds driven to the depot and from there, where both are there
+abbrev pub by_depot : Option ℕ → Option ℕ → Option ℕ
+by_depot None outward = None
+by_depot (Some inward) None = None
+by_depot (Some inward) (Some outward) = Some (inward + outward)
+
+-- what standing a second costs where a trip begins: nothing at the depot
+abbrev pub stand_rate_at : Pool → Trip → ℕ
+stand_rate_at pool trip = cond (point_eq trip.from pool.depot) 0 pool.stand_rate
+
+-- what standing from midnight to the begin of a trip would cost there
+abbrev pub stood_until : Bool → Pool → Option Trip → ℤ
+stood_until counts pool None = pos 0
+stood_until counts pool (Some trip) = scaled counts (stand_rate_at pool trip * unsigned_abs trip.begin.0)
+
+-- what a trip and its rest add behind a link
+abbrev pub passed_value : List Price → List ℤ → ℕ → ℤ
+passed_value prices rests u = number_at rests u -ℤ price_at prices u
+
+-- the same with standing from midnight on
+abbrev pub stood_value : DayFacts → Bool → List Price → Pool → List ℤ → ℕ → ℤ
+stood_value day counts prices pool rests u = passed_value prices rests u +ℤ stood_until counts pool (slice_get day.trips u)
+
+-- no direct way from a trip to a later one of a point that begins late enough adds less than a number
+abbrev pub DirectAbove : DayFacts → Bool → Pool → List ℕ → (ℕ → ℤ) → ℕ → ℕ → ℤ → Type 0
+DirectAbove day counts pool numbers value t number least =
+    (u : ℕ) (trip next : Trip) (move time : ℕ) → t < u → slice_get day.trips t ≡ Some trip → slice_get day.trips u ≡ Some next → slice_index numbers u ≡ number →
+    dead day trip.to next.from ≡ Some move → pos time ≡ trip.end.0 +ℤ pos move → (pos (time + day.params.settings.turn)) ≤ℤ next.begin.0 →
+    least ≤ℤ (scaled counts (pool.dead_rate * move) -ℤ scaled counts (stand_rate_at pool next * time) +ℤ value u)
+
+-- nor does a way via the depot
+abbrev pub DepotAbove : DayFacts → Bool → Pool → List ℕ → (ℕ → ℤ) → ℕ → ℕ → ℤ → Type 0
+DepotAbove day counts pool numbers value t number least =
+    (u : ℕ) (trip next : Trip) (inward outward : ℕ) → t < u → slice_get day.trips t ≡ Some trip → slice_get day.trips u ≡ Some next → slice_index numbers u ≡ number →
+    dead day trip.to pool.depot ≡ Some inward → dead day pool.depot next.from ≡ Some outward → (trip.end.0 +ℤ pos (inward + outward)) ≤ℤ next.begin.0 →
+    least ≤ℤ (scaled counts (pool.dead_rate * (inward + outward)) +ℤ value u)
+
+-- What is known of a trip has one of the points in it: no way to a trip that begins there adds less, or no such trip and its rest do by themselves.
+abbrev pub PointAbove : DayFacts → Bool → Pool → List ℕ → (ℕ → ℤ) → (ℕ → ℤ) → ℕ → ℕ → ℤ → Type 0
+PointAbove day counts pool numbers stood passed t number least =
+    (DirectAbove day counts pool numbers stood t number least × DepotAbove day counts pool numbers passed t number least) ⊎
+    ((u : ℕ) → t < u → u < length day.trips → slice_index numbers u ≡ number → least ≤ℤ passed u)
+
+-- no link from a trip to one of the points before an end adds less, with the rest behind that
+abbrev pub PointsAbove : DayFacts → Bool → List Price → Pool → List ℤ → List ℕ → ℕ → ℕ → ℤ → Type 0
+PointsAbove day counts prices pool rests numbers t end least =
+    (u cost : ℕ) → slice_index numbers u < end → added day pool t u ≡ Some cost → least ≤ℤ (scaled counts cost -ℤ price_at prices u +ℤ number_at rests u)
