@@ -5,3 +5,6 @@ pub mod Tied
 pub mod Sizes
 pub mod Places
 pub mod Walked
+pub mod Entries
+pub mod Following
+pub mod Modest

@@ -6,3 +6,4 @@ pub mod Layout
 pub mod Courses
 pub mod Listed
 pub mod Counted
+pub mod Followers

@@ -18,6 +18,7 @@ impl Columns for DutyNet<'_> {
 
     /// The groups of drivers, by GRUPPE_NR.
     fn classes(&self) -> u32 {
+        self.fits();
         self.groups().len() as u32
     }
 

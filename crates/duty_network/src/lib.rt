@@ -4,10 +4,14 @@
 
 mod columns;
 mod courses;
+mod followers;
 mod laws;
 mod layout;
 mod marks;
 mod net;
+mod numbering;
 
+pub use followers::{Follower, Followers};
 pub use laws::counted_duties;
 pub use net::DutyNet;
+pub use numbering::PieceNumbers;

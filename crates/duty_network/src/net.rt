@@ -6,9 +6,11 @@ ghost use Rattle.plan_params.specs.Limits.{HaveRanges, IsGroup};
 ghost use Rattle.plan_params.specs.LookUps.{way_in};
 ghost use Rattle.duty_network.specs.Times.{seconds};
 ghost use Rattle.duty_network.specs.Duties.{follows, from_home_at, is_count, pause_at, pause_over, to_home_at, with_piece};
+ghost use Rattle.duty_network.specs.Followers.{AreFollowed, facts};
 ghost use Rattle.duty_network.specs.Layout.{AreLaidOut};
 ghost use Rattle.duty_network.specs.Ranges.{IsShift, NetFits};
 
+use crate::followers::{Followers, followers_of};
 use crate::layout::{Layout, layout_of};
 use cover_core::Worth;
 use plan_core::{Memory, Piece, Seq};
@@ -26,10 +28,12 @@ pub struct DutyNet<'p> {
     params: &'p Params,
     counts: bool,
     layout: Box<Layout>,
+    followers: Box<Followers>,
 }
 
 impl<'p> Model for DutyNet<'p> {
     ghost use Rattle.duty_network.specs.Duties.{DutyFacts};
+    ghost use Rattle.duty_network.specs.Followers.{AreFollowed};
     ghost use Rattle.duty_network.specs.Layout.{AreLaidOut};
     ghost use Rattle.duty_network.specs.Ranges.{NetFits};
 
@@ -37,7 +41,7 @@ impl<'p> Model for DutyNet<'p> {
 
     ghost view = { λ net. record { pieces = net.pieces; params = net.params.now; counts = net.counts } };
 
-    ghost invariant = { λ net. NetFits (record { pieces = net.pieces; params = net.params.now; counts = net.counts }) × AreLaidOut net.pieces net.params.now net.layout.value };
+    ghost invariant = { λ net. NetFits (record { pieces = net.pieces; params = net.params.now; counts = net.counts }) × (AreLaidOut net.pieces net.params.now net.layout.value × AreFollowed net.pieces net.params.now net.followers.value) };
 }
 
 /// A number of seconds that is not below 0.
@@ -60,7 +64,7 @@ pub(crate) fn both(a: bool, b: bool) -> bool
 }
 
 /// Whether a piece follows another directly in one block.
-fn is_next(piece: &Piece, next: &Piece) -> bool
+pub(crate) fn is_next(piece: &Piece, next: &Piece) -> bool
     ensures { result ≡ follows piece.now next.now }
 {
     both(
@@ -89,6 +93,44 @@ fn left_between(piece: &Piece, next: &Piece, handover: u32, way: u32) -> Option<
     to_seconds(next.begin.0 - piece.end.0 - handover as i64 - way as i64)
 }
 
+/// The way from the last point of a piece to the first point of another, in seconds.
+fn way_in_layout(pieces: &[Piece], params: &Params, layout: &Layout, p: u32, q: u32) -> Option<u32>
+    requires laid { AreLaidOut pieces.now params.now layout.now }
+    requires p { p < length pieces.now }
+    requires q { q < length pieces.now }
+    ensures value { result ≡ with_piece (facts pieces.now params.now) p (λ piece. with_piece (facts pieces.now params.now) q (λ next. way_in params.now piece.to next.from)) }
+    ensures range { IfSome result IsTime }
+{
+    let from = layout.ends.as_slice()[p as usize];
+    let to = layout.begins.as_slice()[q as usize];
+    time_at(&layout.between, from as usize, to as usize)
+}
+
+/// The pause between two of these pieces, in seconds.
+pub(crate) fn pause_in(
+    pieces: &[Piece],
+    params: &Params,
+    layout: &Layout,
+    p: u32,
+    q: u32,
+) -> Option<u32>
+    requires shifts { All IsShift pieces.now }
+    requires params { HaveRanges params.now }
+    requires laid { AreLaidOut pieces.now params.now layout.now }
+    requires p { p < length pieces.now }
+    requires q { q < length pieces.now }
+    ensures { result ≡ pause_at (facts pieces.now params.now) p q }
+{
+    let piece = &pieces[p as usize];
+    let next = &pieces[q as usize];
+    if is_next(piece, next) {
+        between_pieces(piece, next)
+    } else {
+        let way = way_in_layout(pieces, params, layout, p, q)?;
+        left_between(piece, next, params.settings().handover, way)
+    }
+}
+
 impl<'p> DutyNet<'p> {
     /// The duties over these pieces, by the ways, the handover time and the groups of these settings; each worth its cost, or 1 where
     /// duties are counted. There are at most 3,000 pieces, numbered from 0 by their places; each begins at 0 or later, ends not before
@@ -105,12 +147,14 @@ impl<'p> DutyNet<'p> {
         ensures { IfOk result (λ net. net ≡ record { pieces = pieces; params = params.now; counts = is_count worth }) }
     {
         let layout = layout_of(alloc, pieces.as_slice(), params)?;
+        let followers = followers_of(alloc, pieces.as_slice(), params, &layout)?;
         let counts = worth == Worth::Count;
         Ok(DutyNet {
             pieces,
             params,
             counts,
             layout: Box::new(alloc, layout)?,
+            followers: Box::new(alloc, followers)?,
         })
     }
 
@@ -164,17 +208,11 @@ impl<'p> DutyNet<'p> {
         let _ = &self.counts;
     }
 
-    /// The way from the last point of a piece to the first point of another, in seconds.
-    fn between(&self, p: u32, q: u32) -> Option<u32>
-        requires p { p < length self.now.pieces }
-        requires q { q < length self.now.pieces }
-        ensures value { result ≡ with_piece self.now p (λ piece. with_piece self.now q (λ next. way_in self.now.params piece.to next.from)) }
-        ensures range { IfSome result IsTime }
+    /// Which pieces can follow which, by the points where they begin.
+    pub fn followers(&self) -> &Followers
+        ensures { AreFollowed self.now.pieces self.now.params result.now }
     {
-        let layout: &Layout = &self.layout;
-        let from = layout.ends.as_slice()[p as usize];
-        let to = layout.begins.as_slice()[q as usize];
-        time_at(&layout.between, from as usize, to as usize)
+        &self.followers
     }
 
     /// How many seconds a driver of a group is on the way from home to the first point of a piece: 0 from a point to itself, else WEG_SEK.
@@ -210,13 +248,6 @@ impl<'p> DutyNet<'p> {
         requires q { q < length self.now.pieces }
         ensures { result ≡ pause_at self.now p q }
     {
-        let piece = self.piece(p);
-        let next = self.piece(q);
-        if is_next(piece, next) {
-            between_pieces(piece, next)
-        } else {
-            let way = self.between(p, q)?;
-            left_between(piece, next, self.params.settings().handover, way)
-        }
+        pause_in(self.pieces(), self.params, &self.layout, p, q)
     }
 }

@@ -2,19 +2,18 @@
 use Rattle.std.proofs.Common.{◌≡◌, ◌≢◌, ℕ, ℤ, pos, neg_ℤ, ◌+◌, ◌-◌, ◌*◌, ◌/◌, ◌<◌, ◌≤◌, ◌-ℤ◌, ◌+ℤ◌, ◌≤ℤ◌, Bool, true, false, cond, zero, suc, List, [], ◌∷◌, ◌++◌, length, replicate, set, refl, sym, ap, subst, ◌∙◌, arith}
 use Rattle.std.proofs.lemmas.Int.{ints}
 use Rattle.std.proofs.lemmas.Bool.Decides.{nat_tests}
-use Rattle.std.specs.Prelude.{negsuc, nat_lt, Option, Some, None, nat_le, option_and_then, slice_get}
+use Rattle.std.specs.Prelude.{nat_lt, Some, nat_le, slice_get, slice_index_or}
 use Rattle.plan_core.specs.declared.types.Piece.{Piece}
 use Rattle.plan_core.specs.declared.types.Price.{Price}
 use Rattle.cover_core.specs.FirstLeast.{AllWithin}
 use Rattle.cover_core.specs.Plans.{number_at, price_at}
 use Rattle.cover_core.proofs.Values.{price_at-within}
 use Rattle.plan_params.specs.declared.rows.group.Group.{Group}
-use Rattle.plan_params.specs.LookUps.{way_in}
-use Rattle.duty_network.specs.Times.{seconds}
-use Rattle.duty_network.specs.Duties.{DutyFacts, follows, pause, pause_at}
+use Rattle.duty_network.specs.Duties.{DutyFacts}
 use Rattle.duty_network.specs.Ranges.{off_value}
 use Rattle.duty_network.proofs.Better.{Some-same}
-use Rattle.duty_pricing.specs.Bounds.{AreBelow, AreFalling, AreNumbered, AreOut, AreRows, IsBoundFrom, IsBoundRow, IsChain, IsFalling, IsLow, IsLoweredBy, IsReach, IsRaised, IsRowLowered, IsTail, IsUnder, behind, cell_at, low_of, row_at, entry_at}
+use Rattle.duty_network.specs.Followers.{AreNumbered, entry_at}
+use Rattle.duty_pricing.specs.Bounds.{AreBelow, AreFalling, AreOut, AreRows, IsBoundFrom, IsBoundRow, IsChain, IsFalling, IsLow, IsLoweredBy, IsReach, IsRaised, IsRowLowered, IsTail, IsUnder, behind, cell_at, low_of, row_at}
 use Rattle.duty_pricing.specs.declared.reach.Reach.{Reach}
 use Rattle.duty_pricing.proofs.Lowering.{split}
 
@@ -47,27 +46,16 @@ row-count [] i row = refl
 row-count (x ∷ xs) zero row = refl
 row-count (x ∷ xs) (suc i) row = omega (arith, row-count xs i row)
 
+pub row-read : (rows : List (List ℤ)) (i : ℕ) (v : List ℤ) → i < length rows → slice_index_or rows i v ≡ row_at rows i
+row-read [] i v h = absurd (omega arith)
+row-read (x ∷ xs) zero v h = refl
+row-read (x ∷ xs) (suc i) v h = row-read xs i v (omega arith)
+
 -- what holds of all rows holds with another one put in
 pub rows-with : (P : List ℤ → Type 0) (rows : List (List ℤ)) (i k : ℕ) (row : List ℤ) → i < length rows → P (row_at rows k) → P row → P (row_at (set rows i row) k)
 rows-with P rows i k row below old new = split (P (row_at (set rows i row) k)) k i
     (λ e. let Q : ℕ → Type 0 = λ n. P (row_at (set rows i row) n) in subst Q (sym e) (subst P (sym (row-here rows i row below)) new))
     (λ n. subst P (sym (row-others rows i k row n)) old)
-
-seconds-is : (z : ℤ) (n : ℕ) → seconds z ≡ Some n → z ≡ pos n
-seconds-is (pos k) n e = let same = Some-same k n e in ap pos same
-seconds-is (negsuc k) n e = absurd (cc)
-
--- a pause is no longer than the time between two pieces
-gap-cases : (b : Bool) (x y : ℤ) (h time : ℕ) (o : Option ℕ) → cond b (seconds (y -ℤ x)) (option_and_then (λ way. seconds (y -ℤ x -ℤ pos h -ℤ pos way)) o) ≡ Some time → pos time ≤ℤ (y -ℤ x)
-gap-cases true x y h time o e = let is = seconds-is (y -ℤ x) time e in omega (arith, ints)
-gap-cases false x y h time None e = absurd (cc)
-gap-cases false x y h time (Some way) e = let is = seconds-is (y -ℤ x -ℤ pos h -ℤ pos way) time e in omega (arith, ints)
-
-pub pause-gap : (d : DutyFacts) (k next time : ℕ) (p q : Piece) → slice_get d.pieces k ≡ Some p → slice_get d.pieces next ≡ Some q → pause_at d k next ≡ Some time →
-    pos time ≤ℤ (q.begin.0 -ℤ p.end.0)
-pause-gap d k next time p q is_p is_q e =
-    let here : pause_at d k next ≡ pause d p q = rw (is_p, is_q) refl in
-    gap-cases (follows p q) p.end.0 q.begin.0 d.params.settings.handover time (way_in d.params p.to q.from) (sym here ∙ e)
 
 -- a smaller number is not undercut either
 pub under-less : (d : DutyFacts) (prices : List Price) (r : Reach) (rows : List (List ℤ)) (next x : ℕ) (z w : ℤ) → IsUnder d prices r rows next x w → z ≤ℤ w → IsUnder d prices r rows next x z
@@ -414,27 +402,9 @@ raised-below over rows k old new below less raised n x small = split (cell_at ov
 pub below-self : (rows : List (List ℤ)) → AreBelow rows rows
 below-self rows k x small = omega (arith, ints)
 
--- the table of lists with a long pause, or that of lists without
-pub chosen-count : (is : Bool) (n : ℕ) (over rows : List (List ℤ)) → length over ≡ n → length rows ≡ n → length (cond is over rows) ≡ n
-chosen-count true n over rows f g = f
-chosen-count false n over rows f g = g
-
-pub chosen-low : (is : Bool) (n place k x : ℕ) (over rows : List (List ℤ)) → AreRows n place over → AreRows n place rows → place ≤ k → k < n → x < 16 → neg_ℤ (pos 30000000000000000) ≤ℤ cell_at (cond is over rows) k x
-chosen-low true n place k x over rows a b from to less = let low = a.low k from to x less in omega (arith, ints)
-chosen-low false n place k x over rows a b from to less = let low = b.low k from to x less in omega (arith, ints)
-
-pub chosen-high : (is : Bool) (n place k x : ℕ) (over rows : List (List ℤ)) → AreRows n place over → AreRows n place rows → cell_at (cond is over rows) k x ≤ℤ pos 7000000000000
-chosen-high true n place k x over rows a b = (a.falling k).high x
-chosen-high false n place k x over rows a b = (b.falling k).high x
-
 pub chosen-rows : (is : Bool) (n place : ℕ) (over rows : List (List ℤ)) → AreRows n place over → AreRows n place rows → AreRows n place (cond is over rows)
 chosen-rows true n place over rows a b = a
 chosen-rows false n place over rows a b = b
-
-pub chosen-chain : (is : Bool) (d : DutyFacts) (prices : List Price) (r : Reach) (numbers : List ℕ) (over rows : List (List ℤ)) (place : ℕ) (over_chain chain : List (List ℤ)) →
-    IsChain d prices r numbers over place over_chain → IsChain d prices r numbers rows place chain → IsChain d prices r numbers (cond is over rows) place (cond is over_chain chain)
-chosen-chain true d prices r numbers over rows place over_chain chain a b = a
-chosen-chain false d prices r numbers over rows place over_chain chain a b = b
 
 pub rows-from : (n place first : ℕ) (rows : List (List ℤ)) → AreRows n place rows → place ≤ first → AreRows n first rows
 rows-from n place first rows a order = record { count = a.count; falling = a.falling; low = λ k from to. a.low k (omega arith) to }

@@ -1,5 +1,5 @@
 -- Facts of options and tests.
-use Rattle.std.proofs.Common.{◌≡◌, ℕ, ℤ, ◌+ℤ◌, ◌-ℤ◌, ◌∙◌, w64, to_z, of_z, ◌<ℤ◌, ◌<◌, ◌≤◌, Bool, true, false, not, refl, sym, arith}
+use Rattle.std.proofs.Common.{◌≡◌, ℕ, ℤ, ◌+ℤ◌, ◌-ℤ◌, ◌∙◌, w64, to_z, of_z, ◌<ℤ◌, ◌<◌, ◌≤◌, Bool, true, refl, sym, arith}
 use Rattle.std.proofs.lemmas.Int.{ints, to_z-of_z}
 use Rattle.std.proofs.lemmas.Bool.Decides.{nat_tests}
 use Rattle.std.specs.Prelude.{Option, Some, None, FitsSigned, IfSome, int_lt}
@@ -18,10 +18,6 @@ pub too-high : (b : Bool) (limit least p r : ℤ) → FitsSigned w64 limit → F
 too-high b limit least p r f g e h =
     let test : int_lt limit ((least -ℤ p) +ℤ r) ≡ true = (rw (to_z-of_z w64 limit f, to_z-of_z w64 least g) at (sym e)) ∙ h in
     lower-is limit ((least -ℤ p) +ℤ r) test
-
-pub not-false : (b : Bool) → not b ≡ false → b ≡ true
-not-false true e = refl
-not-false false e = absurd (cc)
 
 pub between-test : (first end x : ℕ) → first ≤ x → x < end → is_between first end x ≡ true
 between-test first end x from before = grind (arith, nat_tests)

@@ -1,7 +1,5 @@
 pub mod Lowering
-pub mod Entries
 pub mod Bounding
 pub mod Checks
 pub mod Ties
 pub mod Looking
-pub mod Filling

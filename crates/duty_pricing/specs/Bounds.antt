@@ -9,9 +9,9 @@ use Rattle.cover_core.specs.Plans.{number_at, price_at}
 use Rattle.cover_core.specs.FirstLeast.{AllWithin}
 use Rattle.plan_params.specs.declared.rows.group.Group.{Group}
 use Rattle.duty_network.specs.Duties.{DutyFacts, limits_of, pause_at, sign_off}
+use Rattle.duty_network.specs.Followers.{entry_at}
 use Rattle.duty_network.specs.Marks.{first_mark}
 use Rattle.duty_network.specs.Ranges.{MarkFits, off_value}
-use Rattle.duty_pricing.specs.declared.numbering.PieceNumbers.{PieceNumbers}
 use Rattle.duty_pricing.specs.declared.reach.Reach.{Reach}
 
 -- the row of a piece
@@ -24,17 +24,12 @@ row_at (row ∷ rows) (suc k) = row_at rows k
 abbrev pub cell_at : List (List ℤ) → ℕ → ℕ → ℤ
 cell_at rows k x = number_at (row_at rows k) x
 
--- the whole day of driving lies within the units
+-- the whole day of driving lies within the units, which are 40 minutes where it is told apart
 pub record IsReach (r : Reach) : Type 0 where
   pub some : 0 < r.unit
   pub width : r.width ≤ 16
   pub day : 36000 / r.unit < r.width
-
--- the number that a list of numbers has at a place
-abbrev pub entry_at : List ℕ → ℕ → ℕ
-entry_at [] k = 0
-entry_at (x ∷ xs) zero = x
-entry_at (x ∷ xs) (suc k) = entry_at xs k
+  pub parted : r.width ≢ 1 → r.unit ≡ 2400
 
 -- the rows that hold behind a pause: those of lists with a long pause where it is one, else those of lists without
 abbrev pub behind : ℕ → ℕ → List (List ℤ) → List (List ℤ) → List (List ℤ)
@@ -98,17 +93,6 @@ pub record AreOut (n : ℕ) (rows : List (List ℤ)) : Type 0 where
   pub falling : AreFalling rows
   pub low : (k : ℕ) → IsLow (pos 0) (row_at rows k)
   pub full : (k x : ℕ) → k < n → x < 16 → cell_at rows k x ≡ pos 7000000000000
-
--- each piece has a number below a count
-pub record AreNumbered (n : ℕ) (numbers : List ℕ) : Type 0 where
-  pub count : length numbers ≡ n
-  pub below : (k : ℕ) → k < n → entry_at numbers k < n
-
--- each piece has one of the numbers, of which there are no more than pieces
-pub record IsNumbering (n : ℕ) (numbers : PieceNumbers) : Type 0 where
-  pub each : AreNumbered n numbers.numbers.items
-  pub below : (k : ℕ) → k < n → entry_at numbers.numbers.items k < numbers.kinds
-  pub few : numbers.kinds ≤ n
 
 -- the row of a piece in a chain: no going on with it or with a later piece of its number undercuts it
 pub record IsChain (d : DutyFacts) (prices : List Price) (r : Reach) (numbers : List ℕ) (rows : List (List ℤ)) (place : ℕ) (chain : List (List ℤ)) : Type 0 where

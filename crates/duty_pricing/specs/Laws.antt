@@ -10,7 +10,7 @@ use Rattle.cover_core.specs.FirstLeast.{AllWithin}
 use Rattle.cover_core.specs.Labels.{IsKept, IsValued, Labelling}
 use Rattle.cover_core.specs.declared.marks.Mark.{Mark}
 use Rattle.label_search.specs.Laws.{GoodAs, HidesNone, IsFloor, IsSafe, IsStepwise}
-use Rattle.label_search.specs.Levels.{NoneFollows, NoneReaches}
+use Rattle.label_search.specs.Levels.{IsAbove, NoneFollows, NoneFollowsAbove, NoneReachesAbove}
 use Rattle.label_search.specs.Limits.{is_low, passed}
 use Rattle.label_search.specs.Pricing.{IsTiedInGroup, is_between, of_range}
 use Rattle.label_search.proofs.Limits.{floor-hides}
@@ -219,36 +219,28 @@ none-passes : (o : Option Mark) (floor : Mark → ℤ) (limit : ℤ) → ((b : M
 none-passes None floor limit h = refl
 none-passes (Some b) floor limit h = ap (λ t. cond t (Some b) None) (over-limit (floor b) limit (h b refl))
 
--- a mark that cannot go on with a piece: too little driving is left
-pub none-left : (d : DutyFacts) (prices : List Price) (g : Group) (r : Reach) (latest : ℤ) (first : ℕ) (rows over : List (List ℤ)) (limit : ℤ) (a : Mark) (k : ℕ) (q : Piece) → IsReach r →
-    AreBounds d prices g r latest first rows over → slice_get d.pieces k ≡ Some q → units_left r g a.total < q.driving / r.unit →
-    passed (is_low (floor_of r g rows over) limit) (extended_mark d g prices a k) ≡ None
-none-left d prices g r latest first rows over limit a k q reach bound is_q less = none-passes (extended_mark d g prices a k) (floor_of r g rows over) limit
-    (λ b e.
-    let (q', is_q', taken, floor, lower) = step-floor d prices g r latest first rows over a b k reach bound e in
-    let one : q ≡ q' = Some-same q q' (sym is_q ∙ is_q') in
-    let P : Piece → Type 0 = λ x. units_left r g a.total < x.driving / r.unit in
-    let more = subst P one less in
-    absurd (omega arith))
-
--- or it is above the limit then
-pub none-below : (d : DutyFacts) (prices : List Price) (g : Group) (r : Reach) (latest : ℤ) (first : ℕ) (rows over : List (List ℤ)) (limit : ℤ) (a : Mark) (k : ℕ) (q : Piece) → IsReach r →
+-- a mark that is above the limit once it goes on with a piece
+pub none-after : (d : DutyFacts) (prices : List Price) (g : Group) (r : Reach) (latest : ℤ) (first : ℕ) (rows over : List (List ℤ)) (limit : ℤ) (a : Mark) (k : ℕ) (q : Piece) → IsReach r →
     AreBounds d prices g r latest first rows over → slice_get d.pieces k ≡ Some q →
-    limit <ℤ ((a.value -ℤ price_at prices k) +ℤ cell_at over k (units_left r g a.total - q.driving / r.unit)) →
+    limit <ℤ ((a.value -ℤ price_at prices k) +ℤ cell_at over k (units_left r g (a.total + q.driving))) →
     passed (is_low (floor_of r g rows over) limit) (extended_mark d g prices a k) ≡ None
-none-below d prices g r latest first rows over limit a k q reach bound is_q high = none-passes (extended_mark d g prices a k) (floor_of r g rows over) limit
+none-after d prices g r latest first rows over limit a k q reach bound is_q high = none-passes (extended_mark d g prices a k) (floor_of r g rows over) limit
     (λ b e.
-    let (q', is_q', taken, floor, lower) = step-floor d prices g r latest first rows over a b k reach bound e in
+    let (p, q', time, is_p, is_q', is_time, later, opened, same) = extended-parts d g prices a b k e in
     let one : q ≡ q' = Some-same q q' (sym is_q ∙ is_q') in
-    let P : Piece → Type 0 = λ x. limit <ℤ ((a.value -ℤ price_at prices k) +ℤ cell_at over k (units_left r g a.total - x.driving / r.unit)) in
+    let P : Piece → Type 0 = λ x. limit <ℤ ((a.value -ℤ price_at prices k) +ℤ cell_at over k (units_left r g (a.total + x.driving))) in
     let above = subst P one high in
-    omega (arith, ints))
+    let few = units-few r g (a.total + q'.driving) reach in
+    let width = reach.width in
+    let below = chosen-below (next_mark g prices a time k q').three over rows k (units_left r g (a.total + q'.driving)) bound.below (omega arith) in
+    let Q : Mark → Type 0 = λ m. limit <ℤ floor_of r g rows over m in
+    subst Q same (omega (arith, ints)))
 
 -- a value that is too high for the piece, however much driving is left
-pub none-reaches : (d : DutyFacts) (prices : List Price) (class : ℕ) (g : Group) (first end : ℕ) (r : Reach) (latest : ℤ) (rows over : List (List ℤ)) (limit least : ℤ) (item : ℕ) → IsReach r →
-    AreBounds d prices g r latest first rows over → limit <ℤ ((least -ℤ price_at prices item) +ℤ cell_at over item 15) →
-    NoneReaches (duty_labels d prices class g first end) (IsRangeMark (length d.pieces) first latest) (λ m. m.value) (is_low (floor_of r g rows over) limit) least item
-none-reaches d prices class g first end r latest rows over limit least item reach bound high a s more = none-passes (extended_mark d g prices a item) (floor_of r g rows over) limit
+pub none-high : (d : DutyFacts) (prices : List Price) (g : Group) (r : Reach) (latest : ℤ) (first : ℕ) (rows over : List (List ℤ)) (limit : ℤ) (a : Mark) (item : ℕ) → IsReach r →
+    AreBounds d prices g r latest first rows over → limit <ℤ ((a.value -ℤ price_at prices item) +ℤ cell_at over item 15) →
+    passed (is_low (floor_of r g rows over) limit) (extended_mark d g prices a item) ≡ None
+none-high d prices g r latest first rows over limit a item reach bound high = none-passes (extended_mark d g prices a item) (floor_of r g rows over) limit
     (λ b e.
     let (q, is_q, taken, floor, lower) = step-floor d prices g r latest first rows over a b item reach bound e in
     let few = units-few r g a.total reach in
@@ -256,11 +248,17 @@ none-reaches d prices class g first end r latest rows over limit least item reac
     let falls = (bound.long.are.falling item).falls 15 (units_left r g a.total - q.driving / r.unit) (omega arith) (omega arith) in
     omega (arith, ints))
 
+-- so values above the most are
+pub none-reaches : (d : DutyFacts) (prices : List Price) (class : ℕ) (g : Group) (first end : ℕ) (r : Reach) (latest : ℤ) (rows over : List (List ℤ)) (limit most : ℤ) (item : ℕ) → IsReach r →
+    AreBounds d prices g r latest first rows over → ((v : ℤ) → IsAbove most v → limit <ℤ ((v -ℤ price_at prices item) +ℤ cell_at over item 15)) →
+    NoneReachesAbove (duty_labels d prices class g first end) (IsRangeMark (length d.pieces) first latest) (λ m. m.value) (is_low (floor_of r g rows over) limit) item most
+none-reaches d prices class g first end r latest rows over limit most item reach bound high a s more = none-high d prices g r latest first rows over limit a item reach bound (high a.value more)
+
 -- no pause between the pieces
-pub none-follows : (d : DutyFacts) (prices : List Price) (class : ℕ) (g : Group) (first end : ℕ) (latest : ℤ) (test : Mark → Bool) (before : ℕ) (least : ℤ) (item : ℕ) →
+pub none-follows : (d : DutyFacts) (prices : List Price) (class : ℕ) (g : Group) (first end : ℕ) (latest : ℤ) (test : Mark → Bool) (before item : ℕ) →
     pause_at d before item ≡ None →
-    NoneFollows (duty_labels d prices class g first end) (IsRangeMark (length d.pieces) first latest) (λ m. m.piece) (λ m. m.value) test before least item
-none-follows d prices class g first end latest test before least item none a s ends more =
+    NoneFollows (duty_labels d prices class g first end) (IsRangeMark (length d.pieces) first latest) (λ m. m.piece) test before item
+none-follows d prices class g first end latest test before item none a s ends =
     elim (extended_mark d g prices a item) as (λ o. extended_mark d g prices a item ≡ o → passed test o ≡ None) [
       | None ↦ λ is. refl
       | Some b ↦ λ is.
@@ -270,8 +268,8 @@ none-follows d prices class g first end latest test before least item none a s e
           absurd (let bad : None ≡ Some time = sym none ∙ there in cc)
     ] refl
 
--- a piece that no value reaches follows none
-pub follows-none : (d : DutyFacts) (prices : List Price) (class : ℕ) (g : Group) (first end : ℕ) (latest : ℤ) (test : Mark → Bool) (before : ℕ) (least : ℤ) (item : ℕ) →
-    NoneReaches (duty_labels d prices class g first end) (IsRangeMark (length d.pieces) first latest) (λ m. m.value) test least item →
-    NoneFollows (duty_labels d prices class g first end) (IsRangeMark (length d.pieces) first latest) (λ m. m.piece) (λ m. m.value) test before least item
-follows-none d prices class g first end latest test before least item h a s ends more = h a s more
+-- values that do not reach the piece do not follow another one
+pub follows-none : (d : DutyFacts) (prices : List Price) (class : ℕ) (g : Group) (first end : ℕ) (latest : ℤ) (test : Mark → Bool) (before item : ℕ) (most : ℤ) →
+    NoneReachesAbove (duty_labels d prices class g first end) (IsRangeMark (length d.pieces) first latest) (λ m. m.value) test item most →
+    NoneFollowsAbove (duty_labels d prices class g first end) (IsRangeMark (length d.pieces) first latest) (λ m. m.piece) (λ m. m.value) test before item most
+follows-none d prices class g first end latest test before item most h a s ends more = h a s more

@@ -1,5 +1,4 @@
 pub mod Bounds
 pub mod Units
 pub mod Laws
-pub mod Links
-pub mod Begins
+pub mod Behind

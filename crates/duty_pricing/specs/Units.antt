@@ -1,5 +1,5 @@
 -- Units of driving that are left of a day's.
-use Rattle.std.proofs.Common.{◌≡◌, ℕ, ◌+◌, ◌-◌, ◌/◌, ◌<◌, ◌≤◌, Bool, true, false, cond, sym, subst, arith}
+use Rattle.std.proofs.Common.{◌≡◌, ℕ, ◌+◌, ◌-◌, ◌/◌, ◌<◌, ◌≤◌, Bool, true, false, sym, subst, arith}
 use Rattle.std.proofs.Math.Nat.{add-mul, div-mul-le_self}
 use Rattle.std.proofs.lemmas.Nat.{le-div}
 use Rattle.plan_params.specs.declared.rows.group.Group.{Group}
@@ -11,11 +11,6 @@ use Rattle.duty_pricing.specs.declared.reach.Reach.{Reach}
 pub day-most : (ten reduced : Bool) → (limits_for ten reduced).day ≤ 36000
 day-most true reduced = omega arith
 day-most false reduced = omega arith
-
-pub spread-most : (ten reduced three : Bool) → cond three (limits_for ten reduced).long_spread (limits_for ten reduced).spread ≤ 54000
-spread-most ten reduced true = omega arith
-spread-most ten true false = omega arith
-spread-most ten false false = omega arith
 
 -- a quotient rises with what is divided
 div-up : (a b u : ℕ) → 0 < u → a ≤ b → a / u ≤ b / u

@@ -1,23 +1,20 @@
 //! Completion bounds: what the rest of a list adds to its value at least, for each amount of driving that is left of the day's.
 
-ghost use Rattle.std.specs.Prelude.{◌≡◌, ◌<◌, ◌≤◌, ◌+◌, ◌*◌, ◌≤ℤ◌, ◌+ℤ◌, ◌-ℤ◌, ℕ, ℤ, neg_ℤ, pos, length, cond, IfOk, Some, true, slice_get};
+ghost use Rattle.std.specs.Prelude.{◌≡◌, ◌<◌, ◌≤◌, ◌+◌, ◌*◌, ◌≤ℤ◌, ◌+ℤ◌, ◌-ℤ◌, ℕ, ℤ, neg_ℤ, pos, length, cond, IfOk, Some, slice_get};
 ghost use Rattle.plan_core.specs.declared.types.Piece.{Piece};
 ghost use Rattle.cover_core.specs.FirstLeast.{AllWithin};
 ghost use Rattle.plan_params.specs.Limits.{IsGroup};
 ghost use Rattle.duty_network.specs.Duties.{sign_off};
-ghost use Rattle.duty_network.specs.Ranges.{IsShift, off_value};
-ghost use Rattle.duty_pricing.specs.Bounds.{AreBelow, AreNumbered, AreOut, AreRows, IsBoundFrom, IsBoundRow, IsChain, IsFalling, IsLow, IsLoweredBy, IsReach, IsTail, cell_at, low_of, row_at, entry_at};
-ghost use Rattle.duty_pricing.specs.Begins.{AreFirsts};
-ghost use Rattle.duty_pricing.specs.Links.{AreLinked, IsBounding, IsLooking, IsTaken, looked_of};
+ghost use Rattle.duty_network.specs.Followers.{AreFollowed, AreNumbered, entry_at};
+ghost use Rattle.duty_network.specs.Ranges.{off_value};
+ghost use Rattle.duty_pricing.specs.Bounds.{AreBelow, AreOut, AreRows, IsBoundFrom, IsBoundRow, IsChain, IsFalling, IsLow, IsLoweredBy, IsReach, IsTail, cell_at, low_of, row_at};
+ghost use Rattle.duty_pricing.specs.Behind.{AreFirsts, AreInReach, IsLoweredByAll, IsLoweredByDirect, IsLoweredByOne};
 
-use crate::begins::{ahead, first_from};
 use crate::labels::price;
-use crate::links::{Links, following, link, unlinked};
-use crate::looked::{Looked, is_full, is_near, looked_of};
 use crate::reach::{Reach, in_units};
 use crate::rows::{Row, lower_row, raise, settle};
-use duty_network::DutyNet;
-use plan_core::{Memory, Piece, Price};
+use duty_network::{DutyNet, Follower, Followers};
+use plan_core::{Memory, Price};
 use plan_params::Group;
 use std::alloc::Global;
 
@@ -85,38 +82,6 @@ fn lower_by_piece(
     }
 }
 
-/// Lowers a row to what going on with a piece adds, or with it and all later pieces of its number, which are then looked at together.
-fn take_step(
-    net: &DutyNet<'_>,
-    prices: &[Price],
-    reach: &Reach,
-    numbers: &[u32],
-    rows: &[Row],
-    chain: &[Row],
-    row: &mut Row,
-    next: u32,
-    alone: bool,
-    looked: Looked,
-    all: bool,
-) -> Looked
-    requires reach { IsReach reach.now }
-    requires next { next < length net.now.pieces }
-    requires prices { length prices.now ≡ length net.now.pieces }
-    requires moderate { AllWithin 10000000000000 prices.now }
-    requires few { length net.now.pieces ≤ 3000 }
-    requires rows { AreRows (length net.now.pieces) next rows.now }
-    requires chain { IsChain net.now prices.now reach.now numbers.now rows.now next chain.now }
-    ensures { IsTaken net.now prices.now reach.now numbers.now rows.now next (looked_of all) looked result row.old row.new }
-{
-    if alone {
-        lower_by_piece(net, prices, reach, rows, row, next);
-        looked
-    } else {
-        lower_row(row, &chain[next as usize], 0, reach.width, 0);
-        looked_of(all)
-    }
-}
-
 /// One of two tables.
 pub(crate) fn pick<'a>(first: bool, a: &'a [Row], b: &'a [Row]) -> &'a [Row]
     ensures { result.now ≡ cond first a.now b.now }
@@ -124,143 +89,69 @@ pub(crate) fn pick<'a>(first: bool, a: &'a [Row], b: &'a [Row]) -> &'a [Row]
     if first { a } else { b }
 }
 
-/// Whether a piece follows another directly in one block.
-fn is_next(piece: &Piece, next: &Piece) -> bool
-    ensures { result ≡ true → piece.now.block ≡ next.now.block }
-{
-    piece.block == next.block && piece.index as u64 + 1 == next.index as u64
-}
-
-/// The time from the end of a piece to the begin of another, in seconds: below 0 where they overlap.
-fn gap(piece: &Piece, next: &Piece) -> i64
-    requires piece { IsShift piece.now }
-    requires next { IsShift next.now }
-    ensures { result ≡ next.now.begin.0 -ℤ piece.now.end.0 }
-{
-    next.begin.0 - piece.end.0
-}
-
-/// A time so many seconds later.
-fn later_by(time: i64, seconds: u32) -> i64
-    requires low { pos 0 ≤ℤ time }
-    requires high { time ≤ℤ pos 345600 }
-    ensures { result ≡ time +ℤ pos seconds }
-{
-    time + seconds as i64
-}
-
-/// Lowers the row of a piece to what going on with a later one adds, where there is a pause between them and it is not looked at with
-/// earlier ones of its number. Gives how its number is looked at then.
-fn bound_step(
+/// Lowers a row to what going on with the piece that follows directly adds, where there is one and a pause before it.
+fn lower_by_direct(
     net: &DutyNet<'_>,
-    group: &Group,
     prices: &[Price],
     reach: &Reach,
     long: u32,
-    last: i64,
-    numbers: &[u32],
     rows: &[Row],
     over: &[Row],
-    chain: &[Row],
-    over_chain: &[Row],
     row: &mut Row,
     item: u32,
-    next: u32,
-    looked: Looked,
-) -> Looked
+    direct: u32,
+)
     requires reach { IsReach reach.now }
-    requires order { item < next }
-    requires next { next < length net.now.pieces }
-    requires few { length net.now.pieces ≤ 3000 }
+    requires order { item < direct }
+    requires item { item < length net.now.pieces }
     requires prices { length prices.now ≡ length net.now.pieces }
     requires moderate { AllWithin 10000000000000 prices.now }
+    requires few { length net.now.pieces ≤ 3000 }
     requires rows { AreRows (length net.now.pieces) (item + 1) rows.now }
     requires over { AreRows (length net.now.pieces) (item + 1) over.now }
-    requires below { AreBelow over.now rows.now }
-    requires chain { IsChain net.now prices.now reach.now numbers.now rows.now (item + 1) chain.now }
-    requires over_chain { IsChain net.now prices.now reach.now numbers.now over.now (item + 1) over_chain.now }
-    requires so_far { IsLooking net.now prices.now group.now reach.now long last numbers.now rows.now over.now item (entry_at numbers.now next) next looked row.old }
-    ensures { IsLooking net.now prices.now group.now reach.now long last numbers.now rows.now over.now item (entry_at numbers.now next) (next + 1) result row.new }
+    ensures { IsLoweredByDirect net.now prices.now reach.now long rows.now over.now item direct row.old row.new }
 {
-    let piece = net.piece(item);
-    let later = net.piece(next);
-    let between = gap(piece, later);
-    if between < 0 {
-        return looked;
+    if direct as usize >= net.pieces().len() {
+        return;
     }
-    if is_near(looked) && between < long as i64 {
-        return looked;
-    }
-    match net.pause(item, next) {
-        None => looked,
+    match net.pause(item, direct) {
+        None => {}
         Some(time) => {
-            let all = time >= long;
-            let table = pick(all, over, rows);
-            let chained = pick(all, over_chain, chain);
-            let alone = is_next(piece, later);
-            take_step(
-                net, prices, reach, numbers, table, chained, row, next, alone, looked, all,
-            )
+            let table = pick(time >= long, over, rows);
+            lower_by_piece(net, prices, reach, table, row, direct);
         }
     }
 }
 
-/// Lowers the row of a piece to what going on with the later pieces of a number adds. It passes over pieces that begin too early, and looks
-/// at none behind the first one with which all of them are looked at together.
-fn bound_number(
-    net: &DutyNet<'_>,
-    group: &Group,
-    prices: &[Price],
-    reach: &Reach,
-    long: u32,
-    last: i64,
-    numbers: &[u32],
-    firsts: &[u32],
-    links: &Links,
-    rows: &[Row],
-    over: &[Row],
-    chain: &[Row],
-    over_chain: &[Row],
-    row: &mut Row,
-    item: u32,
-    number: usize,
-)
+/// Lowers a row to the one that a chain has at a place, where it has one there.
+fn lower_by_one(reach: &Reach, chain: &[Row], row: &mut Row, item: u32, place: u32)
     requires reach { IsReach reach.now }
-    requires prices { length prices.now ≡ length net.now.pieces }
-    requires moderate { AllWithin 10000000000000 prices.now }
-    requires count { length numbers.now ≡ length net.now.pieces }
-    requires item { item < length net.now.pieces }
-    requires long { long ≤ 10800 }
-    requires firsts { AreFirsts 0 net.now.pieces numbers.now firsts.now }
-    requires slots { 200 * length links.now.heads.items ≤ length firsts.now }
-    requires linked { AreLinked numbers.now (item + 1) links.now }
-    requires number { number < length links.now.heads.items }
-    requires rows { AreRows (length net.now.pieces) (item + 1) rows.now }
-    requires over { AreRows (length net.now.pieces) (item + 1) over.now }
-    requires below { AreBelow over.now rows.now }
-    requires chain { IsChain net.now prices.now reach.now numbers.now rows.now (item + 1) chain.now }
-    requires over_chain { IsChain net.now prices.now reach.now numbers.now over.now (item + 1) over_chain.now }
-    requires so_far { IsBounding net.now prices.now group.now reach.now long last numbers.now rows.now over.now item number row.old }
-    ensures { IsBounding net.now prices.now group.now reach.now long last numbers.now rows.now over.now item (number + 1) row.new }
+    requires chain { AreInReach (item + 1) chain.now }
+    requires order { item < place }
+    ensures { IsLoweredByOne reach.now chain.now item place row.old row.new }
 {
-    net.fits();
-    let count = net.pieces().len() as u32;
-    let end = net.piece(item).end.0;
-    let behind = first_from(firsts, number, end);
-    let far = first_from(firsts, number, later_by(end, long));
-    let mut next = ahead(links.heads[number], true, behind);
-    let mut looked = Looked::Apart;
-    while next < count {
-        looked = bound_step(
-            net, group, prices, reach, long, last, numbers, rows, over, chain, over_chain, row,
-            item, next, looked,
-        );
-        let after = following(links.after.as_slice(), next, is_full(looked), count);
-        next = ahead(after, is_near(looked), far);
+    if (place as usize) < chain.len() {
+        lower_row(row, &chain[place as usize], 0, reach.width, 0);
+    }
+}
+
+/// Lowers a row to what going on with the pieces of each number adds, from a first one on.
+fn lower_by_all(reach: &Reach, chain: &[Row], firsts: &[u32], row: &mut Row, item: u32)
+    requires reach { IsReach reach.now }
+    requires chain { AreInReach (item + 1) chain.now }
+    requires behind { (m : ℕ) → m < length firsts.now → item < entry_at firsts.now m }
+    ensures { IsLoweredByAll reach.now chain.now firsts.now item (length firsts.now) row.old row.new }
+{
+    for number in 0..firsts.len() {
+        lower_by_one(reach, chain, row, item, firsts[number]);
     }
 }
 
 /// The row of a piece, where those of the later pieces are bounds.
+///
+/// Behind the first piece of a number to which there is a pause the later ones of that number are looked at together, by its row in the chain:
+/// whether there is a pause to each of them does not matter, since a bound may only be too low. `near` has the first pieces behind pauses that are
+/// not long, where there are such pauses, and `far` those behind long ones.
 fn bound_row(
     net: &DutyNet<'_>,
     class: u32,
@@ -270,8 +161,9 @@ fn bound_row(
     long: u32,
     last: i64,
     numbers: &[u32],
-    firsts: &[u32],
-    links: &Links,
+    direct: u32,
+    near: &[u32],
+    far: &[u32],
     rows: &[Row],
     over: &[Row],
     chain: &[Row],
@@ -284,11 +176,9 @@ fn bound_row(
     requires item { item < length net.now.pieces }
     requires prices { length prices.now ≡ length net.now.pieces }
     requires moderate { AllWithin 10000000000000 prices.now }
-    requires count { length numbers.now ≡ length net.now.pieces }
-    requires long { long ≤ 10800 }
-    requires firsts { AreFirsts 0 net.now.pieces numbers.now firsts.now }
-    requires slots { 200 * length links.now.heads.items ≤ length firsts.now }
-    requires linked { AreLinked numbers.now (item + 1) links.now }
+    requires direct { item < direct }
+    requires near { AreFirsts net.now numbers.now item direct (λ time. time < long) near.now }
+    requires far { AreFirsts net.now numbers.now item direct (λ time. long ≤ time) far.now }
     requires rows { AreRows (length net.now.pieces) (item + 1) rows.now }
     requires over { AreRows (length net.now.pieces) (item + 1) over.now }
     requires below { AreBelow over.now rows.now }
@@ -300,12 +190,9 @@ fn bound_row(
 {
     net.fits();
     let mut row = [ending(net, class, group, item, last); 16];
-    for number in 0..links.heads.len() {
-        bound_number(
-            net, group, prices, reach, long, last, numbers, firsts, links, rows, over, chain,
-            over_chain, &mut row, item, number,
-        );
-    }
+    lower_by_direct(net, prices, reach, long, rows, over, &mut row, item, direct);
+    lower_by_all(reach, chain, near, &mut row, item);
+    lower_by_all(reach, over_chain, far, &mut row, item);
     settle(&mut row);
     row
 }
@@ -350,6 +237,14 @@ fn out_of_reach(alloc: Global, count: usize) -> Result<Vec<Row>, Memory>
     Ok(rows)
 }
 
+/// The pieces that can follow a piece.
+fn follower(followers: &Followers, item: u32) -> &Follower
+    requires { item < length followers.now.behind.items }
+    ensures { slice_get followers.now.behind.items item ≡ Some result.now }
+{
+    &followers.behind[item as usize]
+}
+
 /// The rows of pieces, and for each piece the least of what going on with it or with a later piece of its number adds.
 #[derive(Drop)]
 pub(crate) struct Table {
@@ -361,9 +256,8 @@ pub(crate) struct Table {
 /// adds to its value at least, in thousandths of a cost unit: the least over ending there and over going on with each later piece after a
 /// pause, the prices of these taken off. Article 7 and the other limits are left out. `Memory` is the only error.
 ///
-/// Pieces are numbered, those that begin at one point alike. Behind the first piece of a number to which there is a pause the later ones of
-/// that number are looked at together, by its row in the chain: whether there is a pause to each of them does not matter, since a bound may
-/// only be too low. So for each piece a few of each number are looked at, and no others: it takes time with the pieces and the points.
+/// Pieces are numbered, those that begin at one point alike. Of each number at most two pieces are looked at, and the one that follows directly: it
+/// takes time with the pieces and the points.
 pub(crate) fn bounds_over(
     alloc: Global,
     net: &DutyNet<'_>,
@@ -371,9 +265,8 @@ pub(crate) fn bounds_over(
     group: &Group,
     prices: &[Price],
     reach: &Reach,
+    followers: &Followers,
     numbers: &[u32],
-    kinds: u32,
-    firsts: &[u32],
     first: usize,
 ) -> Result<Table, Memory>
     requires class { slice_get net.now.params.groups class ≡ Some group.now }
@@ -381,10 +274,8 @@ pub(crate) fn bounds_over(
     requires reach { IsReach reach.now }
     requires prices { length prices.now ≡ length net.now.pieces }
     requires moderate { AllWithin 10000000000000 prices.now }
-    requires numbers { AreNumbered (length net.now.pieces) numbers.now }
-    requires kinds { (k : ℕ) → k < length net.now.pieces → entry_at numbers.now k < kinds }
-    requires firsts { AreFirsts 0 net.now.pieces numbers.now firsts.now }
-    requires slots { length firsts.now ≡ 200 * kinds }
+    requires followers { AreFollowed net.now.pieces net.now.params followers.now }
+    requires numbers { numbers.now ≡ followers.now.points.numbers.items }
     ensures rows { IfOk result (λ table. IsBoundFrom net.now prices.now group.now reach.now 0 reach.now.until first table.rows.items table.rows.items) }
     ensures chain { IfOk result (λ table. IsChain net.now prices.now reach.now numbers.now table.rows.items first table.chain.items) }
 {
@@ -393,12 +284,12 @@ pub(crate) fn bounds_over(
     let mut rows = out_of_reach(alloc, count)?;
     let mut chain = out_of_reach(alloc, count)?;
     let mut tail = out_of_reach(alloc, count)?;
-    let mut links = unlinked(alloc, count, kinds)?;
     let mut item = count;
     while item > first {
         item -= 1;
         let so_far = rows.as_slice();
         let chained = chain.as_slice();
+        let follower = follower(followers, item as u32);
         let row = bound_row(
             net,
             class,
@@ -408,8 +299,9 @@ pub(crate) fn bounds_over(
             0,
             reach.until,
             numbers,
-            firsts,
-            &links,
+            follower.direct,
+            &[],
+            follower.near.as_slice(),
             so_far,
             so_far,
             chained,
@@ -420,7 +312,6 @@ pub(crate) fn bounds_over(
         let now = rows.as_slice();
         let least = chain_row(net, prices, reach, numbers, now, &mut tail, item as u32);
         chain[item] = least;
-        link(&mut links, numbers, item as u32);
     }
     Ok(Table { rows, chain })
 }
@@ -434,9 +325,8 @@ pub(crate) fn bounds(
     prices: &[Price],
     reach: &Reach,
     last: i64,
+    followers: &Followers,
     numbers: &[u32],
-    kinds: u32,
-    firsts: &[u32],
     over: &Table,
     first: usize,
 ) -> Result<Vec<Row>, Memory>
@@ -445,10 +335,8 @@ pub(crate) fn bounds(
     requires reach { IsReach reach.now }
     requires prices { length prices.now ≡ length net.now.pieces }
     requires moderate { AllWithin 10000000000000 prices.now }
-    requires numbers { AreNumbered (length net.now.pieces) numbers.now }
-    requires kinds { (k : ℕ) → k < length net.now.pieces → entry_at numbers.now k < kinds }
-    requires firsts { AreFirsts 0 net.now.pieces numbers.now firsts.now }
-    requires slots { length firsts.now ≡ 200 * kinds }
+    requires followers { AreFollowed net.now.pieces net.now.params followers.now }
+    requires numbers { numbers.now ≡ followers.now.points.numbers.items }
     requires in_time { last ≤ℤ reach.now.until }
     requires over { IsBoundFrom net.now prices.now group.now reach.now 0 reach.now.until first over.now.rows.items over.now.rows.items }
     requires over_chain { IsChain net.now prices.now reach.now numbers.now over.now.rows.items first over.now.chain.items }
@@ -460,7 +348,6 @@ pub(crate) fn bounds(
     let mut rows = out_of_reach(alloc, count)?;
     let mut chain = out_of_reach(alloc, count)?;
     let mut tail = out_of_reach(alloc, count)?;
-    let mut links = unlinked(alloc, count, kinds)?;
     let mut item = count;
     while item > first {
         item -= 1;
@@ -468,6 +355,7 @@ pub(crate) fn bounds(
         let chained = chain.as_slice();
         let above = over.rows.as_slice();
         let above_chained = over.chain.as_slice();
+        let follower = follower(followers, item as u32);
         let mut row = bound_row(
             net,
             class,
@@ -477,8 +365,9 @@ pub(crate) fn bounds(
             10_800,
             last,
             numbers,
-            firsts,
-            &links,
+            follower.direct,
+            follower.near.as_slice(),
+            follower.far.as_slice(),
             so_far,
             above,
             chained,
@@ -490,7 +379,6 @@ pub(crate) fn bounds(
         let now = rows.as_slice();
         let least = chain_row(net, prices, reach, numbers, now, &mut tail, item as u32);
         chain[item] = least;
-        link(&mut links, numbers, item as u32);
     }
     Ok(rows)
 }

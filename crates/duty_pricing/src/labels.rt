@@ -8,12 +8,11 @@ ghost use Rattle.plan_params.specs.Limits.{IsGroup};
 ghost use Rattle.duty_network.specs.Duties.{limits_of, pause_at};
 ghost use Rattle.duty_network.specs.Marks.{closed_value, extended_mark, is_as_good};
 ghost use Rattle.duty_network.specs.Ranges.{NetFits};
-ghost use Rattle.duty_pricing.specs.Bounds.{AllWithin-prop, AreBounds, IsLatest, IsNumbering, IsRangeMark, IsReach, cell_at, floor_of, units_left as left_of};
+ghost use Rattle.duty_pricing.specs.Bounds.{AllWithin-prop, AreBounds, IsLatest, IsRangeMark, IsReach, cell_at, floor_of, units_left as left_of};
 ghost use Rattle.duty_pricing.specs.Laws.{duty-hides, duty-kept, duty-safe, duty-stepwise, duty-valued, duty_labels};
 
 use crate::bounds::pick;
-use crate::numbering::PieceNumbers;
-use crate::reach::{Reach, day_of, in_units, latest_start, reach_of, units_left};
+use crate::reach::{Reach, day_of, latest_start, reach_of, units_left};
 use crate::rows::{Row, cell};
 use crate::tables::{BoundTables, tables};
 use cover_core::Mark;
@@ -80,6 +79,26 @@ fn is_above(value: i64, price: i64, rest: i64, limit: i64) -> bool
     lowered(value, price, rest) > limit as i128
 }
 
+/// The greatest value of which no more than a limit is left after a price, with a rest.
+fn most_under(price: i64, rest: i64, limit: i64) -> i64
+    ensures { result <ℤ pos 9223372036854775807 → limit ≤ℤ ((result -ℤ price) +ℤ rest) }
+{
+    clamped(limit as i128 - lowered(0, price, rest))
+}
+
+/// The number of 64 bits that is nearest to a number.
+fn clamped(number: i128) -> i64
+    ensures { result <ℤ pos 9223372036854775807 → number ≤ℤ result }
+{
+    if number < i64::MIN as i128 {
+        i64::MIN
+    } else if number > i64::MAX as i128 {
+        i64::MAX
+    } else {
+        number as i64
+    }
+}
+
 /// Whether a value with a rest is at most a limit.
 fn is_low_enough(value: i64, rest: i64, limit: i64) -> bool
     requires value_low { neg_ℤ (pos 100000000000000000) ≤ℤ value }
@@ -127,8 +146,7 @@ fn is_better(a: &Mark, b: &Mark) -> bool
 }
 
 impl<'a, 'p> DutyLabels<'a, 'p> {
-    /// The marks of the lists of a class whose first piece is one from `first` on and before `end`, at some prices. The pieces are numbered
-    /// as `numbers_of` does.
+    /// The marks of the lists of a class whose first piece is one from `first` on and before `end`, at some prices.
     ///
     /// The completion bounds tell apart how much driving is left of a day's, in steps of 40 minutes, where `parted` says so. Then they are
     /// sharper, and take sixteen times as long. They change the time of a search alone, and no answer. It takes memory with the pieces and
@@ -138,7 +156,6 @@ impl<'a, 'p> DutyLabels<'a, 'p> {
         net: &'a DutyNet<'p>,
         class: u32,
         prices: &'a [Price],
-        numbers: &PieceNumbers,
         first: u32,
         end: u32,
         parted: bool,
@@ -146,7 +163,6 @@ impl<'a, 'p> DutyLabels<'a, 'p> {
         requires class { class < length net.now.params.groups }
         requires prices { length prices.now ≡ length net.now.pieces }
         requires moderate { AllWithin 10000000000000 prices.now }
-        requires numbers { IsNumbering (length net.now.pieces) numbers.now }
         ensures net { IfOk result (λ labels. labels.net.now ≡ net.now) }
         ensures class { IfOk result (λ labels. labels.class ≡ class) }
         ensures crew { IfOk result (λ labels. slice_get net.now.params.groups class ≡ Some labels.crew) }
@@ -160,7 +176,7 @@ impl<'a, 'p> DutyLabels<'a, 'p> {
         let latest = latest_start(net, class, &crew, prices, first, end);
         let reach = reach_of(parted, latest + 54_000);
         let BoundTables { rows, over } = tables(
-            alloc, net, class, &crew, prices, &reach, latest, numbers, first,
+            alloc, net, class, &crew, prices, &reach, latest, first,
         )?;
         Ok(DutyLabels {
             net,
@@ -226,18 +242,26 @@ impl DutyLabels<'_, '_> {
         )
     }
 
-    /// Whether a mark cannot go on with an item: too little driving is left, or it is above the limit then.
+    /// The greatest value with which a list is within the limit once it goes on with an item, however much driving is left.
+    fn most_with(&self, item: u32, limit: i64) -> i64
+        requires { item < length self.now.net.now.pieces }
+        ensures { result <ℤ pos 9223372036854775807 → limit ≤ℤ ((result -ℤ price_at self.now.prices.now item) +ℤ cell_at self.now.over.items item 15) }
+    {
+        most_under(
+            price(self.prices, item),
+            cell(self.over.as_slice(), item, 15),
+            limit,
+        )
+    }
+
+    /// Whether a mark that goes on with an item is above the limit then, by the bounds of lists with a long pause.
     fn is_over(&self, mark: &Mark, item: u32, limit: i64) -> bool
         requires item { item < length self.now.net.now.pieces }
         requires sound { IsRangeMark (length self.now.net.now.pieces) self.now.first self.now.latest mark.now }
         ensures { result ≡ true → passed (is_low (floor_of self.now.reach self.now.crew self.now.rows.items self.now.over.items) limit) (extended_mark self.now.net.now self.now.crew self.now.prices.now mark.now item) ≡ None }
     {
-        if self.is_too_high(mark.value, item, 15, limit) {
-            return true;
-        }
-        let left = self.left(mark.total);
-        let taken = in_units(&self.reach, self.net.piece(item).driving);
-        taken > left || self.is_too_high(mark.value, item, left - taken, limit)
+        let left = self.left(mark.total + self.net.piece(item).driving);
+        self.is_too_high(mark.value, item, left, limit)
     }
 
     /// Whether there is no pause between two items.
@@ -300,12 +324,17 @@ impl Labels for DutyLabels<'_, '_> {
         self.within(self.net.next(&self.crew, self.prices, label, item), limit)
     }
 
-    fn may_reach(&self, least: i64, item: u32, limit: i64) -> bool {
-        !self.is_too_high(least, item, 15, limit)
+    fn most_reaching(&self, item: u32, limit: i64) -> Option<i64> {
+        let most = self.most_with(item, limit);
+        Some(most)
     }
 
-    fn may_follow(&self, before: u32, least: i64, item: u32, limit: i64) -> bool {
-        !self.is_too_high(least, item, 15, limit) && !self.is_cut_off(before, item)
+    fn most_following(&self, before: u32, item: u32, limit: i64) -> Option<i64> {
+        if self.is_cut_off(before, item) {
+            return None;
+        }
+        let most = self.most_with(item, limit);
+        Some(most)
     }
 
     fn value(&self, label: &Mark) -> i64 {

@@ -3,17 +3,12 @@
 //! search may be used alone too, for lists that begin with any range of pieces.
 #![tactic(auto)]
 
-mod begins;
 mod bounds;
 mod labels;
-mod links;
-mod looked;
-mod numbering;
 mod pricer;
 mod reach;
 mod rows;
 mod tables;
 
 pub use labels::DutyLabels;
-pub use numbering::{PieceNumbers, numbers_of};
 pub use pricer::DutyPricer;

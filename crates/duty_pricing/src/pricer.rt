@@ -6,7 +6,6 @@ ghost use Rattle.cover_core.specs.FirstLeast.{AllWithin};
 ghost use Rattle.duty_network.specs.Duties.{duties};
 
 use crate::labels::DutyLabels;
-use crate::numbering::numbers_of;
 use cover_core::{Column, Columns, Pricer, Prices};
 use duty_network::DutyNet;
 use label_dive::{begins_within, dive_from_each, likely};
@@ -60,12 +59,11 @@ fn best_duty(
     net.fits();
     let first = 16 * group;
     let end = first + 16;
-    let numbers = numbers_of(alloc, net.pieces())?;
-    let whole = DutyLabels::new(alloc, net, class, prices, &numbers, first, end, false)?;
+    let whole = DutyLabels::new(alloc, net, class, prices, first, end, false)?;
     if !begins_within(&whole, limit) {
         return best_column(alloc, net, &whole, class, &[], limit);
     }
-    let parted = DutyLabels::new(alloc, net, class, prices, &numbers, first, end, true)?;
+    let parted = DutyLabels::new(alloc, net, class, prices, first, end, true)?;
     let likely = likely(dive_from_each(&parted, limit), limit, [60, 80]);
     best_column(alloc, net, &parted, class, &likely, limit)
 }

@@ -65,11 +65,7 @@ pub(crate) fn in_units(reach: &Reach, seconds: u32) -> u32
     requires { 0 < reach.now.unit }
     ensures { result ≡ seconds / reach.now.unit }
 {
-    if reach.unit == 2_400 {
-        seconds / 2_400
-    } else {
-        seconds / reach.unit
-    }
+    seconds / reach.unit
 }
 
 /// The most driving of a day of a group (article 6(1)), in seconds.
@@ -91,10 +87,15 @@ pub(crate) fn last_end(group: &Group, latest: i64) -> i64
 
 /// How many units of driving are left of a day's, rounded down.
 pub(crate) fn units_left(reach: &Reach, day: u32, total: u32) -> u32
-    requires { 0 < reach.now.unit }
+    requires reach { spec.IsReach reach.now }
+    requires day { day ≤ 36000 }
     ensures { result ≡ (day - total) / reach.now.unit }
 {
-    in_units(reach, day.saturating_sub(total))
+    if reach.width == 1 {
+        0
+    } else {
+        day.saturating_sub(total) / 2_400
+    }
 }
 
 /// The greater of two numbers.

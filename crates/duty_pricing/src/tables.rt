@@ -3,11 +3,9 @@
 ghost use Rattle.std.specs.Prelude.{◌≡◌, ◌≤ℤ◌, ◌+ℤ◌, neg_ℤ, pos, length, IfOk, Some, slice_get};
 ghost use Rattle.cover_core.specs.FirstLeast.{AllWithin};
 ghost use Rattle.plan_params.specs.Limits.{IsGroup};
-ghost use Rattle.duty_pricing.specs.Bounds.{AreBounds, IsNumbering, IsReach};
+ghost use Rattle.duty_pricing.specs.Bounds.{AreBounds, IsReach};
 
-use crate::begins::firsts_of;
 use crate::bounds::{bounds, bounds_over};
-use crate::numbering::PieceNumbers;
 use crate::reach::{Reach, last_end};
 use crate::rows::Row;
 use duty_network::DutyNet;
@@ -31,7 +29,6 @@ pub(crate) fn tables(
     prices: &[Price],
     reach: &Reach,
     latest: i64,
-    numbers: &PieceNumbers,
     first: u32,
 ) -> Result<BoundTables, Memory>
     requires class { slice_get net.now.params.groups class ≡ Some group.now }
@@ -39,16 +36,13 @@ pub(crate) fn tables(
     requires reach { IsReach reach.now }
     requires prices { length prices.now ≡ length net.now.pieces }
     requires moderate { AllWithin 10000000000000 prices.now }
-    requires numbers { IsNumbering (length net.now.pieces) numbers.now }
     requires until { reach.now.until ≡ latest +ℤ pos 54000 }
     requires early { neg_ℤ (pos 345600) ≤ℤ latest }
     requires late { latest ≤ℤ pos 345600 }
     ensures { IfOk result (λ tables. AreBounds net.now prices.now group.now reach.now latest first tables.rows.items tables.over.items) }
 {
-    let kinds = numbers.kinds;
-    let numbers = numbers.numbers.as_slice();
-    let firsts = firsts_of(alloc, net, numbers, kinds)?;
-    let firsts = firsts.as_slice();
+    let followers = net.followers();
+    let numbers = followers.points.numbers.as_slice();
     let over = bounds_over(
         alloc,
         net,
@@ -56,9 +50,8 @@ pub(crate) fn tables(
         group,
         prices,
         reach,
+        followers,
         numbers,
-        kinds,
-        firsts,
         first as usize,
     )?;
     let last = last_end(group, latest);
@@ -70,9 +63,8 @@ pub(crate) fn tables(
         prices,
         reach,
         last,
+        followers,
         numbers,
-        kinds,
-        firsts,
         &over,
         first as usize,
     )?;

@@ -20,7 +20,7 @@ use crate::rest::DutyRest;
 use cover_core::Column;
 use cover_rest::Begun;
 use duty_network::DutyNet;
-use duty_pricing::{DutyLabels, numbers_of};
+use duty_pricing::DutyLabels;
 use label_dive::{dive_from_each, likely};
 use plan_core::{Memory, Price, Seq};
 use rest_labels::{
@@ -119,33 +119,14 @@ fn best_marked(
 {
     net.fits();
     let count = net.pieces().len() as u32;
-    let numbers = numbers_of(alloc, net.pieces())?;
     let range = first_items(&*bodies, group, count);
-    let whole = DutyLabels::new(
-        alloc,
-        &*net,
-        class,
-        &*spread,
-        &numbers,
-        range.first,
-        range.end,
-        false,
-    )?;
+    let whole = DutyLabels::new(alloc, &*net, class, &*spread, range.first, range.end, false)?;
     if !begins_within(&whole, &*bodies, &*starts, &*ended, group, limit) {
         return best_of_labels(
             alloc, &*rest, &whole, &*bodies, &*starts, &*ended, class, group, limit,
         );
     }
-    let parted = DutyLabels::new(
-        alloc,
-        &*net,
-        class,
-        &*spread,
-        &numbers,
-        range.first,
-        range.end,
-        true,
-    )?;
+    let parted = DutyLabels::new(alloc, &*net, class, &*spread, range.first, range.end, true)?;
     best_of_labels(
         alloc, &*rest, &parted, &*bodies, &*starts, &*ended, class, group, limit,
     )

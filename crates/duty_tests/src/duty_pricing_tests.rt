@@ -6,7 +6,7 @@ use crate::duty_nets::{GROUPS, STOP, net_of, round, settings};
 use crate::searches::{agrees, prices_of, searched};
 use cover_core::Worth;
 use duty_network::DutyNet;
-use duty_pricing::{DutyLabels, DutyPricer, numbers_of};
+use duty_pricing::{DutyLabels, DutyPricer};
 use label_search::{Found, search};
 use plan_core::{Memory, Piece};
 use plan_params::Params;
@@ -129,9 +129,8 @@ fn first_between(
     if net.pieces().len() != prices.items.len() || net.groups().is_empty() {
         return Ok(None);
     }
-    let numbers = numbers_of(alloc, net.pieces())?;
     let prices = prices.items.as_slice();
-    let labels = DutyLabels::new(alloc, net, 0, prices, &numbers, first, end, true)?;
+    let labels = DutyLabels::new(alloc, net, 0, prices, first, end, true)?;
     search(alloc, &labels, &[], 0)
 }
 

@@ -1,12 +1,31 @@
-use Rattle.std.proofs.Common.{◌≡◌, ◌∙◌, ◌-◌, ◌+◌, ◌≤◌, ℕ, ℤ, List, ap, set, subst, sym, length, replicate, arith, rules, w64}
+use Rattle.std.proofs.Common.{◌≡◌, ◌-◌, ◌+◌, ◌≤◌, ℕ, ℤ, List, ap, set, subst, sym, length, arith, rules, w64}
 use Rattle.std.proofs.lemmas.Int.{to_z-of_z}
 use Rattle.std.specs.Prelude.{FitsSigned}
 use Rattle.plan_core.specs.declared.types.Piece.{Piece}
+use Rattle.duty_network.specs.Followers.{AreNumbered}
 use Rattle.duty_pricing.specs.Bounds.{AreOut, AreRows, IsBoundFrom, IsBoundRow, IsChain, IsTail, row_at}
 use Rattle.duty_pricing.proofs.Bounding.{below-self, bounded-from, chain-from, chain-kept, chained, more-rows, out-chain, out-tail, placed, row-others, tail-kept, unbounded}
-use Rattle.duty_pricing.specs.Links.{AreLinked}
-use Rattle.duty_pricing.proofs.Looking.{count-replicate, none-linked}
+use Rattle.duty_pricing.proofs.Looking.{all-firsts, no-firsts}
 use Rattle.duty_pricing.proofs.bounds.bounds_over.Goals as goal
+
+pub follower-follower-requires : goal.follower-follower-requires
+follower-follower-requires c =
+    let more = c.loop-item-test.true in
+    let within = c.loop-item.invariant.within in
+    let count = c.requires.followers.count in
+    omega arith
+
+pub bound_row-row-requires-clause-direct : goal.bound_row-row-requires-clause-direct
+bound_row-row-requires-clause-direct c =
+    (c.requires.followers.each (c.loop-item.item - 1) c.follower-follower.result.now c.follower-follower.ensures).direct
+
+pub bound_row-row-requires-clause-near : goal.bound_row-row-requires-clause-near
+bound_row-row-requires-clause-near c = no-firsts c.args.net.now c.args.numbers.now (c.loop-item.item - 1) c.follower-follower.result.now.direct
+
+pub bound_row-row-requires-clause-far : goal.bound_row-row-requires-clause-far
+bound_row-row-requires-clause-far c =
+    all-firsts c.args.net.now c.args.followers.now (c.loop-item.item - 1) c.follower-follower.result.now c.args.numbers.now c.as_slice.result.now c.requires.followers c.follower-follower.ensures
+    c.requires.numbers c.as_slice.ensures.value
 
 pub bound_row-row-requires-clause-rows : goal.bound_row-row-requires-clause-rows
 bound_row-row-requires-clause-rows c =
@@ -48,23 +67,10 @@ bound_row-row-requires-clause-over_chain c =
     let R : List (List ℤ) → Type 0 = λ l. IsChain d c.args.prices.now c.args.reach.now c.args.numbers.now c.as_slice-so_far.result.now ((c.loop-item.item - 1) + 1) l in
     subst R (sym c.as_slice-chained.ensures.value) (subst Q (sym c.as_slice-so_far.ensures.value) (subst P one c.loop-item.invariant.chain))
 
-pub bound_row-row-requires-clause-linked : goal.bound_row-row-requires-clause-linked
-bound_row-row-requires-clause-linked c =
-    let one : c.loop-item.item ≡ (c.loop-item.item - 1) + 1 = (let more = c.loop-item-test.true in omega arith) in
-    let P : ℕ → Type 0 = λ m. AreLinked c.args.numbers.now m c.loop-item.links in
-    subst P one c.loop-item.invariant.linked
-
-pub bound_row-row-requires-clause-slots : goal.bound_row-row-requires-clause-slots
-bound_row-row-requires-clause-slots c =
-    let kinds = c.loop-item.invariant.kinds in
-    let slots = c.requires.slots in
-    omega arith
-
-pub link-requires-clause-later : goal.link-requires-clause-later
-link-requires-clause-later c =
-    let one : c.loop-item.item ≡ (c.loop-item.item - 1) + 1 = (let more = c.loop-item-test.true in omega arith) in
-    let P : ℕ → Type 0 = λ m. AreLinked c.args.numbers.now m c.loop-item.links in
-    subst P one c.loop-item.invariant.linked
+pub chain_row-least-requires-clause-numbers : goal.chain_row-least-requires-clause-numbers
+chain_row-least-requires-clause-numbers c =
+    let P : List ℕ → Type 0 = λ l. AreNumbered (length c.args.net.now.pieces) l in
+    subst P (sym c.requires.numbers) c.requires.followers.points.each
 
 pub chain_row-least-requires-clause-rows : goal.chain_row-least-requires-clause-rows
 chain_row-least-requires-clause-rows c =
@@ -107,11 +113,6 @@ loop-item-init c =
       rows = subst A (sym same) (unbounded d c.args.prices.now c.args.group.now r 0 r.until c.in_ok-rows.rows.items c.in_ok-rows.rows.items rows);
       chain = subst B (sym same) (out-chain d c.args.prices.now r c.args.numbers.now c.in_ok-rows.rows.items c.in_ok-chain.chain.items chain);
       tail = subst C (sym same) (out-tail d c.args.prices.now r c.args.numbers.now c.in_ok-rows.rows.items c.in_ok-tail.tail.items few tail);
-      linked = (let Q : ℕ → Type 0 = λ n. AreLinked c.args.numbers.now n c.in_ok-links.links in
-          subst Q (sym same) (none-linked c.args.numbers.now c.args.kinds (length d.pieces) c.in_ok-links.links c.requires.numbers.count c.requires.kinds
-          (let R : ℕ → Type 0 = λ n. c.in_ok-links.links.heads.items ≡ replicate c.args.kinds n in subst R same c.in_ok-links.ensures.heads)
-          (let R : ℕ → Type 0 = λ n. c.in_ok-links.links.after.items ≡ replicate n n in subst R same c.in_ok-links.ensures.after)));
-      kinds = (let Q : List ℕ → Type 0 = λ l. length l ≡ c.args.kinds in subst Q (sym c.in_ok-links.ensures.heads) (count-replicate c.args.kinds _));
     }
 
 pub loop-item-preserved : goal.loop-item-preserved
@@ -138,8 +139,6 @@ loop-item-preserved c =
           (chain-kept d c.args.prices.now r c.args.numbers.now rows (set rows item row) (item + 1) c.loop-item.chain.items (subst B one c.loop-item.invariant.chain) others) tail
           c.chain_row-least.ensures.row;
       tail = tail;
-      linked = c.link.ensures.linked;
-      kinds = c.link.ensures.kinds ∙ c.loop-item.invariant.kinds;
     }
 
 pub returns-clause-rows : goal.returns-clause-rows

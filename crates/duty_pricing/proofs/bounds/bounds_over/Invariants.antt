@@ -1,6 +1,5 @@
-use Rattle.std.proofs.Common.{◌≡◌, ◌≤◌, length}
+use Rattle.std.proofs.Common.{◌≤◌, length}
 use Rattle.duty_pricing.specs.Bounds.{IsBoundFrom, IsChain, IsTail}
-use Rattle.duty_pricing.specs.Links.{AreLinked}
 use Rattle.duty_pricing.proofs.bounds.bounds_over.Given as goal
 
 -- the rows of the pieces from this one on are bounds
@@ -10,8 +9,6 @@ invariant-loop-item l = record {
   rows : IsBoundFrom l.net l.prices l.group l.reach 0 l.reach.until l.item l.rows.items l.rows.items;
   chain : IsChain l.net l.prices l.reach l.numbers l.rows.items l.item l.chain.items;
   tail : IsTail l.net l.prices l.reach l.numbers l.rows.items l.item l.tail.items;
-  linked : AreLinked l.numbers l.item l.links;
-  kinds : length l.links.heads.items ≡ l.kinds;
 }
 
 abbrev pub decreases-loop-item : goal.decreases-loop-item

@@ -1,7 +1,8 @@
 use Rattle.std.proofs.Common.{◌≡◌, ◌∙◌, ◌<◌, ℕ, ℤ, List, get_or, length, sym, ap, subst, set, arith}
-use Rattle.duty_pricing.specs.Bounds.{IsLoweredBy, IsTail, row_at, entry_at}
-use Rattle.duty_pricing.proofs.Bounding.{row-here, tailed}
-use Rattle.duty_pricing.proofs.Entries.{row-read, entry-get}
+use Rattle.duty_network.specs.Followers.{entry_at}
+use Rattle.duty_network.proofs.Entries.{entry-get}
+use Rattle.duty_pricing.specs.Bounds.{IsLoweredBy, IsTail, row_at}
+use Rattle.duty_pricing.proofs.Bounding.{row-here, row-read, tailed}
 use Rattle.duty_pricing.proofs.bounds.chain_row.Goals as goal
 
 pub index-requires : goal.index-requires
