@@ -10,6 +10,7 @@ ghost use Rattle.climb_rounds.specs.Walks.{IsWalk};
 use crate::best::Search;
 use crate::offers::{Offered, offer};
 use crate::setting::Setting;
+use crate::step::cost_step;
 use crate::walk::{Walk, copy_of};
 use cover_core::{Column, Columns, Pricer, Prices};
 use offer_estimate::{Scale, scaled};
@@ -102,14 +103,15 @@ pub(crate) fn offer_next<R: Threads + Sync, P: Pricer + Sync, G: Gate + Sync>(
 }
 
 /// Whether there is a plan, and the best estimate is so near its cost that no plan is cheaper where the estimate comes true: above the next
-/// lower cost by at least a thousandth of a cost unit an item.
+/// lower cost by at least a thousandth of a cost unit an item. Costs go in the steps in which those of the known columns go.
 pub(crate) fn is_near(search: &Search, guess: Option<i128>, items: u32) -> bool
     ensures { guess ≡ None → result ≡ false }
 {
     match guess {
         None => false,
         Some(guess) => {
-            let next = search.aim() as i128 - 1000;
+            let step = cost_step(search.stock.pool.as_slice()) as i128;
+            let next = search.aim() as i128 - 1000 * step;
             search.has_plan() && next + (items as i128) < guess
         }
     }

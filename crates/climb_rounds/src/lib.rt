@@ -20,6 +20,7 @@ mod passes;
 mod rounds;
 mod setting;
 mod start;
+mod step;
 mod walk;
 
 pub use climbed::{ClimbFault, Climbed};

@@ -14,6 +14,7 @@ ghost use Rattle.climb_rounds.specs.Settings.{IsSetting};
 use crate::best::{Best, Search, ask_few, ask_ready};
 use crate::rounds::dive_beside;
 use crate::setting::Setting;
+use crate::step::cost_step;
 use cover_core::{Column, Columns, Plan, Pricer, Prices, plan_sizes};
 use dual_bound::Kept;
 use plan_core::{Gate, Memory, Seq};
@@ -233,7 +234,26 @@ fn mend_once<R: Threads + Sync, P: Pricer + Sync, G: Gate + Sync>(
     }
 }
 
-/// Up to 40 partial dives, while the best plan costs more than a bound.
+/// After how many partial dives that bring nothing no more are made.
+const PATIENCE: u32 = 16;
+
+/// Whether a bound proves the best plan, as far as costs are known: they go in steps, and the plan is less than a step above the bound.
+fn is_proved(search: &Search, bound: u64) -> bool
+    ensures { search.now.cost ≤ bound → result ≡ true }
+{
+    search.cost.saturating_sub(bound) < cost_step(search.stock.pool.as_slice())
+}
+
+/// How many partial dives have brought nothing, one behind another, with one more of which this is known.
+fn idle_with(idle: u32, is_cheaper: bool) -> u32 {
+    if is_cheaper {
+        0
+    } else {
+        idle.saturating_add(1)
+    }
+}
+
+/// Up to 40 partial dives, until a bound proves the best plan or 16 of them, one behind another, have brought nothing.
 pub(crate) fn mend<R: Threads + Sync, P: Pricer + Sync, G: Gate + Sync>(
     alloc: Global,
     problem: &P,
@@ -253,14 +273,17 @@ pub(crate) fn mend<R: Threads + Sync, P: Pricer + Sync, G: Gate + Sync>(
     ensures { IfOk result (IsSearch (P.problem problem.now)) }
 {
     let mut search = search;
+    let mut idle = 0;
     for turn in 0..40usize {
-        if search.cost <= kept.bound {
+        if is_proved(&search, kept.bound) || idle >= PATIENCE {
             return Ok(search);
         }
+        let before = search.cost;
         let prices = &kept.prices;
         search = mend_once(
             alloc, problem, rt, gate, workers, setting, steps, search, course, prices, turn,
         )?;
+        idle = idle_with(idle, search.cost < before);
     }
     Ok(search)
 }

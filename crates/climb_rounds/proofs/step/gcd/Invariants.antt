@@ -1,0 +1,9 @@
+use Rattle.std.proofs.Common.{ℕ}
+use Rattle.std.specs.Int.{IsGcd}
+use Rattle.climb_rounds.proofs.step.gcd.Given as goal
+
+abbrev pub invariant-loop-number : goal.invariant-loop-number
+invariant-loop-number l = (g : ℕ) → IsGcd l.divisor l.number g → IsGcd l.fn.one l.fn.other g
+
+abbrev pub decreases-loop-number : goal.decreases-loop-number
+decreases-loop-number l = l.number
