@@ -7,12 +7,12 @@ use Rattle.plan_core.specs.declared.types.Piece.{Piece}
 use Rattle.vdv451_text.specs.declared.table.Table.{Table}
 use Rattle.vdv451_text.specs.Faults.{Gives}
 use Rattle.vdv451_text.specs.Plain.{are_plain, text}
-use Rattle.vdv452_tables.specs.Schema as schema
+use Rattle.vdv452_rows.specs.Schema as schema
 use Rattle.vdv452_tables.specs.declared.net.Net.{Net}
 use Rattle.vdv452_tables.specs.declared.reading.Needs.TheVariants as needs
 use Rattle.vdv452_tables.specs.Calendar.{net_of, schemas_of}
 use Rattle.vdv452_tables.specs.Ranges.{HasRanges}
-use Rattle.vdv452_tables.specs.Rows.{first_fault, has_name, table_of}
+use Rattle.vdv452_rows.specs.Rows.{first_fault, has_name, table_of}
 use Rattle.vdv452_tables.proofs.RangeLemmas.{ranges_of}
 use Rattle.cover_core.specs.Plans.{HasListedColumns}
 use Rattle.dual_bound.specs.declared.kept.Kept.{Kept}

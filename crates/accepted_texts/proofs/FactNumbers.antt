@@ -9,28 +9,28 @@ use Rattle.plan_core.specs.declared.types.Point.{Point}
 use Rattle.vdv451_text.specs.declared.table.Field.{Field}
 use Rattle.vdv451_text.specs.declared.table.Field.TheVariants.{Num, Text, Raw, Empty}
 use Rattle.vdv451_text.specs.declared.table.Table.{Table}
-use Rattle.vdv452_tables.specs.declared.cell.Cell.{Cell}
-use Rattle.vdv452_tables.specs.declared.cell.Cell.TheVariants.{Nothing, Number, Long}
+use Rattle.vdv452_rows.specs.declared.cell.Cell.{Cell}
+use Rattle.vdv452_rows.specs.declared.cell.Cell.TheVariants.{Nothing, Number, Long}
 use Rattle.vdv452_tables.specs.declared.keys.LineKey.{LineKey}
 use Rattle.vdv452_tables.specs.declared.net.Net.{Net}
 use Rattle.vdv452_tables.specs.declared.reading.Needs.TheVariants as needs
-use Rattle.vdv452_tables.specs.declared.rows.CalendarRow.{CalendarRow}
-use Rattle.vdv452_tables.specs.declared.rows.TripRow.{TripRow}
-use Rattle.vdv452_tables.specs.declared.rows.VersionRow.{VersionRow}
-use Rattle.vdv452_tables.specs.declared.rows.lines.StopRow.{StopRow}
-use Rattle.vdv452_tables.specs.declared.schema.Column.{Column}
-use Rattle.vdv452_tables.specs.declared.schema.Domain.{Domain}
-use Rattle.vdv452_tables.specs.declared.schema.Domain.TheVariants.{UpTo, LongUpTo, AnyWord, Unseen}
-use Rattle.vdv452_tables.specs.declared.schema.Schema.{Schema}
-use Rattle.vdv452_tables.specs.Schema as schema
+use Rattle.vdv452_rows.specs.declared.rows.CalendarRow.{CalendarRow}
+use Rattle.vdv452_rows.specs.declared.rows.TripRow.{TripRow}
+use Rattle.vdv452_rows.specs.declared.rows.VersionRow.{VersionRow}
+use Rattle.vdv452_rows.specs.declared.rows.lines.StopRow.{StopRow}
+use Rattle.vdv452_rows.specs.declared.schema.Column.{Column}
+use Rattle.vdv452_rows.specs.declared.schema.Domain.{Domain}
+use Rattle.vdv452_rows.specs.declared.schema.Domain.TheVariants.{UpTo, LongUpTo, AnyWord, Unseen}
+use Rattle.vdv452_rows.specs.declared.schema.Schema.{Schema}
+use Rattle.vdv452_rows.specs.Schema as schema
 use Rattle.vdv452_tables.specs.Calendar.{begun, kind_on, later, latest, net_of, rows_as, version_on}
-use Rattle.vdv452_tables.specs.Cells.{is_empty_field, long_up_to, number_up_to, value_in, whole_number}
+use Rattle.vdv452_rows.specs.Cells.{is_empty_field, long_up_to, number_up_to, value_in, whole_number}
 use Rattle.vdv452_tables.specs.Keys.{line_key_eq, stop_key_of}
 use Rattle.vdv452_tables.specs.LookUps.{area_on, course_on, in_order, links_from, put_in_order}
 use Rattle.vdv452_tables.specs.Ranges.{Fits, HasRanges, greatest_in}
-use Rattle.vdv452_tables.specs.Rows.{cell_at, cell_in, cells, field_at, rows_in, table_of}
-use Rattle.vdv452_tables.specs.TypedRows.{calendar_row, stop_row, typed, version_row}
-use Rattle.vdv452_tables.specs.Values.{number_of}
+use Rattle.vdv452_rows.specs.Rows.{cell_at, cell_in, cells, field_at, rows_in, table_of}
+use Rattle.vdv452_rows.specs.TypedRows.{calendar_row, stop_row, typed, version_row}
+use Rattle.vdv452_rows.specs.Values.{number_of}
 use Rattle.day_calendar.specs.Kinds.{IsKindOf}
 use Rattle.trip_times.specs.declared.trip.Trip.{Trip}
 use Rattle.trip_times.specs.declared.trip.TripFault.{TripFault}

@@ -20,7 +20,7 @@ use Rattle.vdv451_text.specs.declared.table.Table.{Table}
 use Rattle.vdv451_text.specs.Fields.{is_num_format}
 use Rattle.vdv451_text.specs.Plain.{are_plain, is_plain_table, is_sized_field, is_sized_row, is_word}
 use Rattle.vdv452_tables.specs.Ranges.{IsTime}
-use Rattle.vdv452_tables.specs.Rows.{place_of}
+use Rattle.vdv452_rows.specs.Rows.{place_of}
 use Rattle.number_tables.specs.Numbers.{AreFieldNumbers, number_row, number_rows}
 use Rattle.number_tables.specs.Signed.{signed_row, signed_rows}
 use Rattle.number_tables.proofs.PlainLemmas.{plain_table}

@@ -7,7 +7,7 @@ use Rattle.std.proofs.lemmas.List.Elements.{All-head, All-tail}
 use Rattle.std.specs.List.{cons_option, filter, filter_map}
 use Rattle.std.specs.Prelude.{Option, Some, None, Ok}
 use Rattle.vdv451_text.specs.declared.table.Table.{Table}
-use Rattle.vdv452_tables.specs.Rows.{first, has_name}
+use Rattle.vdv452_rows.specs.Rows.{first, has_name}
 use Rattle.number_tables.specs.Outlines.{Outline, Place, given_of, rows_in, rows_of}
 use Rattle.cover_core.specs.declared.Column.{Column}
 use Rattle.cover_core.specs.Plans.{all_items}

@@ -10,8 +10,8 @@ use Rattle.vdv451_text.specs.declared.table.Field.{Field}
 use Rattle.vdv451_text.specs.declared.table.Field.TheVariants.{Num, Text, Raw, Empty}
 use Rattle.vdv451_text.specs.declared.table.Table.{Table}
 use Rattle.vdv451_text.specs.Fields.{is_digits, negative, not_negative, number_of}
-use Rattle.vdv452_tables.specs.Cells.{whole_number}
-use Rattle.vdv452_tables.specs.Rows.{first, has_name, place_of, when}
+use Rattle.vdv452_rows.specs.Cells.{whole_number}
+use Rattle.vdv452_rows.specs.Rows.{first, has_name, place_of, when}
 use Rattle.number_tables.specs.Outlines.{Place, entry_faults, given_of, named, numbers, place, rows_in, rows_of}
 use Rattle.day_model.specs.Facts.{DayFacts}
 use Rattle.umlauf_write.specs.declared.text.PlanText.{PlanText}

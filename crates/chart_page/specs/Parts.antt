@@ -5,7 +5,7 @@ use Rattle.std.specs.List.{flat_map, filter_map}
 use Rattle.vdv451_text.specs.declared.table.Field.{Field}
 use Rattle.vdv451_text.specs.declared.table.Field.TheVariants.{Num, Text, Raw, Empty}
 use Rattle.vdv451_text.specs.declared.table.Table.{Table}
-use Rattle.vdv452_tables.specs.Rows.{field_at}
+use Rattle.vdv452_rows.specs.Rows.{field_at}
 use Rattle.chart_page.specs.declared.parts.Bar.{Bar}
 use Rattle.chart_page.specs.declared.parts.BarKind.{BarKind}
 use Rattle.chart_page.specs.declared.parts.BarKind.TheVariants as kinds

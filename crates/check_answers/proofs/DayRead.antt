@@ -5,15 +5,15 @@ use Rattle.vdv451_text.specs.declared.table.Table.{Table}
 use Rattle.vdv451_text.specs.Plain.{are_plain}
 use Rattle.vdv452_tables.specs.declared.net.Net.{Net}
 use Rattle.vdv452_tables.specs.declared.reading.Needs.TheVariants as needs
-use Rattle.vdv452_tables.specs.declared.rows.times.DeadRow.{DeadRow}
-use Rattle.vdv452_tables.specs.declared.schema.Domain.TheVariants.{AnyWord}
-use Rattle.vdv452_tables.specs.declared.schema.Schema.{Schema}
-use Rattle.vdv452_tables.specs.Schema as schema
+use Rattle.vdv452_rows.specs.declared.rows.times.DeadRow.{DeadRow}
+use Rattle.vdv452_rows.specs.declared.schema.Domain.TheVariants.{AnyWord}
+use Rattle.vdv452_rows.specs.declared.schema.Schema.{Schema}
+use Rattle.vdv452_rows.specs.Schema as schema
 use Rattle.vdv452_tables.specs.Calendar.{net_of, schemas_of}
 use Rattle.vdv452_tables.specs.Keys.{dead_key_of, move_key_eq, point_eq}
 use Rattle.vdv452_tables.specs.LookUps.{dead_time_on}
 use Rattle.vdv452_tables.specs.Ranges.{Fits, HasRanges, IsTime}
-use Rattle.vdv452_tables.specs.Rows.{HasOwnKeys, faults_of, missing_column, missing_columns, place_of, table_faults, table_of}
+use Rattle.vdv452_rows.specs.Rows.{HasOwnKeys, faults_of, missing_column, missing_columns, place_of, table_faults, table_of}
 use Rattle.vdv452_tables.proofs.KeyLemmas.{own_of}
 use Rattle.vdv452_tables.proofs.LookUpLemmas.{found_all}
 use Rattle.vdv452_tables.proofs.RangeLemmas.{ranges_of}

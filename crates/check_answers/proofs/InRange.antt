@@ -7,8 +7,8 @@ use Rattle.std.proofs.lemmas.List.Elements.{All-from_recursion, All-head}
 use Rattle.std.specs.List.{AllByRecursion}
 use Rattle.plan_core.specs.declared.types.Point.{Point}
 use Rattle.vdv452_tables.specs.declared.net.Net.{Net}
-use Rattle.vdv452_tables.specs.declared.rows.TripRow.{TripRow}
-use Rattle.vdv452_tables.specs.Schema as schema
+use Rattle.vdv452_rows.specs.declared.rows.TripRow.{TripRow}
+use Rattle.vdv452_rows.specs.Schema as schema
 use Rattle.vdv452_tables.specs.LookUps.{area_on, course_on, links_from}
 use Rattle.vdv452_tables.specs.Ranges.{Fits, HasRanges}
 use Rattle.day_calendar.specs.declared.trips.DayTrip.{DayTrip}

@@ -10,19 +10,19 @@ use Rattle.std.specs.List.{AllByRecursion}
 use Rattle.plan_core.specs.declared.types.Point.{Point}
 use Rattle.vdv451_text.specs.declared.table.Field.{Field}
 use Rattle.vdv451_text.specs.declared.table.Table.{Table}
-use Rattle.vdv452_tables.specs.declared.cell.Cell.{Cell}
-use Rattle.vdv452_tables.specs.declared.cell.Cell.TheVariants.{Number, Long}
+use Rattle.vdv452_rows.specs.declared.cell.Cell.{Cell}
+use Rattle.vdv452_rows.specs.declared.cell.Cell.TheVariants.{Number, Long}
 use Rattle.vdv452_tables.specs.declared.net.Net.{Net}
 use Rattle.vdv452_tables.specs.declared.reading.Needs.TheVariants as needs
-use Rattle.vdv452_tables.specs.declared.rows.TripRow.{TripRow}
-use Rattle.vdv452_tables.specs.declared.schema.Schema.{Schema}
-use Rattle.vdv452_tables.specs.Schema as schema
+use Rattle.vdv452_rows.specs.declared.rows.TripRow.{TripRow}
+use Rattle.vdv452_rows.specs.declared.schema.Schema.{Schema}
+use Rattle.vdv452_rows.specs.Schema as schema
 use Rattle.vdv452_tables.specs.Calendar.{net_of}
-use Rattle.vdv452_tables.specs.Cells.{same_cells}
+use Rattle.vdv452_rows.specs.Cells.{same_cells}
 use Rattle.vdv452_tables.specs.LookUps.{area_on, course_on, links_from}
-use Rattle.vdv452_tables.specs.Rows.{cell_at, cell_fault, cell_faults, cells, field_at, key_of, missing_column, missing_columns, rows_in, table_of}
-use Rattle.vdv452_tables.specs.TypedRows.{number_row, trip_row, typed}
-use Rattle.vdv452_tables.specs.Values.{long_in, number_of}
+use Rattle.vdv452_rows.specs.Rows.{cell_at, cell_fault, cell_faults, cells, field_at, key_of, missing_column, missing_columns, rows_in, table_of}
+use Rattle.vdv452_rows.specs.TypedRows.{number_row, trip_row, typed}
+use Rattle.vdv452_rows.specs.Values.{long_in, number_of}
 use Rattle.day_calendar.specs.declared.trips.DayTrip.{DayTrip}
 use Rattle.day_calendar.specs.DayTrips.{day_trips, is_of_day, trips_from}
 use Rattle.trip_times.specs.declared.trip.Trip.{Trip}

@@ -11,15 +11,15 @@ use Rattle.vdv451_text.specs.declared.table.Head.{Head}
 use Rattle.vdv451_text.specs.declared.table.Table.{Table}
 use Rattle.vdv451_text.specs.Fields.{number_of as number_in}
 use Rattle.vdv451_text.specs.Plain.{are_plain, are_plain_columns, is_plain_name, is_plain_row, is_plain_table}
-use Rattle.vdv452_tables.specs.declared.cell.Cell.{Cell}
-use Rattle.vdv452_tables.specs.declared.cell.Cell.TheVariants.{Nothing, Number, Long}
-use Rattle.vdv452_tables.specs.declared.schema.Column.{Column}
-use Rattle.vdv452_tables.specs.declared.schema.Domain.TheVariants.{UpTo, LongUpTo}
-use Rattle.vdv452_tables.specs.declared.schema.Schema.{Schema}
-use Rattle.vdv452_tables.specs.Schema as schema
-use Rattle.vdv452_tables.specs.Cells.{cell_of, long_up_to, number_up_to, same_cells}
-use Rattle.vdv452_tables.specs.Rows.{HasOwnKeys, cell_at, cell_fault, cell_faults, cell_in, cells, faults_in, faults_of, field_at, first, has_name, key_of, keys_in, missing_columns, own_key, place_of, row_fault, row_faults, table_faults, table_of, when}
-use Rattle.vdv452_tables.specs.TypedRows.{typed}
+use Rattle.vdv452_rows.specs.declared.cell.Cell.{Cell}
+use Rattle.vdv452_rows.specs.declared.cell.Cell.TheVariants.{Nothing, Number, Long}
+use Rattle.vdv452_rows.specs.declared.schema.Column.{Column}
+use Rattle.vdv452_rows.specs.declared.schema.Domain.TheVariants.{UpTo, LongUpTo}
+use Rattle.vdv452_rows.specs.declared.schema.Schema.{Schema}
+use Rattle.vdv452_rows.specs.Schema as schema
+use Rattle.vdv452_rows.specs.Cells.{cell_of, long_up_to, number_up_to, same_cells}
+use Rattle.vdv452_rows.specs.Rows.{HasOwnKeys, cell_at, cell_fault, cell_faults, cell_in, cells, faults_in, faults_of, field_at, first, has_name, key_of, keys_in, missing_columns, own_key, place_of, row_fault, row_faults, table_faults, table_of, when}
+use Rattle.vdv452_rows.specs.TypedRows.{typed}
 use Rattle.check_answers.proofs.Apart.{Apart, IsOther}
 
 pub first-none : {A : Type 0} (xs : List A) → first xs ≡ None → xs ≡ []

@@ -11,7 +11,7 @@ use Rattle.vdv451_text.specs.declared.table.Field.{Field}
 use Rattle.vdv451_text.specs.declared.table.Field.TheVariants.{Num, Text, Raw, Empty}
 use Rattle.vdv451_text.specs.declared.table.Head.{Head}
 use Rattle.vdv451_text.specs.declared.table.Table.{Table}
-use Rattle.vdv452_tables.specs.Rows.{has_name}
+use Rattle.vdv452_rows.specs.Rows.{has_name}
 use Rattle.table_differences.specs.Differences.{aside_in, difference_among, difference_from, difference_on, end_difference, first_difference, found_or, only_one, pair_or_end, row_difference, same_field, same_fields, same_head, same_heads, same_row, table_difference}
 use Rattle.check_answers.proofs.Apart.{Apart, IsOther, each, each-at, one_if}
 

@@ -3,9 +3,9 @@ use Rattle.std.specs.Prelude.{◌≡◌, ◌<◌, ◌^◌, All, IsTrue, List, No
 use Rattle.vdv451_text.specs.declared.table.Table.{Table}
 use Rattle.vdv451_text.specs.Plain.{are_plain}
 use Rattle.vdv452_tables.specs.declared.reading.Needs.TheVariants as needs
-use Rattle.vdv452_tables.specs.Schema as schema
+use Rattle.vdv452_rows.specs.Schema as schema
 use Rattle.vdv452_tables.specs.Calendar.{net_of, schemas_of}
-use Rattle.vdv452_tables.specs.Rows.{first_fault, table_of}
+use Rattle.vdv452_rows.specs.Rows.{first_fault, table_of}
 use Rattle.day_model.specs.Building.{IsDayOf}
 use Rattle.day_model.specs.Facts.{DayFacts}
 use Rattle.plan_command.specs.PlanText.{HasTripRows}

@@ -8,7 +8,7 @@ use Rattle.std.proofs.lemmas.Bool.{and_from}
 use Rattle.plan_core.specs.declared.types.Point.{Point}
 use Rattle.vdv451_text.specs.Plain.{are_plain, is_plain_table}
 use Rattle.vdv452_tables.specs.declared.net.Net.{Net}
-use Rattle.vdv452_tables.specs.declared.rows.TripRow.{TripRow}
+use Rattle.vdv452_rows.specs.declared.rows.TripRow.{TripRow}
 use Rattle.vdv452_tables.specs.LookUps.{area_on, course_on, links_from}
 use Rattle.trip_times.specs.declared.trip.Trip.{Trip}
 use Rattle.trip_times.specs.declared.trip.TripFault.{TripFault}

@@ -4,7 +4,7 @@ use Rattle.std.specs.List.{find}
 use Rattle.std.specs.Option.{option_map}
 use Rattle.indexmap.specs.IndexMap.{IndexMap}
 use Rattle.vdv452_tables.specs.declared.keys.MoveKey.{MoveKey}
-use Rattle.vdv452_tables.specs.declared.rows.times.DeadRow.{DeadRow}
+use Rattle.vdv452_rows.specs.declared.rows.times.DeadRow.{DeadRow}
 use Rattle.vdv452_tables.specs.Keys.{dead_key_of, move_key_eq, value_at}
 use Rattle.vdv452_tables.specs.Ranges.{IsTime}
 use Rattle.deadheads.specs.declared.moves.Ends.{Ends}

@@ -4,7 +4,7 @@ use Rattle.indexmap.specs.IndexMap.{IndexMap, get}
 use Rattle.plan_core.specs.declared.types.Point.{Point}
 use Rattle.vdv452_tables.specs.declared.keys.MoveKey.{MoveKey}
 use Rattle.vdv452_tables.specs.declared.net.Net.{Net}
-use Rattle.vdv452_tables.specs.declared.rows.times.DeadRow.{DeadRow}
+use Rattle.vdv452_rows.specs.declared.rows.times.DeadRow.{DeadRow}
 use Rattle.vdv452_tables.specs.Keys.{dead_key_of, move_key_eq, point_eq, value_at}
 use Rattle.vdv452_tables.specs.LookUps.{dead_time_on}
 use Rattle.deadheads.specs.declared.moves.Ends.{Ends}

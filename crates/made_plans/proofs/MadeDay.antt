@@ -8,8 +8,8 @@ use Rattle.std.proofs.lemmas.List.Elements.{All-cons, All-head, All-nil, All-tai
 use Rattle.std.proofs.lemmas.List.Sorted.{length_permutation}
 use Rattle.std.proofs.lemmas.Option.{get_or_from_slice_get, slice_get_within}
 use Rattle.plan_core.specs.declared.types.Point.{Point}
-use Rattle.vdv452_tables.specs.declared.rows.TripRow.{TripRow}
-use Rattle.vdv452_tables.specs.declared.rows.VersionRow.{VersionRow}
+use Rattle.vdv452_rows.specs.declared.rows.TripRow.{TripRow}
+use Rattle.vdv452_rows.specs.declared.rows.VersionRow.{VersionRow}
 use Rattle.vdv452_tables.specs.Calendar.{latest, version_on}
 use Rattle.vdv452_tables.specs.Keys.{dead_key_of, move_key_eq, point_eq, value_at}
 use Rattle.vdv452_tables.specs.LookUps.{dead_time_on}

@@ -1,10 +1,10 @@
 -- The network of a made day: all rows but those of its trips are computed.
 use Rattle.std.proofs.Common.{◌≡◌, ℕ, true, List, [], ◌∷◌, Option, Some, refl, ap, nat_le, if◌then◌else◌}
 use Rattle.std.specs.Prelude.{pos, unwrap_or, None}
-use Rattle.vdv452_tables.specs.declared.cell.Cell.{Cell}
-use Rattle.vdv452_tables.specs.declared.cell.Cell.TheVariants.{Nothing, Number}
-use Rattle.vdv452_tables.specs.Cells.{number_up_to}
-use Rattle.vdv452_tables.specs.Values.{number_of}
+use Rattle.vdv452_rows.specs.declared.cell.Cell.{Cell}
+use Rattle.vdv452_rows.specs.declared.cell.Cell.TheVariants.{Nothing, Number}
+use Rattle.vdv452_rows.specs.Cells.{number_up_to}
+use Rattle.vdv452_rows.specs.Values.{number_of}
 use Rattle.day_maker.specs.Made.{lines, places, terminals}
 use Rattle.made_plans.specs.MadeRows.{made_net, rows_each, line_rows, stop_rows, run_rows, dwell_rows, dead_rows, way_rows, relief_rows, depot_rows, driver_rows}
 

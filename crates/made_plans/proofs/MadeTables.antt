@@ -3,15 +3,15 @@ use Rattle.std.proofs.Common.{◌≡◌, ℕ, zero, suc, ◌+◌, ◌*◌, ◌/�
 use Rattle.std.specs.List.{AllByRecursion, list_any}
 use Rattle.std.proofs.lemmas.Bool.Decides.{nat_tests}
 use Rattle.vdv451_text.specs.declared.table.Table.{Table}
-use Rattle.vdv452_tables.specs.declared.cell.Cell.{Cell as ReadCell}
-use Rattle.vdv452_tables.specs.declared.cell.Cell.TheVariants as read
+use Rattle.vdv452_rows.specs.declared.cell.Cell.{Cell as ReadCell}
+use Rattle.vdv452_rows.specs.declared.cell.Cell.TheVariants as read
 use Rattle.vdv452_tables.specs.declared.reading.Needs.TheVariants as needs
-use Rattle.vdv452_tables.specs.declared.schema.Schema.{Schema}
+use Rattle.vdv452_rows.specs.declared.schema.Schema.{Schema}
 use Rattle.vdv452_tables.specs.Calendar.{schemas_of}
-use Rattle.vdv452_tables.specs.Cells.{same_cells}
-use Rattle.vdv452_tables.specs.declared.fault.TableKind.TheVariants as kinds
-use Rattle.vdv452_tables.specs.Rows.{cell_faults, fault, faults_of, first, is_twice, key_fault, key_of, own_key, row_fault, row_faults, table_faults, when}
-use Rattle.vdv452_tables.specs.Schema as schema
+use Rattle.vdv452_rows.specs.Cells.{same_cells}
+use Rattle.vdv452_rows.specs.declared.fault.TableKind.TheVariants as kinds
+use Rattle.vdv452_rows.specs.Rows.{cell_faults, fault, faults_of, first, is_twice, key_fault, key_of, own_key, row_fault, row_faults, table_faults, when}
+use Rattle.vdv452_rows.specs.Schema as schema
 use Rattle.day_maker.specs.declared.cells.Cell.{Cell}
 use Rattle.day_maker.specs.declared.cells.Cell.TheVariants.{Number, Variant, Nothing}
 use Rattle.day_maker.specs.Made as made

@@ -3,7 +3,7 @@ use Rattle.std.proofs.Common.{◌≡◌, ℕ, zero, suc, ◌+◌, ◌*◌, ◌�
 use Rattle.std.specs.Prelude.{if◌then◌else◌, unwrap_or}
 use Rattle.std.proofs.lemmas.Int.{ints}
 use Rattle.plan_core.specs.declared.types.Point.{Point}
-use Rattle.vdv452_tables.specs.declared.rows.TripRow.{TripRow}
+use Rattle.vdv452_rows.specs.declared.rows.TripRow.{TripRow}
 use Rattle.vdv452_tables.specs.Keys.{group_dwell_key_eq, group_dwell_key_of, line_key_eq, line_key_of, move_key_eq, named, run_key_of, trip_dwell_key_eq, trip_dwell_key_of, value_at}
 use Rattle.vdv452_tables.specs.LookUps.{area_on, course_on, group_dwell_on, in_order, points_of, run_time_on}
 use Rattle.trip_times.specs.declared.trip.Trip.{Trip}

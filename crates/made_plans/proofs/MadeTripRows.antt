@@ -3,13 +3,13 @@ use Rattle.std.proofs.Common.{◌≡◌, ℕ, zero, suc, ◌+◌, ◌*◌, ◌/�
 use Rattle.std.specs.Prelude.{unwrap_or, map}
 use Rattle.std.proofs.lemmas.Bool.Decides.{nat_tests}
 use Rattle.std.proofs.lemmas.List.Elements.{All-cons, All-nil}
-use Rattle.vdv452_tables.specs.declared.cell.Cell.{Cell as ReadCell}
-use Rattle.vdv452_tables.specs.declared.cell.Cell.TheVariants as read
-use Rattle.vdv452_tables.specs.declared.rows.TripRow.{TripRow}
-use Rattle.vdv452_tables.specs.Rows.{cells}
-use Rattle.vdv452_tables.specs.Schema as schema
-use Rattle.vdv452_tables.specs.TypedRows.{typed, trip_row}
-use Rattle.vdv452_tables.specs.Values.{number_of}
+use Rattle.vdv452_rows.specs.declared.cell.Cell.{Cell as ReadCell}
+use Rattle.vdv452_rows.specs.declared.cell.Cell.TheVariants as read
+use Rattle.vdv452_rows.specs.declared.rows.TripRow.{TripRow}
+use Rattle.vdv452_rows.specs.Rows.{cells}
+use Rattle.vdv452_rows.specs.Schema as schema
+use Rattle.vdv452_rows.specs.TypedRows.{typed, trip_row}
+use Rattle.vdv452_rows.specs.Values.{number_of}
 use Rattle.day_maker.specs.declared.cells.Cell.{Cell}
 use Rattle.day_maker.specs.declared.cells.Cell.TheVariants.{Number, Variant, Nothing}
 use Rattle.day_maker.specs.Made as made

@@ -3,11 +3,11 @@ use Rattle.std.specs.Prelude.{ℕ, ◌+◌, ◌*◌, ◌==◌, true, false, List
 use Rattle.plan_core.specs.declared.types.Point.{Point}
 use Rattle.vdv452_tables.specs.declared.net.Net.{Net}
 use Rattle.vdv452_tables.specs.declared.reading.Needs.TheVariants as needs
-use Rattle.vdv452_tables.specs.declared.rows.lines.LineRow.{LineRow}
-use Rattle.vdv452_tables.specs.declared.rows.lines.StopRow.{StopRow}
-use Rattle.vdv452_tables.specs.declared.rows.times.DeadRow.{DeadRow}
-use Rattle.vdv452_tables.specs.declared.rows.times.GroupDwellRow.{GroupDwellRow}
-use Rattle.vdv452_tables.specs.declared.rows.times.RunRow.{RunRow}
+use Rattle.vdv452_rows.specs.declared.rows.lines.LineRow.{LineRow}
+use Rattle.vdv452_rows.specs.declared.rows.lines.StopRow.{StopRow}
+use Rattle.vdv452_rows.specs.declared.rows.times.DeadRow.{DeadRow}
+use Rattle.vdv452_rows.specs.declared.rows.times.GroupDwellRow.{GroupDwellRow}
+use Rattle.vdv452_rows.specs.declared.rows.times.RunRow.{RunRow}
 use Rattle.vdv452_tables.specs.Calendar.{net_of}
 use Rattle.day_maker.specs.Made.{made_tables, type_of, variant_name, way_seconds}
 

@@ -1,6 +1,6 @@
 -- The rows and the trips of a made day.
 use Rattle.std.specs.Prelude.{◌≡◌, ℕ, pos, ◌-ℤ◌, ◌<◌, ◌≤◌, ◌≤ℤ◌, Bool}
-use Rattle.vdv452_tables.specs.declared.rows.TripRow.{TripRow}
+use Rattle.vdv452_rows.specs.declared.rows.TripRow.{TripRow}
 use Rattle.trip_times.specs.declared.trip.Trip.{Trip}
 use Rattle.day_maker.specs.Made.{variant_name}
 use Rattle.made_plans.specs.MadeRows.{point}

@@ -5,8 +5,8 @@ use Rattle.std.specs.List.{list_any, filter_map}
 use Rattle.vdv451_text.specs.declared.table.Field.{Field}
 use Rattle.vdv451_text.specs.declared.table.Field.TheVariants.{Num}
 use Rattle.vdv451_text.specs.declared.table.Table.{Table}
-use Rattle.vdv452_tables.specs.Cells.{whole_number}
-use Rattle.vdv452_tables.specs.Rows.{field_at, has_name, place_of, when, first}
+use Rattle.vdv452_rows.specs.Cells.{whole_number}
+use Rattle.vdv452_rows.specs.Rows.{field_at, has_name, place_of, when, first}
 use Rattle.number_tables.specs.Numbers.{table_over}
 
 -- a table by its name and the columns that are read

@@ -6,7 +6,7 @@ use Rattle.std.proofs.lemmas.Iterator.Adapters.{position_from-zero}
 use Rattle.std.specs.List.{position_from}
 use Rattle.std.specs.Prelude.{Option, Some, None, AllPairs, int_le, slice_index, if◌then◌else◌}
 use Rattle.plan_core.specs.declared.types.Price.{Price}
-use Rattle.vdv452_tables.specs.Cells.{whole_number}
+use Rattle.vdv452_rows.specs.Cells.{whole_number}
 use Rattle.number_tables.specs.Outlines.{up_to, word}
 use Rattle.number_tables.specs.Signed.{signed_field}
 use Rattle.plan_cert.specs.declared.cert.Pass.{Pass}

@@ -3,7 +3,7 @@ use Rattle.std.proofs.Common.{◌≡◌, ℕ, ℤ, ◌+◌, ◌<◌, ◌≤◌, 
 use Rattle.std.proofs.lemmas.List.Elements.{All-head, All-tail}
 use Rattle.std.specs.List.{cons_option, filter_map}
 use Rattle.std.specs.Prelude.{Option, Some, None, AllPairs, slice_index}
-use Rattle.vdv452_tables.specs.Cells.{whole_number}
+use Rattle.vdv452_rows.specs.Cells.{whole_number}
 use Rattle.number_tables.specs.Outlines.{word}
 use Rattle.number_tables.specs.Signed.{signed_field, signed_row, signed_rows}
 use Rattle.cover_core.specs.declared.marks.Mark.{Mark}

@@ -1,7 +1,7 @@
 -- Where the columns of the tables of a certificate stand; of two columns of one name the first counts.
 use Rattle.std.specs.Prelude.{ℕ, List, Option, Some, codes}
 use Rattle.vdv451_text.specs.declared.table.Head.{Head}
-use Rattle.vdv452_tables.specs.Rows.{place_of}
+use Rattle.vdv452_rows.specs.Rows.{place_of}
 use Rattle.plan_cert.specs.declared.columns.PriceColumns.{PriceColumns}
 use Rattle.plan_cert.specs.declared.columns.PlaceColumns.{PlaceColumns}
 use Rattle.plan_cert.specs.declared.columns.DrivingColumns.{DrivingColumns}

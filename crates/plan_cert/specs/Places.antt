@@ -3,7 +3,7 @@ use Rattle.std.specs.Prelude.{◌≡◌, ℕ, ◌+◌, ◌==◌, List, Option, S
 use Rattle.std.specs.Borrow.{Bor}
 use Rattle.vdv451_text.specs.declared.table.Field.{Field}
 use Rattle.vdv451_text.specs.declared.table.Table.{Table}
-use Rattle.vdv452_tables.specs.Rows.{has_name}
+use Rattle.vdv452_rows.specs.Rows.{has_name}
 use Rattle.plan_cert.specs.declared.fault.CertTable.{CertTable}
 use Rattle.plan_cert.specs.declared.fault.Place.{Place}
 use Rattle.plan_cert.specs.declared.fault.CertFault.{CertFault}

@@ -1,7 +1,7 @@
 //! The numbers that the fields of a certificate spell, each in its range.
 
 ghost use Rattle.std.specs.Prelude.{◌≡◌, ◌≤◌, ◌<◌, ◌==◌, IfSome, length, position};
-ghost use Rattle.vdv452_tables.specs.Cells.{whole_number as whole_number_spec};
+ghost use Rattle.vdv452_rows.specs.Cells.{whole_number as whole_number_spec};
 ghost use Rattle.number_tables.specs.Outlines.{up_to as up_to_spec, word as word_spec};
 ghost use Rattle.plan_cert.specs.Numbers as spec;
 

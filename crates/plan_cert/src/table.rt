@@ -2,7 +2,7 @@
 
 ghost use Rattle.std.specs.Prelude.{◌≡◌, ◌<◌, ◌^◌, IfSome, count_by, find};
 ghost use Rattle.std.specs.Option.{option_copied};
-ghost use Rattle.vdv452_tables.specs.Rows.{has_name as has_name_spec};
+ghost use Rattle.vdv452_rows.specs.Rows.{has_name as has_name_spec};
 ghost use Rattle.plan_cert.specs.Places as spec;
 ghost use Rattle.plan_cert.specs.Places.{Gives, GivesTable};
 

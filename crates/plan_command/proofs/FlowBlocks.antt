@@ -3,7 +3,7 @@ use Rattle.std.proofs.Common.{◌≡◌, ℕ, suc, ℤ, ◌+◌, ◌<◌, ◌≤
 use Rattle.std.specs.Prelude.{is_some, unwrap_or}
 use Rattle.std.proofs.lemmas.List.Elements.{All-cons, All-nil}
 use Rattle.std.proofs.lemmas.List.{append_assoc}
-use Rattle.vdv452_tables.proofs.RowSteps.{drop_item}
+use Rattle.vdv452_rows.proofs.RowSteps.{drop_item}
 use Rattle.plan_core.specs.declared.Price.{Price}
 use Rattle.plan_params.specs.declared.rows.pool.Pool.{Pool}
 use Rattle.cover_core.specs.declared.Column.{Column}

@@ -3,7 +3,7 @@
 //! Whether it is in the ranges that writing asks for is looked at first.
 
 ghost use Rattle.std.specs.Prelude.{◌<◌, ◌≤◌, ◌≡◌, ◌^◌, ◌↔◌, All, IsTrue, count_by, length};
-ghost use Rattle.vdv452_tables.specs.Cells.{whole_number as whole_number_spec};
+ghost use Rattle.vdv452_rows.specs.Cells.{whole_number as whole_number_spec};
 ghost use Rattle.cover_core.specs.Cover.{AllBelow};
 ghost use Rattle.cover_core.specs.FirstLeast.{AreCheap};
 ghost use Rattle.umlauf_write.specs.Answers.{IsPiece};

@@ -5,7 +5,7 @@ use Rattle.std.specs.List.{flat_map}
 use Rattle.std.specs.Option.{option_map}
 use Rattle.vdv452_tables.specs.declared.net.Net.{Net}
 use Rattle.vdv452_tables.specs.LookUps.{extra_of, has_point_on, has_type_on}
-use Rattle.vdv452_tables.specs.Rows.{first, when}
+use Rattle.vdv452_rows.specs.Rows.{first, when}
 use Rattle.plan_params.specs.declared.fault.ParamFault.{ParamFault}
 use Rattle.plan_params.specs.declared.fault.ParamKind.{ParamKind}
 use Rattle.plan_params.specs.declared.fault.ParamKind.TheVariants as kinds

@@ -3,7 +3,7 @@
 ghost use Rattle.std.specs.Prelude.{◌≡◌, map};
 ghost use Rattle.std.specs.List.{flat_map};
 ghost use Rattle.std.specs.Option.{option_map};
-ghost use Rattle.vdv452_tables.specs.Rows.{first};
+ghost use Rattle.vdv452_rows.specs.Rows.{first};
 ghost use Rattle.plan_params.specs.Faults.{fault_of, first_fault, number_of as number_at_place, reference_kinds, row_faults, row_kinds, table_faults};
 ghost use Rattle.plan_params.specs.Rules.{rule_of};
 

@@ -6,8 +6,8 @@ use Rattle.std.specs.Prelude.{Option, Some, None, is_none, option_and_then, slic
 use Rattle.std.specs.Option.{option_map}
 use Rattle.vdv451_text.specs.declared.table.Field.{Field}
 use Rattle.vdv451_text.specs.declared.table.Table.{Table}
-use Rattle.vdv452_tables.specs.Cells.{whole_number}
-use Rattle.vdv452_tables.specs.Rows.{first, has_name, place_of, when}
+use Rattle.vdv452_rows.specs.Cells.{whole_number}
+use Rattle.vdv452_rows.specs.Rows.{first, has_name, place_of, when}
 use Rattle.number_tables.specs.Outlines.{Outline, lacks_column, named, numbers, place, rows_in, rows_of, whole_faults}
 use Rattle.plan_read.specs.declared.fault.PlanTable.{PlanTable}
 use Rattle.plan_read.specs.declared.table.Pair.{Pair}

@@ -2,7 +2,7 @@
 use Rattle.std.proofs.Common.{◌≡◌, ℕ, List, [], ◌∷◌, ◌++◌, ap, ◌∙◌}
 use Rattle.std.specs.Prelude.{Some, Result, Ok, Err}
 use Rattle.vdv451_text.specs.declared.table.Table.{Table}
-use Rattle.vdv452_tables.specs.Rows.{first}
+use Rattle.vdv452_rows.specs.Rows.{first}
 use Rattle.day_model.specs.Facts.{DayFacts}
 use Rattle.number_tables.specs.Outlines.{Place as At, whole_faults}
 use Rattle.umlauf_write.specs.declared.text.PlanFault.{PlanFault}

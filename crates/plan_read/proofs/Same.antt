@@ -5,7 +5,7 @@ use Rattle.std.proofs.Common.{◌≡◌, ℕ, ℤ, suc, ◌+◌, nat_lt, List, [
 use Rattle.std.proofs.lemmas.List.{length-map}
 use Rattle.std.specs.Prelude.{Option, Some, None, Result, Ok, Err}
 use Rattle.vdv451_text.specs.declared.table.Table.{Table}
-use Rattle.vdv452_tables.specs.Rows.{first, when}
+use Rattle.vdv452_rows.specs.Rows.{first, when}
 use Rattle.day_model.specs.Facts.{DayFacts}
 use Rattle.number_tables.specs.Outlines.{Place as At, entry_faults, given_of, place, rows_of}
 use Rattle.umlauf_write.specs.declared.text.PlanText.{PlanText}

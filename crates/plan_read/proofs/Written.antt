@@ -7,8 +7,8 @@ use Rattle.std.proofs.lemmas.Bool.Decides.{nat_tests}
 use Rattle.std.specs.List.{find}
 use Rattle.std.specs.Prelude.{IfSome, IsTrue, Option, Some, None, Result, Ok, codes, is_some, is_none, option_and_then, slice_get, unwrap_or}
 use Rattle.vdv451_text.specs.declared.table.Table.{Table}
-use Rattle.vdv452_tables.specs.Cells.{whole_number}
-use Rattle.vdv452_tables.specs.Rows.{first, place_of, when}
+use Rattle.vdv452_rows.specs.Cells.{whole_number}
+use Rattle.vdv452_rows.specs.Rows.{first, place_of, when}
 use Rattle.cover_core.specs.declared.Column.{Column}
 use Rattle.cover_core.specs.Cover.{AllBelow, Problem}
 use Rattle.cover_core.specs.Plans.{AreColumns, IsColumn, all_items, times}

@@ -13,7 +13,7 @@ use Rattle.std.specs.Int.{IsInRange}
 use Rattle.std.specs.Str.Parse.{AllDigits, digits_value}
 use Rattle.vdv451_text.specs.declared.table.Field.TheVariants.{Num, Raw}
 use Rattle.vdv451_text.specs.Fields.{is_digits, is_num_format, number_of}
-use Rattle.vdv452_tables.specs.Cells.{whole_number}
+use Rattle.vdv452_rows.specs.Cells.{whole_number}
 use Rattle.number_tables.specs.Outlines.{counted, place_in, word}
 use Rattle.umlauf_write.specs.Reading.{number_among, own_number}
 use Rattle.umlauf_write.specs.Tables.{uid_field}

@@ -7,8 +7,8 @@ use Rattle.std.proofs.lemmas.Slice.Eq.{bytes_eq-Decides}
 use Rattle.plan_core.specs.declared.types.Piece.{Piece}
 use Rattle.vdv451_text.specs.declared.table.Field.{Field}
 use Rattle.vdv451_text.specs.declared.table.Head.{Head}
-use Rattle.vdv452_tables.specs.Cells.{whole_number}
-use Rattle.vdv452_tables.specs.Rows.{place_of}
+use Rattle.vdv452_rows.specs.Cells.{whole_number}
+use Rattle.vdv452_rows.specs.Rows.{place_of}
 use Rattle.cover_core.specs.declared.Column.{Column}
 use Rattle.day_model.specs.Facts.{DayFacts}
 use Rattle.number_tables.specs.Numbers.{number_rows}

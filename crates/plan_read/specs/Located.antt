@@ -3,7 +3,7 @@ use Rattle.std.specs.Prelude.{◌≡◌, ◌<◌, ◌^◌, ℕ, ℤ, ◌==◌, L
 use Rattle.vdv451_text.specs.declared.table.Field.{Field}
 use Rattle.vdv451_text.specs.declared.table.Head.{Head}
 use Rattle.vdv451_text.specs.declared.table.Table.{Table}
-use Rattle.vdv452_tables.specs.Rows.{has_name, place_of}
+use Rattle.vdv452_rows.specs.Rows.{has_name, place_of}
 use Rattle.number_tables.specs.Outlines.{Outline, rows_of, whole_faults}
 use Rattle.plan_read.specs.declared.fault.PlanTable.{PlanTable}
 use Rattle.plan_read.specs.declared.fault.ReadFault.{ReadFault}

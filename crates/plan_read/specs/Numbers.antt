@@ -1,7 +1,7 @@
 -- The numbers of a row at places among its fields.
 use Rattle.std.specs.Prelude.{ℕ, ℤ, Bool, List, [], ◌∷◌, Option, option_and_then, slice_get, map, is_some}
 use Rattle.vdv451_text.specs.declared.table.Field.{Field}
-use Rattle.vdv452_tables.specs.Cells.{whole_number}
+use Rattle.vdv452_rows.specs.Cells.{whole_number}
 use Rattle.trip_times.specs.declared.trip.Trip.{Trip}
 use Rattle.plan_params.specs.declared.rows.group.Group.{Group}
 use Rattle.plan_params.specs.declared.rows.pool.Pool.{Pool}

@@ -1,7 +1,7 @@
 -- What the rows of the five tables of a plan say.
 use Rattle.std.specs.Prelude.{◌≡◌, ◌<◌, ◌^◌, ℕ, ℤ, nat_lt, List, [], ◌++◌, length, map, Option, Some, None, Result, Ok, Err}
 use Rattle.vdv451_text.specs.declared.table.Table.{Table}
-use Rattle.vdv452_tables.specs.Rows.{first, when}
+use Rattle.vdv452_rows.specs.Rows.{first, when}
 use Rattle.number_tables.specs.Outlines.{Place, place, rows_of, whole_faults}
 use Rattle.day_model.specs.Facts.{DayFacts}
 use Rattle.umlauf_write.specs.declared.text.PlanText.{PlanText}

@@ -1,7 +1,7 @@
 //! The numbers that the fields of a plan spell, each in its range.
 
 ghost use Rattle.std.specs.Prelude.{◌≡◌, ◌<◌, ◌^◌, IfSome};
-ghost use Rattle.vdv452_tables.specs.Cells.{whole_number as whole_number_spec};
+ghost use Rattle.vdv452_rows.specs.Cells.{whole_number as whole_number_spec};
 ghost use Rattle.number_tables.specs.Outlines.{counted as counted_spec, word as word_spec};
 ghost use Rattle.umlauf_write.specs.Reading.{not_below as not_below_spec};
 ghost use Rattle.plan_read.specs.Numbers as spec;

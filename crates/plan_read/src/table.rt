@@ -2,7 +2,7 @@
 
 ghost use Rattle.std.specs.Prelude.{◌≡◌, ◌<◌, ◌^◌, All, IfSome, count_by, find, length};
 ghost use Rattle.std.specs.Option.{option_copied};
-ghost use Rattle.vdv452_tables.specs.Rows.{has_name as has_name_spec};
+ghost use Rattle.vdv452_rows.specs.Rows.{has_name as has_name_spec};
 ghost use Rattle.plan_read.specs.Located as spec;
 ghost use Rattle.plan_read.specs.Located.{FindsPair, FindsTriple};
 ghost use Rattle.plan_read.specs.Places.{name_of};

@@ -6,8 +6,8 @@ use Rattle.plan_core.specs.declared.types.LegKind.TheVariants.{PullOut, Trip, De
 use Rattle.plan_core.specs.declared.types.Point.{Point}
 use Rattle.vdv451_text.specs.declared.table.Field.{Field}
 use Rattle.vdv451_text.specs.declared.table.Head.{Head}
-use Rattle.vdv452_tables.specs.Cells.{whole_number}
-use Rattle.vdv452_tables.specs.Rows.{field_at}
+use Rattle.vdv452_rows.specs.Cells.{whole_number}
+use Rattle.vdv452_rows.specs.Rows.{field_at}
 use Rattle.number_tables.specs.Outlines.{up_to, word}
 use Rattle.plan_rows.specs.declared.rows.TripRow.{TripRow}
 use Rattle.plan_rows.specs.declared.rows.VehicleRow.{VehicleRow}

@@ -5,7 +5,7 @@ use Rattle.std.specs.Borrow.{Bor}
 use Rattle.vdv451_text.specs.declared.table.Field.{Field}
 use Rattle.vdv451_text.specs.declared.table.Head.{Head}
 use Rattle.vdv451_text.specs.declared.table.Table.{Table}
-use Rattle.vdv452_tables.specs.Rows.{has_name}
+use Rattle.vdv452_rows.specs.Rows.{has_name}
 use Rattle.plan_rows.specs.declared.fault.PlanTable.{PlanTable}
 use Rattle.plan_rows.specs.declared.fault.PlanTable.TheVariants as which
 use Rattle.plan_rows.specs.declared.fault.Place.{Place}

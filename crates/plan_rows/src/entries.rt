@@ -2,7 +2,7 @@
 
 ghost use Rattle.std.specs.Prelude.{◌≡◌, ◌≤◌, ◌==◌, IfSome, position};
 ghost use Rattle.number_tables.specs.Outlines.{up_to as up_to_spec, word as word_spec};
-ghost use Rattle.vdv452_tables.specs.Cells.{whole_number as whole_number_spec};
+ghost use Rattle.vdv452_rows.specs.Cells.{whole_number as whole_number_spec};
 ghost use Rattle.plan_rows.specs.Rows as spec;
 
 use crate::rows::{

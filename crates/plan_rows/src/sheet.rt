@@ -3,7 +3,7 @@
 ghost use Rattle.std.specs.Prelude.{◌≡◌, ◌<◌, ◌^◌, IfOk, IfSome, count_by, find, length};
 ghost use Rattle.std.specs.List.{filter_map};
 ghost use Rattle.std.specs.Option.{option_copied};
-ghost use Rattle.vdv452_tables.specs.Rows.{has_name as has_name_spec};
+ghost use Rattle.vdv452_rows.specs.Rows.{has_name as has_name_spec};
 ghost use Rattle.plan_rows.specs.Rows as rows_spec;
 ghost use Rattle.plan_rows.specs.Tables as spec;
 ghost use Rattle.plan_rows.specs.Tables.{Gives};

@@ -1,9 +1,9 @@
 -- Nothing stands against planning of a made day.
 use Rattle.std.proofs.Common.{◌≡◌, ℕ, ◌≤◌, inl, inr, Option, Some, None, sym, ◌∙◌}
-use Rattle.vdv452_tables.specs.declared.fault.TableFault.{TableFault}
+use Rattle.vdv452_rows.specs.declared.fault.TableFault.{TableFault}
 use Rattle.vdv452_tables.specs.declared.reading.Needs.TheVariants as needs
 use Rattle.vdv452_tables.specs.Calendar.{net_of, schemas_of}
-use Rattle.vdv452_tables.specs.Rows.{first_fault}
+use Rattle.vdv452_rows.specs.Rows.{first_fault}
 use Rattle.day_calendar.specs.declared.day.DayFault.{DayFault}
 use Rattle.day_calendar.specs.declared.day.DayFault.TheVariants as days
 use Rattle.day_model.specs.declared.fault.DayModelFault.{DayModelFault}

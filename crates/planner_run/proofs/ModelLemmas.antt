@@ -1,14 +1,14 @@
 -- Refusals of the tables and of the day in other words.
 use Rattle.std.proofs.Common.{◌≡◌, ◌≢◌, ℕ, inl, inr, List, Some, None, refl, sym, subst}
 use Rattle.vdv451_text.specs.declared.table.Table.{Table}
-use Rattle.vdv452_tables.specs.declared.fault.TableFault.{TableFault}
-use Rattle.vdv452_tables.specs.declared.fault.TableKind.{TableKind}
-use Rattle.vdv452_tables.specs.declared.fault.TableKind.TheVariants as kinds
+use Rattle.vdv452_rows.specs.declared.fault.TableFault.{TableFault}
+use Rattle.vdv452_rows.specs.declared.fault.TableKind.{TableKind}
+use Rattle.vdv452_rows.specs.declared.fault.TableKind.TheVariants as kinds
 use Rattle.vdv452_tables.specs.declared.reading.Needs.{Needs}
 use Rattle.vdv452_tables.specs.declared.reading.Needs.TheVariants as needs
 use Rattle.vdv452_tables.specs.declared.net.Net.{Net}
 use Rattle.vdv452_tables.specs.Calendar.{net_of, schemas_of}
-use Rattle.vdv452_tables.specs.Rows.{first_fault}
+use Rattle.vdv452_rows.specs.Rows.{first_fault}
 use Rattle.day_calendar.specs.declared.day.DayKind.{DayKind}
 use Rattle.day_calendar.specs.Kinds.{IsKindOf}
 use Rattle.day_model.specs.declared.fault.DayModelFault.{DayModelFault}

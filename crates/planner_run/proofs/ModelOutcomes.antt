@@ -2,11 +2,11 @@
 use Rattle.std.proofs.Common.{◌≡◌, ℕ, ◌⊎◌, inl, inr, List, Some, None, Result, Ok, Err, refl, sym, ◌∙◌, ap, subst, if◌then◌else◌}
 use Rattle.plan_core.specs.declared.types.Point.{Point}
 use Rattle.vdv451_text.specs.declared.table.Table.{Table}
-use Rattle.vdv452_tables.specs.declared.fault.TableFault.{TableFault}
+use Rattle.vdv452_rows.specs.declared.fault.TableFault.{TableFault}
 use Rattle.vdv452_tables.specs.declared.reading.Needs.TheVariants as needs
 use Rattle.vdv452_tables.specs.declared.net.Net.{Net}
 use Rattle.vdv452_tables.specs.Calendar.{net_of, schemas_of}
-use Rattle.vdv452_tables.specs.Rows.{first_fault}
+use Rattle.vdv452_rows.specs.Rows.{first_fault}
 use Rattle.day_calendar.specs.declared.day.DayKind.{DayKind}
 use Rattle.day_calendar.specs.declared.day.DayFault.{DayFault}
 use Rattle.day_calendar.specs.Kinds.{IsKindOf}

@@ -7,8 +7,8 @@ use Rattle.vdv451_text.proofs.Readings.{reads_given}
 use Rattle.vdv452_tables.specs.declared.net.Net.{Net}
 use Rattle.vdv452_tables.specs.declared.reading.Needs.TheVariants as needs
 use Rattle.vdv452_tables.specs.Calendar.{net_of}
-use Rattle.vdv452_tables.specs.Rows.{table_of}
-use Rattle.vdv452_tables.specs.Schema as schema
+use Rattle.vdv452_rows.specs.Rows.{table_of}
+use Rattle.vdv452_rows.specs.Schema as schema
 use Rattle.day_calendar.specs.Days.{HasWeekday}
 use Rattle.day_model.specs.Facts.{DayFacts}
 use Rattle.day_maker.specs.Made.{made_tables}

@@ -3,12 +3,12 @@ use Rattle.std.proofs.Common.{◌≡◌, ℕ, List, length, Option, Some, None, 
 use Rattle.std.proofs.lemmas.List.{length-map}
 use Rattle.std.proofs.lemmas.List.Sorted.{length_permutation}
 use Rattle.vdv451_text.specs.declared.table.Table.{Table}
-use Rattle.vdv452_tables.specs.declared.fault.TableFault.{TableFault}
-use Rattle.vdv452_tables.specs.declared.rows.TripRow.{TripRow}
+use Rattle.vdv452_rows.specs.declared.fault.TableFault.{TableFault}
+use Rattle.vdv452_rows.specs.declared.rows.TripRow.{TripRow}
 use Rattle.vdv452_tables.specs.declared.reading.Needs.TheVariants as needs
 use Rattle.vdv452_tables.specs.declared.net.Net.{Net}
 use Rattle.vdv452_tables.specs.Calendar.{kind_on, net_of, schemas_of, version_on}
-use Rattle.vdv452_tables.specs.Rows.{first_fault}
+use Rattle.vdv452_rows.specs.Rows.{first_fault}
 use Rattle.day_calendar.specs.declared.day.DayKind.{DayKind}
 use Rattle.day_calendar.specs.declared.day.DayFault.{DayFault}
 use Rattle.day_calendar.specs.declared.day.DayFault.TheVariants as days

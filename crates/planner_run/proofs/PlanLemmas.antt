@@ -2,12 +2,12 @@
 use Rattle.std.proofs.Common.{◌≡◌, ℕ, ◌≤◌, ◌^◌, inl, inr, All, List, Some, None, Result, Ok, Err, IfOk, IfErr, IsTrue, ◌∙◌, ap, subst}
 use Rattle.vdv451_text.specs.declared.table.Table.{Table}
 use Rattle.vdv451_text.specs.Plain.{are_plain, text}
-use Rattle.vdv452_tables.specs.Schema as schema
+use Rattle.vdv452_rows.specs.Schema as schema
 use Rattle.vdv452_tables.specs.declared.net.Net.{Net}
-use Rattle.vdv452_tables.specs.declared.rows.TripRow.{TripRow}
+use Rattle.vdv452_rows.specs.declared.rows.TripRow.{TripRow}
 use Rattle.vdv452_tables.specs.declared.reading.Needs.TheVariants as needs
 use Rattle.vdv452_tables.specs.Calendar.{net_of, schemas_of}
-use Rattle.vdv452_tables.specs.Rows.{first_fault, table_of}
+use Rattle.vdv452_rows.specs.Rows.{first_fault, table_of}
 use Rattle.day_model.specs.Building.{IsDayOf}
 use Rattle.day_model.specs.Facts.{DayFacts}
 use Rattle.day_tables.specs.DayTables.{day_tables_of}

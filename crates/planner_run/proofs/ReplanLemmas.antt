@@ -1,8 +1,8 @@
 -- From the new plan of a day to the answer of the command, and a request that plans a day anew.
 use Rattle.std.proofs.Common.{◌≡◌, ℕ, ◌+◌, ◌-◌, ◌≤◌, inl, inr, Bool, true, false, List, [], ◌∷◌, ◌++◌, length, take, None, Some, Result, Ok, Err, IfOk, IfErr, refl, sym, ap, ◌∙◌, subst, arith, slice_index_or}
 use Rattle.vdv451_text.specs.declared.table.Table.{Table}
-use Rattle.vdv452_tables.specs.Schema as schema
-use Rattle.vdv452_tables.specs.Rows.{table_of}
+use Rattle.vdv452_rows.specs.Schema as schema
+use Rattle.vdv452_rows.specs.Rows.{table_of}
 use Rattle.price_rounds.specs.declared.effort.Effort.{Effort}
 use Rattle.cover_plan.specs.Endings.{Numbers, numbers_of}
 use Rattle.day_model.specs.Facts.{DayFacts}

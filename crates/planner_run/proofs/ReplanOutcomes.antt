@@ -2,8 +2,8 @@
 -- refused alone.
 use Rattle.std.proofs.Common.{◌≡◌, ℕ, ◌⊎◌, inl, inr, false, ◌&&◌, List, sym, ◌∙◌, ap, subst}
 use Rattle.vdv451_text.specs.declared.table.Table.{Table}
-use Rattle.vdv452_tables.specs.Rows.{table_of}
-use Rattle.vdv452_tables.specs.Schema as schema
+use Rattle.vdv452_rows.specs.Rows.{table_of}
+use Rattle.vdv452_rows.specs.Schema as schema
 use Rattle.cover_plan.specs.Endings.{Numbers}
 use Rattle.day_model.specs.Facts.{DayFacts}
 use Rattle.plan_command.specs.declared.fault.PlanFault.TheVariants as plans

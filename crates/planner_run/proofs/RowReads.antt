@@ -10,13 +10,13 @@ use Rattle.vdv451_text.specs.declared.table.Head.{Head}
 use Rattle.vdv451_text.specs.declared.table.Table.{Table}
 use Rattle.vdv451_text.specs.Fields.{number_of}
 use Rattle.vdv451_text.specs.Plain.{is_plain_row}
-use Rattle.vdv452_tables.specs.declared.cell.Cell.{Cell}
-use Rattle.vdv452_tables.specs.declared.cell.Cell.TheVariants.{Nothing, Number, Long}
-use Rattle.vdv452_tables.specs.declared.schema.Column.{Column}
-use Rattle.vdv452_tables.specs.declared.schema.Domain.TheVariants.{UpTo, LongUpTo}
-use Rattle.vdv452_tables.specs.Schema as schema
-use Rattle.vdv452_tables.specs.Cells.{cell_of, long_up_to, number_up_to, whole_number}
-use Rattle.vdv452_tables.specs.Rows.{cell_at, cell_fault, cell_faults, cell_in, field_at, first, key_of, missing_column, missing_columns, own_key, place_of, row_fault, row_faults, when}
+use Rattle.vdv452_rows.specs.declared.cell.Cell.{Cell}
+use Rattle.vdv452_rows.specs.declared.cell.Cell.TheVariants.{Nothing, Number, Long}
+use Rattle.vdv452_rows.specs.declared.schema.Column.{Column}
+use Rattle.vdv452_rows.specs.declared.schema.Domain.TheVariants.{UpTo, LongUpTo}
+use Rattle.vdv452_rows.specs.Schema as schema
+use Rattle.vdv452_rows.specs.Cells.{cell_of, long_up_to, number_up_to, whole_number}
+use Rattle.vdv452_rows.specs.Rows.{cell_at, cell_fault, cell_faults, cell_in, field_at, first, key_of, missing_column, missing_columns, own_key, place_of, row_fault, row_faults, when}
 use Rattle.umlauf_write.specs.Trips.{number_in}
 
 pub first_none : {A : Type 0} (xs : List A) → first xs ≡ None → xs ≡ []

@@ -9,11 +9,11 @@ use Rattle.std.proofs.lemmas.Bool.{and_from, and_parts}
 use Rattle.vdv451_text.specs.declared.table.Field.{Field}
 use Rattle.vdv451_text.specs.Plain.{are_plain_columns, is_plain_name, is_plain_row, is_plain_table}
 use Rattle.vdv451_text.specs.declared.table.Table.{Table}
-use Rattle.vdv452_tables.specs.declared.cell.Cell.{Cell}
+use Rattle.vdv452_rows.specs.declared.cell.Cell.{Cell}
 use Rattle.vdv452_tables.specs.declared.reading.Needs.TheVariants as needs
-use Rattle.vdv452_tables.specs.Schema as schema
+use Rattle.vdv452_rows.specs.Schema as schema
 use Rattle.vdv452_tables.specs.Calendar.{net_of, schemas_of, typed}
-use Rattle.vdv452_tables.specs.Rows.{faults_in, faults_of, first, first_fault, rows_in, has_name, table_faults, table_of}
+use Rattle.vdv452_rows.specs.Rows.{faults_in, faults_of, first, first_fault, rows_in, has_name, table_faults, table_of}
 use Rattle.planner_run.specs.declared.status.Status.{Status}
 use Rattle.planner_run.specs.Model.{IsTableRefusal}
 use Rattle.planner_run.specs.Trips.{IsDayCause, IsRefused, picked_table, rows_at}

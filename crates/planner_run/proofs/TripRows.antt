@@ -9,19 +9,19 @@ use Rattle.plan_core.specs.declared.types.Point.{Point}
 use Rattle.vdv451_text.specs.declared.table.Field.{Field}
 use Rattle.vdv451_text.specs.declared.table.Table.{Table}
 use Rattle.vdv451_text.specs.Plain.{are_plain, are_plain_columns, is_plain_name, is_plain_row, is_plain_table}
-use Rattle.vdv452_tables.specs.declared.cell.Cell.{Cell}
-use Rattle.vdv452_tables.specs.declared.cell.Cell.TheVariants.{Number, Long}
+use Rattle.vdv452_rows.specs.declared.cell.Cell.{Cell}
+use Rattle.vdv452_rows.specs.declared.cell.Cell.TheVariants.{Number, Long}
 use Rattle.vdv452_tables.specs.declared.net.Net.{Net}
 use Rattle.vdv452_tables.specs.declared.reading.Needs.TheVariants as needs
-use Rattle.vdv452_tables.specs.declared.rows.TripRow.{TripRow}
-use Rattle.vdv452_tables.specs.declared.schema.Schema.{Schema}
-use Rattle.vdv452_tables.specs.Schema as schema
+use Rattle.vdv452_rows.specs.declared.rows.TripRow.{TripRow}
+use Rattle.vdv452_rows.specs.declared.schema.Schema.{Schema}
+use Rattle.vdv452_rows.specs.Schema as schema
 use Rattle.vdv452_tables.specs.Calendar.{net_of, schemas_of}
-use Rattle.vdv452_tables.specs.Cells.{same_cells}
+use Rattle.vdv452_rows.specs.Cells.{same_cells}
 use Rattle.vdv452_tables.specs.LookUps.{area_on, course_on, links_from}
-use Rattle.vdv452_tables.specs.Rows.{HasOwnKeys, cell_at, cells, faults_in, faults_of, first_fault, has_name, key_of, keys_in, missing_columns, own_key, row_faults, rows_in, table_faults, table_of}
-use Rattle.vdv452_tables.specs.TypedRows.{trip_row, typed}
-use Rattle.vdv452_tables.specs.Values.{long_in, number_of}
+use Rattle.vdv452_rows.specs.Rows.{HasOwnKeys, cell_at, cells, faults_in, faults_of, first_fault, has_name, key_of, keys_in, missing_columns, own_key, row_faults, rows_in, table_faults, table_of}
+use Rattle.vdv452_rows.specs.TypedRows.{trip_row, typed}
+use Rattle.vdv452_rows.specs.Values.{long_in, number_of}
 use Rattle.vdv452_tables.proofs.KeyLemmas.{own_of}
 use Rattle.day_calendar.specs.declared.trips.DayTrip.{DayTrip}
 use Rattle.day_calendar.specs.DayTrips.{AreDayRows, day_trips, is_of_day, trips_from}

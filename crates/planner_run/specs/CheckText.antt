@@ -1,8 +1,8 @@
 -- The line of the command `check`, and the status with which it ends.
 use Rattle.std.specs.Prelude.{◌≡◌, ℕ, List, [], ◌∷◌, Some, codes, decimal}
 use Rattle.vdv451_text.specs.declared.table.Table.{Table}
-use Rattle.vdv452_tables.specs.Schema as schema
-use Rattle.vdv452_tables.specs.Rows.{table_of}
+use Rattle.vdv452_rows.specs.Schema as schema
+use Rattle.vdv452_rows.specs.Rows.{table_of}
 use Rattle.day_model.specs.Facts.{DayFacts}
 use Rattle.cert_check.specs.declared.reason.Answered.{Answered}
 use Rattle.cert_check.specs.declared.reason.Answered.TheVariants.{Yes, No}

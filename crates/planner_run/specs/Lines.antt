@@ -3,8 +3,8 @@ use Rattle.std.specs.Prelude.{◌≡◌, ℕ, ◌≤◌, Bool, true, false, ◌+
 use Rattle.plan_core.specs.Outside.{Rose}
 use Rattle.vdv451_text.specs.declared.fault.TextKind.{TextKind}
 use Rattle.vdv451_text.specs.declared.fault.TextKind.TheVariants as texts
-use Rattle.vdv452_tables.specs.declared.fault.TableKind.{TableKind}
-use Rattle.vdv452_tables.specs.declared.fault.TableKind.TheVariants as tables
+use Rattle.vdv452_rows.specs.declared.fault.TableKind.{TableKind}
+use Rattle.vdv452_rows.specs.declared.fault.TableKind.TheVariants as tables
 use Rattle.day_calendar.specs.declared.day.DayFault.{DayFault}
 use Rattle.day_calendar.specs.declared.day.DayFault.TheVariants as days
 use Rattle.plan_params.specs.declared.fault.ParamKind.{ParamKind}

@@ -1,8 +1,8 @@
 -- The text of the command `replan`, and why there is none.
 use Rattle.std.specs.Prelude.{◌≡◌, ◌≢◌, ℕ, ◌⊎◌, List, Some}
 use Rattle.vdv451_text.specs.declared.table.Table.{Table}
-use Rattle.vdv452_tables.specs.Schema as schema
-use Rattle.vdv452_tables.specs.Rows.{table_of}
+use Rattle.vdv452_rows.specs.Schema as schema
+use Rattle.vdv452_rows.specs.Rows.{table_of}
 use Rattle.cover_plan.specs.Endings.{Numbers}
 use Rattle.day_model.specs.Facts.{DayFacts}
 use Rattle.plan_command.specs.declared.fault.PlanFault.TheVariants as plans

@@ -2,7 +2,7 @@
 
 ghost use Rattle.std.specs.Prelude.{◌≡◌, ◌<◌, ◌^◌, None, All, IfOk, IfErr, OnOk, length};
 ghost use Rattle.vdv452_tables.specs.Calendar.{net_of, schemas_of};
-ghost use Rattle.vdv452_tables.specs.Rows.{first_fault};
+ghost use Rattle.vdv452_rows.specs.Rows.{first_fault};
 ghost use Rattle.day_calendar.specs.Kinds.{IsKindOf};
 ghost use Rattle.planner_run.specs.Model.{IsModelIn, IsModelRefusalIn, IsTableRefusal, model_status as model_status_of};
 ghost use Rattle.planner_run.specs.Trips.{IsDayRefusal, refused_tables};

@@ -5,8 +5,8 @@ ghost use Rattle.vdv451_text.specs.Plain.{are_plain, is_plain_table};
 ghost use Rattle.vdv451_text.specs.declared.table.Table.{Table as TextTable};
 ghost use Rattle.vdv452_tables.specs.declared.reading.Needs.TheVariants as needs;
 ghost use Rattle.vdv452_tables.specs.Calendar.{net_of, schemas_of};
-ghost use Rattle.vdv452_tables.specs.Rows.{first_fault, table_of};
-ghost use Rattle.vdv452_tables.specs.Schema.{trips as trips_schema};
+ghost use Rattle.vdv452_rows.specs.Rows.{first_fault, table_of};
+ghost use Rattle.vdv452_rows.specs.Schema.{trips as trips_schema};
 ghost use Rattle.plan_command.specs.PlanText.{HasTripRows};
 ghost use Rattle.planner_run.specs.Model.{IsModelOf, IsModelRefused};
 

@@ -3,9 +3,9 @@
 ghost use Rattle.std.specs.Prelude.{◌≡◌, ◌≢◌, ◌<◌, ◌≤◌, ◌^◌, ◌⊎◌, ℕ, List, None, Some, All, IsTrue, IfOk, IfErr, OnOk, length, slice_index_or, ◌∷◌, []};
 ghost use Rattle.vdv451_text.specs.Plain.{are_plain, text};
 ghost use Rattle.vdv452_tables.specs.declared.reading.Needs.TheVariants as needs;
-ghost use Rattle.vdv452_tables.specs.Schema.{trips as trips_schema};
+ghost use Rattle.vdv452_rows.specs.Schema.{trips as trips_schema};
 ghost use Rattle.vdv452_tables.specs.Calendar.{net_of, schemas_of};
-ghost use Rattle.vdv452_tables.specs.Rows.{first_fault, table_of};
+ghost use Rattle.vdv452_rows.specs.Rows.{first_fault, table_of};
 ghost use Rattle.vdv451_text.specs.declared.table.Table.{Table as TextTable};
 ghost use Rattle.day_model.specs.Building.{most_trips};
 ghost use Rattle.planner_run.specs.Trips.{IsDayCause, IsTripsText, picked_table, rows_at};

@@ -3,7 +3,7 @@ use Rattle.std.proofs.Common.{◌≡◌, ℕ, ℤ, pos, negsuc, ◌+◌, Bool, t
 use Rattle.std.specs.Option.{option_map, option_map_or}
 use Rattle.std.specs.Prelude.{Ok, option_and_then}
 use Rattle.vdv451_text.specs.declared.table.Table.{Table}
-use Rattle.vdv452_tables.specs.Rows.{first}
+use Rattle.vdv452_rows.specs.Rows.{first}
 use Rattle.number_tables.specs.Outlines.{Place, given_of, place_in, rows_of}
 use Rattle.plan_params.specs.declared.rows.group.Group.{Group}
 use Rattle.day_model.specs.Facts.{DayFacts}

@@ -7,7 +7,7 @@ use Rattle.vdv451_text.specs.declared.table.Field.{Field}
 use Rattle.vdv451_text.specs.declared.table.Field.TheVariants.{Num, Text, Raw, Empty}
 use Rattle.vdv451_text.specs.declared.table.Head.{Head}
 use Rattle.vdv451_text.specs.declared.table.Table.{Table}
-use Rattle.vdv452_tables.specs.Rows.{has_name, place_of}
+use Rattle.vdv452_rows.specs.Rows.{has_name, place_of}
 use Rattle.table_differences.specs.declared.difference.Difference.{Difference}
 
 -- fields of one kind with one content

@@ -4,7 +4,7 @@
 ghost use Rattle.std.specs.Prelude.{◌≡◌, ◌≤◌, ◌<◌, ◌+◌, IfSome, count_by, length};
 ghost use Rattle.std.specs.List.{find};
 ghost use Rattle.std.specs.Option.{option_copied};
-ghost use Rattle.vdv452_tables.specs.Rows.{has_name as has_name_spec};
+ghost use Rattle.vdv452_rows.specs.Rows.{has_name as has_name_spec};
 ghost use Rattle.table_differences.specs.Differences as spec;
 
 use crate::difference::Difference;

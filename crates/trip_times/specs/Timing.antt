@@ -2,7 +2,7 @@
 use Rattle.std.specs.Prelude.{◌≡◌, ℕ, ◌+◌, ◌≤ℤ◌, pos, List, [], ◌∷◌, Option, Some, None, Result, Ok, Err, find, is_none, nat_le, sum_by, unwrap_or, if◌then◌else◌}
 use Rattle.plan_core.specs.declared.types.Point.{Point}
 use Rattle.vdv452_tables.specs.declared.net.Net.{Net}
-use Rattle.vdv452_tables.specs.declared.rows.TripRow.{TripRow}
+use Rattle.vdv452_rows.specs.declared.rows.TripRow.{TripRow}
 use Rattle.vdv452_tables.specs.LookUps.{area_on, course_on, group_dwell_on, links_from, run_time_on, trip_dwell_on}
 use Rattle.trip_times.specs.declared.trip.Trip.{Trip}
 use Rattle.trip_times.specs.declared.trip.TripFault.{TripFault}

@@ -9,7 +9,7 @@ use Rattle.vdv451_text.specs.declared.table.Field.{Field}
 use Rattle.vdv451_text.specs.declared.table.Head.{Head}
 use Rattle.vdv451_text.specs.declared.table.Table.{Table}
 use Rattle.vdv451_text.specs.Plain.{are_plain_columns, is_plain_name, is_plain_row, is_plain_table}
-use Rattle.vdv452_tables.specs.Rows.{place_of}
+use Rattle.vdv452_rows.specs.Rows.{place_of}
 use Rattle.cover_core.specs.declared.Column.{Column}
 use Rattle.trip_times.specs.declared.trip.Trip.{Trip}
 use Rattle.day_model.specs.Facts.{DayFacts}

@@ -14,7 +14,7 @@ use Rattle.vdv451_text.specs.declared.table.Table.{Table}
 use Rattle.vdv451_text.specs.Fields.{is_num_format}
 use Rattle.vdv451_text.specs.Plain.{are_plain, are_plain_columns, is_plain_field, is_plain_name, is_plain_row, is_plain_table}
 use Rattle.vdv451_text.proofs.FieldsBack.{digits_plain}
-use Rattle.vdv452_tables.specs.Rows.{place_of}
+use Rattle.vdv452_rows.specs.Rows.{place_of}
 use Rattle.cover_core.specs.declared.Column.{Column}
 use Rattle.day_model.specs.Facts.{DayFacts}
 use Rattle.number_tables.specs.Numbers.{AreFull}

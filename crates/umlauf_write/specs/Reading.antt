@@ -3,7 +3,7 @@ use Rattle.std.specs.Prelude.{ℕ, ℤ, pos, negsuc, ◌+◌, nat_eq, nat_lt, Li
 use Rattle.std.specs.Option.{option_map}
 use Rattle.std.specs.List.{filter_map, range_with_len}
 use Rattle.vdv451_text.specs.declared.table.Table.{Table}
-use Rattle.vdv452_tables.specs.Rows.{when, first}
+use Rattle.vdv452_rows.specs.Rows.{when, first}
 use Rattle.number_tables.specs.Outlines.{Outline, Place, place, rows_of, whole_faults, entry_faults, given_of, counted, up_to, word, class_among}
 use Rattle.cover_core.specs.declared.Column.{Column}
 use Rattle.trip_times.specs.declared.trip.Trip.{Trip}

@@ -6,7 +6,7 @@ use Rattle.vdv451_text.specs.declared.table.Field.TheVariants.{Num, Raw}
 use Rattle.vdv451_text.specs.declared.table.Head.{Head}
 use Rattle.vdv451_text.specs.declared.table.Table.{Table}
 use Rattle.vdv451_text.specs.Fields.{is_num_format}
-use Rattle.vdv452_tables.specs.Rows.{place_of}
+use Rattle.vdv452_rows.specs.Rows.{place_of}
 use Rattle.cover_core.specs.declared.Column.{Column}
 use Rattle.plan_params.specs.declared.rows.pool.Pool.{Pool}
 use Rattle.day_model.specs.Facts.{DayFacts}

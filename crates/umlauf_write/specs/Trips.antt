@@ -4,8 +4,8 @@ use Rattle.std.specs.List.{find}
 use Rattle.vdv451_text.specs.declared.table.Field.{Field}
 use Rattle.vdv451_text.specs.declared.table.Head.{Head}
 use Rattle.vdv451_text.specs.declared.table.Table.{Table}
-use Rattle.vdv452_tables.specs.Cells.{whole_number}
-use Rattle.vdv452_tables.specs.Rows.{field_at, place_of}
+use Rattle.vdv452_rows.specs.Cells.{whole_number}
+use Rattle.vdv452_rows.specs.Rows.{field_at, place_of}
 use Rattle.cover_core.specs.declared.Column.{Column}
 use Rattle.trip_times.specs.declared.trip.Trip.{Trip}
 use Rattle.day_model.specs.Facts.{DayFacts}

@@ -4,7 +4,7 @@ ghost use Rattle.std.specs.Prelude.{◌≡◌, ◌<◌, ◌≤◌, ◌^◌, true
 ghost use Rattle.std.specs.List.{find};
 ghost use Rattle.cover_core.specs.Cover.{AllBelow};
 ghost use Rattle.vdv451_text.specs.Plain.{is_plain_table};
-ghost use Rattle.vdv452_tables.specs.Cells.{whole_number as whole_number_of};
+ghost use Rattle.vdv452_rows.specs.Cells.{whole_number as whole_number_of};
 ghost use Rattle.umlauf_write.specs.Tables.{numbered};
 ghost use Rattle.umlauf_write.specs.Trips.{HasOneRow, found_row, found_table as found_table_of, is_number as is_number_of, is_row_of as is_row_of_spec, number_in as number_in_spec, row_of as row_of_spec};
 

@@ -4,7 +4,7 @@ use Rattle.std.proofs.lemmas.List.{append-nil}
 use Rattle.indexmap.specs.IndexMap.{IndexMap, get}
 use Rattle.plan_core.specs.declared.types.Point.{Point}
 use Rattle.vdv452_tables.specs.declared.keys.LineKey.{LineKey}
-use Rattle.vdv452_tables.specs.declared.rows.lines.StopRow.{StopRow}
+use Rattle.vdv452_rows.specs.declared.rows.lines.StopRow.{StopRow}
 use Rattle.vdv452_tables.specs.Indexes.{CourseGrows, course_or_none}
 use Rattle.vdv452_tables.specs.Keys.{line_key_eq, stop_key_of}
 use Rattle.vdv452_tables.specs.LookUps.{points_of}

@@ -2,7 +2,7 @@
 use Rattle.std.proofs.Common.{◌≡◌, ℕ, ◌<◌, ◌≤◌, ◌^◌, Bool, true, false, if◌then◌else◌, List, [], ◌∷◌, length, map, filter, nat_lt, refl, ap, ◌∙◌, arith, suc}
 use Rattle.vdv452_tables.specs.Calendar.{Net}
 use Rattle.vdv452_tables.specs.declared.keys.LineKey.{LineKey}
-use Rattle.vdv452_tables.specs.declared.rows.lines.StopRow.{StopRow}
+use Rattle.vdv452_rows.specs.declared.rows.lines.StopRow.{StopRow}
 use Rattle.vdv452_tables.specs.Keys.{line_key_eq, named, stop_key_of}
 use Rattle.vdv452_tables.specs.LookUps.{course_on, in_order, points_of, put_in_order}
 use Rattle.vdv452_tables.specs.Ranges.{HasRanges}

@@ -6,10 +6,10 @@ use Rattle.std.proofs.lemmas.List.Quantifiers.{all_pairs_push}
 use Rattle.std.specs.List.{flat_map, list_any}
 use Rattle.vdv451_text.specs.declared.table.Field.{Field}
 use Rattle.vdv451_text.specs.declared.table.Table.{Table}
-use Rattle.vdv452_tables.specs.declared.cell.Cell.{Cell}
-use Rattle.vdv452_tables.specs.declared.schema.Schema.{Schema}
-use Rattle.vdv452_tables.specs.Cells.{same_cells}
-use Rattle.vdv452_tables.specs.Rows.{HasOwnKeys, faults_in, faults_of, is_twice, key_fault, key_of, keys_in, missing_columns, own_key, row_fault, row_faults, table_faults, table_of, when}
+use Rattle.vdv452_rows.specs.declared.cell.Cell.{Cell}
+use Rattle.vdv452_rows.specs.declared.schema.Schema.{Schema}
+use Rattle.vdv452_rows.specs.Cells.{same_cells}
+use Rattle.vdv452_rows.specs.Rows.{HasOwnKeys, faults_in, faults_of, is_twice, key_fault, key_of, keys_in, missing_columns, own_key, row_fault, row_faults, table_faults, table_of, when}
 
 front_empty : {A : Type 0} (xs ys : List A) → xs ++ ys ≡ [] → xs ≡ []
 front_empty [] ys none = refl

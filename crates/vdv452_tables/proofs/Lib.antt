@@ -1,9 +1,5 @@
-pub mod Refusals
-pub mod RowSteps
-pub mod FoundLemmas
 pub mod VersionLemmas
 pub mod KeyLemmas
-pub mod RowKeyLemmas
 pub mod PartLemmas
 pub mod RangeLemmas
 pub mod OrderLemmas

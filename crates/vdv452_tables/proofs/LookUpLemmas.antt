@@ -5,7 +5,7 @@ use Rattle.std.specs.Option.{option_map}
 use Rattle.indexmap.specs.IndexMap.{IndexMap, get}
 use Rattle.vdv452_tables.specs.Keys.{value_at}
 use Rattle.vdv452_tables.specs.LookUps.{known}
-use Rattle.vdv452_tables.proofs.RowSteps.{drop_item}
+use Rattle.vdv452_rows.proofs.RowSteps.{drop_item}
 
 pub found_all : {K V R : Type 0} (P : V → Type 0) (same : K → K → Bool) (key_of : R → K) (value_of : R → V) (rows : List R) (key : K) → All (λ row. P (value_of row)) rows → IfSome (value_at same key_of value_of rows key) P
 found_all P same key_of value_of [] key all = tt

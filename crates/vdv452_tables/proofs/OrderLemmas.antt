@@ -4,7 +4,7 @@ use Rattle.std.proofs.lemmas.Bool.Decides.{nat_tests}
 use Rattle.std.proofs.lemmas.List.Elements.{All-cons, All-nil}
 use Rattle.std.specs.List.Sorted.{IsNonDecreasingBy, IsStableByKey, ties}
 use Rattle.std.specs.Ordering.{is_lt, nat_cmp}
-use Rattle.vdv452_tables.specs.declared.rows.lines.StopRow.{StopRow}
+use Rattle.vdv452_rows.specs.declared.rows.lines.StopRow.{StopRow}
 use Rattle.vdv452_tables.specs.LookUps.{in_order, put_in_order}
 
 -- a row of the same number

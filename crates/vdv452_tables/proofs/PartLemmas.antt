@@ -1,12 +1,12 @@
 -- Tables that are read part by part.
 use Rattle.std.proofs.Common.{◌≡◌, List, [], ◌∷◌, ◌++◌, refl, sym, ap, ◌∙◌, append_assoc}
 use Rattle.vdv451_text.specs.declared.table.Table.{Table}
-use Rattle.vdv452_tables.specs.declared.fault.Refusal.{Refusal}
-use Rattle.vdv452_tables.specs.declared.schema.Schema.{Schema}
-use Rattle.vdv452_tables.specs.Answers.{IsRefusal}
-use Rattle.vdv452_tables.specs.Schema as schema
-use Rattle.vdv452_tables.specs.Rows.{faults_of, table_faults}
-use Rattle.vdv452_tables.proofs.Refusals.{refusal_after, refusal_front, refusal_same}
+use Rattle.vdv452_rows.specs.declared.fault.Refusal.{Refusal}
+use Rattle.vdv452_rows.specs.declared.schema.Schema.{Schema}
+use Rattle.vdv452_rows.specs.Answers.{IsRefusal}
+use Rattle.vdv452_rows.specs.Schema as schema
+use Rattle.vdv452_rows.specs.Rows.{faults_of, table_faults}
+use Rattle.vdv452_rows.proofs.Refusals.{refusal_after, refusal_front, refusal_same}
 
 module _ (tables : List Table) where
   faults_parts : (front rest : List Schema) → faults_of (front ++ rest) tables ≡ faults_of front tables ++ faults_of rest tables

@@ -7,21 +7,21 @@ use Rattle.std.specs.Option.{option_and_then}
 use Rattle.vdv451_text.specs.declared.table.Field.{Field}
 use Rattle.vdv451_text.specs.declared.table.Field.TheVariants.{Num, Text, Raw, Empty}
 use Rattle.vdv451_text.specs.declared.table.Table.{Table}
-use Rattle.vdv452_tables.specs.declared.cell.Cell.{Cell}
-use Rattle.vdv452_tables.specs.declared.cell.Cell.TheVariants.{Nothing, Number, Long, Word}
+use Rattle.vdv452_rows.specs.declared.cell.Cell.{Cell}
+use Rattle.vdv452_rows.specs.declared.cell.Cell.TheVariants.{Nothing, Number, Long, Word}
 use Rattle.vdv452_tables.specs.declared.reading.Needs.{Needs}
 use Rattle.vdv452_tables.specs.declared.reading.Needs.TheVariants as needs
-use Rattle.vdv452_tables.specs.declared.schema.Column.{Column}
-use Rattle.vdv452_tables.specs.declared.schema.Domain.{Domain}
-use Rattle.vdv452_tables.specs.declared.schema.Domain.TheVariants.{UpTo, LongUpTo, AnyWord, Unseen}
-use Rattle.vdv452_tables.specs.declared.schema.Schema.{Schema}
+use Rattle.vdv452_rows.specs.declared.schema.Column.{Column}
+use Rattle.vdv452_rows.specs.declared.schema.Domain.{Domain}
+use Rattle.vdv452_rows.specs.declared.schema.Domain.TheVariants.{UpTo, LongUpTo, AnyWord, Unseen}
+use Rattle.vdv452_rows.specs.declared.schema.Schema.{Schema}
 use Rattle.vdv452_tables.specs.Calendar.{net_of, rows_as}
-use Rattle.vdv452_tables.specs.Cells.{is_empty_field, long_up_to, number_up_to, value_in, whole_number}
+use Rattle.vdv452_rows.specs.Cells.{is_empty_field, long_up_to, number_up_to, value_in, whole_number}
 use Rattle.vdv452_tables.specs.Ranges.{Fits, HasRanges, IsLength, IsTime, greatest_at, greatest_in}
-use Rattle.vdv452_tables.specs.Rows.{cell_at, cell_in, cells, field_at, has_name, rows_in, table_of}
-use Rattle.vdv452_tables.specs.Schema as schema
-use Rattle.vdv452_tables.specs.TypedRows.{typed, trip_row, section_row, stop_row, run_row, group_dwell_row, trip_dwell_row, dead_row, number_row}
-use Rattle.vdv452_tables.specs.Values.{long_in, number_of, some_number}
+use Rattle.vdv452_rows.specs.Rows.{cell_at, cell_in, cells, field_at, has_name, rows_in, table_of}
+use Rattle.vdv452_rows.specs.Schema as schema
+use Rattle.vdv452_rows.specs.TypedRows.{typed, trip_row, section_row, stop_row, run_row, group_dwell_row, trip_dwell_row, dead_row, number_row}
+use Rattle.vdv452_rows.specs.Values.{long_in, number_of, some_number}
 
 -- no number of the value is above the domain's greatest one
 abbrev Within : Domain → Option Cell → Type 0

@@ -3,7 +3,7 @@ use Rattle.std.proofs.Common.{◌≡◌, ◌<◌, ◌≤◌, ◌↔◌, ℕ, Boo
 use Rattle.std.proofs.lemmas.Bool.Decides.{nat_tests}
 use Rattle.std.proofs.lemmas.List.Elements.{All-cons, All-nil, Contains-append_right, Contains-get_or}
 use Rattle.std.specs.Option.{option_map}
-use Rattle.vdv452_tables.specs.declared.rows.VersionRow.{VersionRow}
+use Rattle.vdv452_rows.specs.declared.rows.VersionRow.{VersionRow}
 use Rattle.vdv452_tables.specs.Calendar.{IsInForce, begun, later, latest}
 
 abbrev pub Tells : List VersionRow → ℕ → Option VersionRow → Type 0

@@ -3,16 +3,16 @@ use Rattle.std.specs.Prelude.{◌≡◌, ◌≤◌, ℕ, All, Contains, ◌==◌
 use Rattle.std.specs.Option.{option_map}
 use Rattle.std.specs.List.{find}
 use Rattle.vdv451_text.specs.declared.table.Table.{Table}
-use Rattle.vdv452_tables.specs.declared.cell.Cell.{Cell}
-use Rattle.vdv452_tables.specs.declared.rows.VersionRow.{VersionRow}
-use Rattle.vdv452_tables.specs.declared.rows.CalendarRow.{CalendarRow}
-use Rattle.vdv452_tables.specs.declared.schema.Schema.{Schema}
+use Rattle.vdv452_rows.specs.declared.cell.Cell.{Cell}
+use Rattle.vdv452_rows.specs.declared.rows.VersionRow.{VersionRow}
+use Rattle.vdv452_rows.specs.declared.rows.CalendarRow.{CalendarRow}
+use Rattle.vdv452_rows.specs.declared.schema.Schema.{Schema}
 use Rattle.vdv452_tables.specs.declared.reading.Needs.{Needs}
 use Rattle.vdv452_tables.specs.declared.reading.Needs.TheVariants as needs
-use Rattle.vdv452_tables.specs.Schema as schema
-use Rattle.vdv452_tables.specs.Rows.{rows_of}
-use Rattle.vdv452_tables.specs.TypedRows.{version_row, calendar_row, trip_row, point_row, type_row, line_row, stop_row, section_row, run_row, group_dwell_row, trip_dwell_row, dead_row, number_row}
-pub use Rattle.vdv452_tables.specs.TypedRows.{typed}
+use Rattle.vdv452_rows.specs.Schema as schema
+use Rattle.vdv452_rows.specs.Rows.{rows_of}
+use Rattle.vdv452_rows.specs.TypedRows.{version_row, calendar_row, trip_row, point_row, type_row, line_row, stop_row, section_row, run_row, group_dwell_row, trip_dwell_row, dead_row, number_row}
+pub use Rattle.vdv452_rows.specs.TypedRows.{typed}
 pub use Rattle.vdv452_tables.specs.declared.net.Net.{Net}
 
 -- the tables that are looked at, in the order of their faults

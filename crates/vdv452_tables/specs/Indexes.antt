@@ -3,7 +3,7 @@ use Rattle.std.specs.Prelude.{◌≡◌, ◌++◌, ◌∷◌, List, [], Option, 
 use Rattle.indexmap.specs.IndexMap.{IndexMap, get}
 use Rattle.plan_core.specs.declared.types.Point.{Point}
 use Rattle.vdv452_tables.specs.declared.keys.LineKey.{LineKey}
-use Rattle.vdv452_tables.specs.declared.rows.lines.StopRow.{StopRow}
+use Rattle.vdv452_rows.specs.declared.rows.lines.StopRow.{StopRow}
 use Rattle.vdv452_tables.specs.declared.indexes.Dwells.{Dwells}
 use Rattle.vdv452_tables.specs.declared.indexes.Indexes.{Indexes}
 use Rattle.vdv452_tables.specs.declared.indexes.Lines.{Lines}

@@ -15,16 +15,16 @@ use Rattle.vdv452_tables.specs.declared.keys.MoveKey.{MoveKey}
 use Rattle.vdv452_tables.specs.declared.keys.GroupDwellKey.{GroupDwellKey}
 use Rattle.vdv452_tables.specs.declared.keys.TripDwellKey.{TripDwellKey}
 use Rattle.vdv452_tables.specs.declared.keys.LineKey.{LineKey}
-use Rattle.vdv452_tables.specs.declared.rows.CalendarRow.{CalendarRow}
-use Rattle.vdv452_tables.specs.declared.rows.places.PointRow.{PointRow}
-use Rattle.vdv452_tables.specs.declared.rows.places.TypeRow.{TypeRow}
-use Rattle.vdv452_tables.specs.declared.rows.lines.LineRow.{LineRow}
-use Rattle.vdv452_tables.specs.declared.rows.lines.StopRow.{StopRow}
-use Rattle.vdv452_tables.specs.declared.rows.times.SectionRow.{SectionRow}
-use Rattle.vdv452_tables.specs.declared.rows.times.RunRow.{RunRow}
-use Rattle.vdv452_tables.specs.declared.rows.times.GroupDwellRow.{GroupDwellRow}
-use Rattle.vdv452_tables.specs.declared.rows.times.TripDwellRow.{TripDwellRow}
-use Rattle.vdv452_tables.specs.declared.rows.times.DeadRow.{DeadRow}
+use Rattle.vdv452_rows.specs.declared.rows.CalendarRow.{CalendarRow}
+use Rattle.vdv452_rows.specs.declared.rows.places.PointRow.{PointRow}
+use Rattle.vdv452_rows.specs.declared.rows.places.TypeRow.{TypeRow}
+use Rattle.vdv452_rows.specs.declared.rows.lines.LineRow.{LineRow}
+use Rattle.vdv452_rows.specs.declared.rows.lines.StopRow.{StopRow}
+use Rattle.vdv452_rows.specs.declared.rows.times.SectionRow.{SectionRow}
+use Rattle.vdv452_rows.specs.declared.rows.times.RunRow.{RunRow}
+use Rattle.vdv452_rows.specs.declared.rows.times.GroupDwellRow.{GroupDwellRow}
+use Rattle.vdv452_rows.specs.declared.rows.times.TripDwellRow.{TripDwellRow}
+use Rattle.vdv452_rows.specs.declared.rows.times.DeadRow.{DeadRow}
 
 -- the value of the first row with a key
 abbrev pub value_at : {K V R : Type 0} → (K → K → Bool) → (R → K) → (R → V) → List R → K → Option V

@@ -1,14 +1,5 @@
-pub mod Schema
-pub mod Outlines
-pub mod Cells
-pub mod Rows
-pub mod Answers
-pub mod Found
-pub mod Values
-pub mod TypedRows
 pub mod Calendar
 pub mod Keys
-pub mod RowKeys
 pub mod LookUps
 pub mod Ranges
 pub mod Indexes

@@ -2,10 +2,10 @@
 use Rattle.std.specs.Prelude.{◌≡◌, ◌≤◌, ◌<◌, ◌^◌, ℕ, List, [], Option, Some, None, All, IfSome, length, slice_get, slice_index, if◌then◌else◌, codes}
 use Rattle.std.specs.Str.{bytes_eq}
 use Rattle.vdv452_tables.specs.declared.net.Net.{Net}
-use Rattle.vdv452_tables.specs.declared.schema.Column.{Column}
-use Rattle.vdv452_tables.specs.declared.schema.Domain.{Domain}
-use Rattle.vdv452_tables.specs.declared.schema.Domain.TheVariants.{UpTo, LongUpTo, AnyWord, Unseen}
-use Rattle.vdv452_tables.specs.Schema as schema
+use Rattle.vdv452_rows.specs.declared.schema.Column.{Column}
+use Rattle.vdv452_rows.specs.declared.schema.Domain.{Domain}
+use Rattle.vdv452_rows.specs.declared.schema.Domain.TheVariants.{UpTo, LongUpTo, AnyWord, Unseen}
+use Rattle.vdv452_rows.specs.Schema as schema
 
 -- seconds of the operating day, up to two days
 abbrev pub IsTime : ℕ → Type 0

@@ -7,12 +7,11 @@ ghost use Rattle.vdv452_tables.specs.Keys.{line_key_eq, stop_key_of};
 ghost use Rattle.vdv452_tables.specs.LookUps.{in_order};
 ghost use Rattle.vdv452_tables.specs.declared.keys.LineKey.{LineKey};
 
-use crate::cell::bytes_of;
 use crate::keys::{LineKey, LineName};
-use crate::rows::lines::StopRow;
 use indexmap::IndexMap;
 use plan_core::{Memory, Point, Seq};
 use std::alloc::Global;
+use vdv452_rows::{StopRow, bytes_of};
 
 fn copied_stop(alloc: Global, row: &StopRow) -> Result<StopRow, Memory>
     ensures { IfOk result (λ copy. copy ≡ row.now) }

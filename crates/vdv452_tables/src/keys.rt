@@ -4,16 +4,15 @@ ghost use Rattle.std.specs.Prelude.{◌≡◌};
 ghost use Rattle.std.proofs.Common.{ap};
 ghost use Rattle.vdv452_tables.specs.Keys as keys;
 
-use crate::cell::bytes_of;
 use crate::index::KeyedRow;
-use crate::rows::CalendarRow;
-use crate::rows::lines::LineRow;
-use crate::rows::places::{PointRow, TypeRow};
-use crate::rows::times::{DeadRow, GroupDwellRow, RunRow, SectionRow, TripDwellRow};
 use indexmap::Equivalent;
 use plan_core::{Bytes, Memory, Point};
 use std::alloc::Global;
 use std::hash::Hash;
+use vdv452_rows::{
+    CalendarRow, DeadRow, GroupDwellRow, LineRow, PointRow, RunRow, SectionRow, TripDwellRow,
+    TypeRow, bytes_of,
+};
 
 /// The key of a day in FIRMENKALENDER.
 #[derive(Clone, Copy, PartialEq, Eq, Hash)]

@@ -1,10 +1,10 @@
 //! The rows of all tables.
 
-use crate::rows::lines::{LineRow, StopRow};
-use crate::rows::places::{PointRow, TypeRow};
-use crate::rows::times::{DeadRow, GroupDwellRow, RunRow, SectionRow, TripDwellRow};
-use crate::rows::{CalendarRow, TripRow, VersionRow};
 use plan_core::Seq;
+use vdv452_rows::{
+    CalendarRow, DeadRow, GroupDwellRow, LineRow, PointRow, RunRow, SectionRow, StopRow,
+    TripDwellRow, TripRow, TypeRow, VersionRow,
+};
 
 /// The rows of the tables of a network, each table in the order of its rows. A table that is not
 /// looked at has none here.

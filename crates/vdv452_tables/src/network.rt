@@ -15,11 +15,10 @@ use crate::keys::{
     DayKey, GroupDwellKey, LineName, MoveKey, PointKey, SectionKey, TripDwellKey, TypeKey,
 };
 use crate::net::Net;
-use crate::rows::times::DeadRow;
-use crate::rows::{TripRow, VersionRow};
 use plan_core::{Bytes, Memory, Point, Seq};
 use std::alloc::Global;
 use std::marker::Model;
+use vdv452_rows::{DeadRow, TripRow, VersionRow};
 
 /// The typed rows of the tables of a network, with their indexes by key. No look-up takes memory.
 #[derive(Drop)]

@@ -1,22 +1,19 @@
 //! The tables of a network, read and tested.
 
 ghost use Rattle.std.specs.Prelude.{◌≡◌, ◌≢◌, ◌<◌, ◌^◌, [], ◌∷◌, Some, None, All, IfOk, IfErr, OnOk, IsErrAnd, length};
-ghost use Rattle.vdv452_tables.specs.declared.fault.TableFault.{TableFault};
-ghost use Rattle.vdv452_tables.specs.Answers.{IsRefusal};
+ghost use Rattle.vdv452_rows.specs.declared.fault.TableFault.{TableFault};
+ghost use Rattle.vdv452_rows.specs.Answers.{IsRefusal};
 ghost use Rattle.vdv452_tables.specs.Calendar.{empty, net_of, rows_as, schemas_of};
-ghost use Rattle.vdv452_tables.specs.Rows.{HasOwnKeys, faults_of, first_fault};
-ghost use Rattle.vdv452_tables.specs.Schema as schemas;
-ghost use Rattle.vdv452_tables.specs.TypedRows as typed_rows;
+ghost use Rattle.vdv452_rows.specs.Rows.{HasOwnKeys, faults_of, first_fault};
+ghost use Rattle.vdv452_rows.specs.Schema as schemas;
+ghost use Rattle.vdv452_rows.specs.TypedRows as typed_rows;
 
-use crate::fault::{Refusal, TableFault, TableKind};
 use crate::net::Net;
 use crate::network::Network;
-use crate::rows::TypedRow;
-use crate::schema::{Schema, own, standard};
-use crate::table::read_table;
 use plan_core::Seq;
 use std::alloc::Global;
 use vdv451_text::Table;
+use vdv452_rows::{Refusal, Schema, TableFault, TableKind, TypedRow, own, read_table, standard};
 
 /// Which tables are looked at.
 #[derive(Clone, Copy, Debug, PartialEq, Eq)]

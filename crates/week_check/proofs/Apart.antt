@@ -7,9 +7,9 @@ use Rattle.std.proofs.lemmas.Bool.Decides.{nat_tests}
 use Rattle.std.proofs.lemmas.List.Elements.{All-cons, All-nil, All-weaker}
 use Rattle.std.proofs.lemmas.List.Folds.{list_any-append}
 use Rattle.std.proofs.lemmas.List.Kept.{AllPairs-cons}
-use Rattle.vdv452_tables.specs.declared.fault.TableFault.{TableFault}
-use Rattle.vdv452_tables.specs.declared.fault.TableKind.TheVariants.{KeyTwice}
-use Rattle.vdv452_tables.specs.Rows.{fault, when}
+use Rattle.vdv452_rows.specs.declared.fault.TableFault.{TableFault}
+use Rattle.vdv452_rows.specs.declared.fault.TableKind.TheVariants.{KeyTwice}
+use Rattle.vdv452_rows.specs.Rows.{fault, when}
 use Rattle.week_check.specs.declared.entry.DriverDay.{DriverDay}
 use Rattle.week_check.specs.declared.turn.Turn.{Turn}
 use Rattle.week_check.specs.Duties.{AreApart, IsTurn}

@@ -6,8 +6,8 @@ use Rattle.std.specs.List.{find, flat_map}
 use Rattle.vdv451_text.specs.declared.table.Field.{Field}
 use Rattle.vdv451_text.specs.declared.table.Head.{Head}
 use Rattle.vdv451_text.specs.declared.table.Table.{Table}
-use Rattle.vdv452_tables.specs.declared.fault.TableKind.TheVariants.{NoColumn}
-use Rattle.vdv452_tables.specs.Rows.{fault, field_at, place_of}
+use Rattle.vdv452_rows.specs.declared.fault.TableKind.TheVariants.{NoColumn}
+use Rattle.vdv452_rows.specs.Rows.{fault, field_at, place_of}
 use Rattle.week_check.specs.declared.column.RosterColumn.{RosterColumn}
 use Rattle.week_check.specs.declared.column.RosterColumn.TheVariants.{Driver, Day, Begin, End, Driving, Pause}
 use Rattle.week_check.specs.declared.places.Places.{Places}

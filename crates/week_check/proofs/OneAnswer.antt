@@ -9,8 +9,8 @@ use Rattle.std.proofs.lemmas.Bool.{cases_order, eqb-true}
 use Rattle.std.proofs.lemmas.List.Folds.{Any-from_list_any}
 use Rattle.jiff_core.proofs.SignedLemmas.{signed_arith}
 use Rattle.vdv451_text.specs.declared.table.Table.{Table}
-use Rattle.vdv452_tables.specs.declared.fault.TableFault.{TableFault}
-use Rattle.vdv452_tables.specs.Rows.{first, has_name}
+use Rattle.vdv452_rows.specs.declared.fault.TableFault.{TableFault}
+use Rattle.vdv452_rows.specs.Rows.{first, has_name}
 use Rattle.week_check.specs.declared.fault.RosterFault.{RosterFault}
 use Rattle.week_check.specs.declared.fault.RosterFault.TheVariants.{Table as Wrong, Days, Memory}
 use Rattle.week_check.specs.declared.turn.Turn.{Turn}

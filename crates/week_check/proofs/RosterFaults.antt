@@ -2,9 +2,9 @@
 -- where none fails it there is no fault.
 use Rattle.std.proofs.Common.{◌≡◌, ℕ, ◌+◌, ◌<◌, Bool, true, false, not, if◌then◌else◌, List, [], ◌∷◌, ◌++◌, length, map, get_or, drop, Option, Some, None, refl, sym, ap, subst, ◌∙◌}
 use Rattle.std.specs.List.{find, flat_map, list_any}
-use Rattle.vdv452_tables.specs.declared.fault.TableFault.{TableFault}
-use Rattle.vdv452_tables.specs.declared.fault.TableKind.TheVariants.{KeyTwice}
-use Rattle.vdv452_tables.specs.Rows.{fault, first, when}
+use Rattle.vdv452_rows.specs.declared.fault.TableFault.{TableFault}
+use Rattle.vdv452_rows.specs.declared.fault.TableKind.TheVariants.{KeyTwice}
+use Rattle.vdv452_rows.specs.Rows.{fault, first, when}
 use Rattle.week_check.specs.declared.entry.DriverDay.{DriverDay}
 use Rattle.week_check.specs.declared.fault.RosterFault.{RosterFault}
 use Rattle.week_check.specs.declared.fault.RosterFault.TheVariants.{Table, Days, Memory}

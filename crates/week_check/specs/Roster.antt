@@ -7,11 +7,11 @@ use Rattle.jiff_core.specs.Calendar.{days_in_month}
 use Rattle.vdv451_text.specs.declared.table.Field.{Field}
 use Rattle.vdv451_text.specs.declared.table.Head.{Head}
 use Rattle.vdv451_text.specs.declared.table.Table.{Table}
-use Rattle.vdv452_tables.specs.declared.fault.TableKind.{TableKind}
-use Rattle.vdv452_tables.specs.declared.fault.TableKind.TheVariants as kinds
-use Rattle.vdv452_tables.specs.declared.fault.TableFault.{TableFault}
-use Rattle.vdv452_tables.specs.Cells.{is_empty_field, whole_number}
-use Rattle.vdv452_tables.specs.Rows.{fault, field_at, has_name, place_of, when}
+use Rattle.vdv452_rows.specs.declared.fault.TableKind.{TableKind}
+use Rattle.vdv452_rows.specs.declared.fault.TableKind.TheVariants as kinds
+use Rattle.vdv452_rows.specs.declared.fault.TableFault.{TableFault}
+use Rattle.vdv452_rows.specs.Cells.{is_empty_field, whole_number}
+use Rattle.vdv452_rows.specs.Rows.{fault, field_at, has_name, place_of, when}
 use Rattle.week_check.specs.declared.column.RosterColumn.{RosterColumn}
 use Rattle.week_check.specs.declared.column.RosterColumn.TheVariants.{Driver, Day, Begin, End, Driving, Pause}
 use Rattle.week_check.specs.declared.entry.Entry.{Entry}

@@ -1,8 +1,8 @@
 -- What an answer says of the roster's table.
 use Rattle.std.specs.Prelude.{◌≡◌, List, [], Some, Result, Ok, Err}
 use Rattle.vdv451_text.specs.declared.table.Table.{Table}
-use Rattle.vdv452_tables.specs.declared.fault.TableFault.{TableFault}
-use Rattle.vdv452_tables.specs.Rows.{first}
+use Rattle.vdv452_rows.specs.declared.fault.TableFault.{TableFault}
+use Rattle.vdv452_rows.specs.Rows.{first}
 use Rattle.week_check.specs.declared.fault.RosterFault.{RosterFault}
 use Rattle.week_check.specs.declared.fault.RosterFault.TheVariants.{Table as Wrong, Days, Memory}
 use Rattle.week_check.specs.declared.turn.Turn.{Turn}

@@ -1,7 +1,7 @@
 //! Why a roster is refused.
 
 ghost use Rattle.std.specs.Prelude.{◌≡◌, [], ◌∷◌, IfOk};
-ghost use Rattle.vdv452_tables.specs.Rows.{fault};
+ghost use Rattle.vdv452_rows.specs.Rows.{fault};
 ghost use Rattle.week_check.specs.Roster.{roster_name as the_roster_name};
 ghost use Rattle.week_check.specs.RosterAnswers.{IsFirstOf};
 ghost use Rattle.week_check.specs.declared.fault.RosterFault.TheVariants as faults;

@@ -1,7 +1,7 @@
 //! Where the columns of the roster's table stand.
 
 ghost use Rattle.std.specs.Prelude.{◌≡◌, slice_get};
-ghost use Rattle.vdv452_tables.specs.Cells as cells;
+ghost use Rattle.vdv452_rows.specs.Cells as cells;
 ghost use Rattle.week_check.specs.Roster as spec;
 
 use crate::column::{COLUMNS, RosterColumn, column_name};

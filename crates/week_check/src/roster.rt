@@ -3,7 +3,7 @@
 ghost use Rattle.std.specs.Prelude.{◌≡◌, ◌≢◌, ◌<◌, ◌^◌, ◌++◌, ◌∷◌, [], All, AllPairs, Err, IfErr, IfOk, IfSome, List, None, OnOk, Result, Some, filter, length, map, not, true};
 ghost use Rattle.std.specs.List.{find, list_any};
 ghost use Rattle.std.specs.Option.{option_copied};
-ghost use Rattle.vdv452_tables.specs.Rows.{has_name};
+ghost use Rattle.vdv452_rows.specs.Rows.{has_name};
 ghost use Rattle.week_check.specs.Duties.{AreNear, IsRoster, IsTurn};
 ghost use Rattle.week_check.specs.Roster as spec;
 ghost use Rattle.week_check.specs.RosterAnswers.{AreFarDays, IsAnswer, IsFaultOf, IsFirstOf};

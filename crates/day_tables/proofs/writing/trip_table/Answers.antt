@@ -1,5 +1,5 @@
 use Rattle.std.proofs.Common.{◌≤◌, ◌^◌, All, length, ap, sym, ◌∙◌}
-use Rattle.vdv452_tables.specs.declared.rows.TripRow.{TripRow}
+use Rattle.vdv452_rows.specs.declared.rows.TripRow.{TripRow}
 use Rattle.day_calendar.proofs.Places.{places_within}
 use Rattle.day_tables.proofs.DayLemmas.{day_fids, each_row}
 use Rattle.day_tables.proofs.writing.trip_table.Goals as goal

@@ -1,6 +1,6 @@
 use Rattle.std.proofs.Common.{◌≡◌, drop, map}
 use Rattle.std.specs.List.{flat_map}
-use Rattle.vdv452_tables.specs.Rows.{first}
+use Rattle.vdv452_rows.specs.Rows.{first}
 use Rattle.plan_params.specs.Faults.{table_faults}
 use Rattle.plan_params.specs.Rules.{rule_of}
 use Rattle.plan_params.proofs.testing.first_in.Given as goal

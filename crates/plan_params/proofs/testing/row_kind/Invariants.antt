@@ -1,5 +1,5 @@
 use Rattle.std.proofs.Common.{◌≡◌, drop}
-use Rattle.vdv452_tables.specs.Rows.{first}
+use Rattle.vdv452_rows.specs.Rows.{first}
 use Rattle.plan_params.specs.Faults.{row_kinds}
 use Rattle.plan_params.proofs.testing.row_kind.Given as goal
 

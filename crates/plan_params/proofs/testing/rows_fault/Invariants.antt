@@ -1,5 +1,5 @@
 use Rattle.std.proofs.Common.{◌≡◌, drop}
-use Rattle.vdv452_tables.specs.Rows.{first}
+use Rattle.vdv452_rows.specs.Rows.{first}
 use Rattle.plan_params.specs.Faults.{row_faults}
 use Rattle.plan_params.specs.Rules.{rule_of}
 use Rattle.plan_params.proofs.testing.rows_fault.Given as goal

@@ -1,7 +1,7 @@
 use Rattle.std.proofs.Common.{◌≡◌, drop, codes}
 use Rattle.std.specs.List.{find}
-use Rattle.vdv452_tables.specs.Schema.{trips as trips_schema}
-use Rattle.vdv452_tables.specs.Rows.{has_name, table_of}
+use Rattle.vdv452_rows.specs.Schema.{trips as trips_schema}
+use Rattle.vdv452_rows.specs.Rows.{has_name, table_of}
 use Rattle.planner_run.proofs.trips.trips_place.Given as goal
 
 -- the table is among those left

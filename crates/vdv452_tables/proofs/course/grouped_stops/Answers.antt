@@ -1,7 +1,7 @@
 use Rattle.std.proofs.Common.{◌+◌, drop}
 use Rattle.vdv452_tables.specs.LookUps.{points_of}
 use Rattle.vdv452_tables.proofs.CourseLemmas.{grouped}
-use Rattle.vdv452_tables.proofs.RowSteps.{drop_item}
+use Rattle.vdv452_rows.proofs.RowSteps.{drop_item}
 use Rattle.vdv452_tables.proofs.course.grouped_stops.Goals as goal
 
 pub loop-row-preserved : goal.loop-row-preserved

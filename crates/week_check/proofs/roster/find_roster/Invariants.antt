@@ -1,6 +1,6 @@
 use Rattle.std.proofs.Common.{◌≡◌, drop}
 use Rattle.std.specs.List.{find}
-use Rattle.vdv452_tables.specs.Rows.{has_name}
+use Rattle.vdv452_rows.specs.Rows.{has_name}
 use Rattle.week_check.specs.Roster.{roster_name}
 use Rattle.week_check.proofs.roster.find_roster.Given as goal
 

@@ -1,6 +1,6 @@
 use Rattle.std.proofs.Common.{◌≡◌, [], ◌∷◌, List, Option, Some, None, not, sym, ap, subst, ◌∙◌}
-use Rattle.vdv452_tables.specs.declared.fault.TableKind.{TableKind}
-use Rattle.vdv452_tables.specs.Rows.{fault}
+use Rattle.vdv452_rows.specs.declared.fault.TableKind.{TableKind}
+use Rattle.vdv452_rows.specs.Rows.{fault}
 use Rattle.week_check.specs.declared.entry.Entry.{Entry}
 use Rattle.week_check.specs.Roster.{RowFields, columns, entry_of, field_of, fields_at, is_right, kind_of, name_of, roster_name, value_faults, wrong_column}
 use Rattle.week_check.specs.RosterAnswers.{IsFirstOf}

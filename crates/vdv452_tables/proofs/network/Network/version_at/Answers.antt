@@ -1,5 +1,5 @@
 use Rattle.std.proofs.Common.{◌≡◌, ◌<◌, ◌↔◌, List, All, IsNone, IfSome, ap, subst}
-use Rattle.vdv452_tables.specs.declared.rows.VersionRow.{VersionRow}
+use Rattle.vdv452_rows.specs.declared.rows.VersionRow.{VersionRow}
 use Rattle.vdv452_tables.specs.Calendar.{IsInForce, Net, begun, latest}
 use Rattle.vdv452_tables.proofs.VersionLemmas.{in_force, latest_tells, none_in_force}
 use Rattle.vdv452_tables.proofs.network.Network.version_at.Goals as goal

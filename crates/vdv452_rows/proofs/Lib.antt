@@ -1,0 +1,4 @@
+pub mod Refusals
+pub mod RowSteps
+mod FoundLemmas
+mod RowKeyLemmas

@@ -1,0 +1,9 @@
+pub mod Schema
+pub mod Outlines
+pub mod Cells
+pub mod Rows
+pub mod Answers
+pub mod Found
+pub mod Values
+pub mod TypedRows
+pub mod RowKeys

@@ -1,0 +1,128 @@
+//! Why tables are refused.
+
+ghost use Rattle.std.specs.Prelude.{◌≡◌, [], ◌∷◌, IfOk};
+ghost use Rattle.vdv452_rows.specs.Answers.{IsRefusal};
+ghost use Rattle.vdv452_rows.specs.Rows.{fault, memory_fault};
+ghost use Rattle.vdv452_rows.specs.declared.fault.Refusal.TheVariants as refusals;
+
+use crate::cell::bytes_of;
+use plan_core::{Bytes, Memory};
+use std::alloc::{AllocError, AllocFailed, Global};
+use thiserror::Error;
+
+/// What is wrong with the tables.
+#[derive(Clone, Copy, Debug, PartialEq, Eq, Error)]
+pub enum TableKind {
+    /// A used table stands more than once over all files.
+    #[error("a table stands twice")]
+    TableTwice,
+    /// A table that must be there is missing.
+    #[error("a table is missing")]
+    NoTable,
+    /// A used table lacks one of its columns.
+    #[error("a column is missing")]
+    NoColumn,
+    /// A field is empty in a column where it may not be.
+    #[error("a value is missing")]
+    NoValue,
+    /// A field is no number where its column has numbers, or one out of range.
+    #[error("a value out of range")]
+    Range,
+    /// A row has the key of a row before it.
+    #[error("a key stands twice")]
+    KeyTwice,
+    /// Want of memory.
+    #[error("out of memory")]
+    Memory,
+}
+
+/// The first fault of the tables. Rows count from 1. The row is 0 where the fault is about the
+/// table as a whole, and the column is empty where it is about none. For want of memory table and
+/// column are empty and the row is 0.
+#[derive(Debug, Drop)]
+pub struct TableFault {
+    pub kind: TableKind,
+    pub table: Bytes,
+    pub column: Bytes,
+    pub row: u32,
+}
+
+impl TableFault {
+    /// Want of memory. It takes no memory.
+    pub fn memory(alloc: Global) -> TableFault
+        ensures { result ≡ memory_fault }
+    {
+        TableFault {
+            kind: TableKind::Memory,
+            table: Bytes::new(alloc),
+            column: Bytes::new(alloc),
+            row: 0,
+        }
+    }
+}
+
+/// Why a step of the reading gives up.
+#[derive(Drop)]
+pub enum Refusal {
+    /// Want of memory.
+    Memory,
+    /// The tables are wrong: their first fault.
+    Fault(TableFault),
+}
+
+impl From<Memory> for Refusal {
+    ghost from_gives = { λ _ refusal. refusal ≡ refusals.Memory };
+
+    fn from(_error: Memory) -> Refusal {
+        Refusal::Memory
+    }
+}
+
+impl From<AllocError> for Refusal {
+    ghost from_gives = { λ _ refusal. refusal ≡ refusals.Memory };
+
+    fn from(_error: AllocError) -> Refusal {
+        Refusal::Memory
+    }
+}
+
+impl<T: Drop> From<AllocFailed<T>> for Refusal {
+    ghost from_gives = { λ _ refusal. refusal ≡ refusals.Memory };
+
+    fn from(_error: AllocFailed<T>) -> Refusal {
+        Refusal::Memory
+    }
+}
+
+fn copied_fault(
+    alloc: Global,
+    kind: TableKind,
+    table: &[u8],
+    column: &[u8],
+    row: u32,
+) -> Result<TableFault, Memory>
+    ensures { IfOk result (λ made. made ≡ fault kind table.now column.now row) }
+{
+    Ok(TableFault {
+        kind,
+        table: bytes_of(alloc, table)?,
+        column: bytes_of(alloc, column)?,
+        row,
+    })
+}
+
+/// The fault with copies of these names, or want of memory.
+pub(crate) fn refusal_of(
+    alloc: Global,
+    kind: TableKind,
+    table: &[u8],
+    column: &[u8],
+    row: u32,
+) -> Refusal
+    ensures { IsRefusal (fault kind table.now column.now row ∷ []) result }
+{
+    match copied_fault(alloc, kind, table, column, row) {
+        Ok(fault) => Refusal::Fault(fault),
+        Err(_) => Refusal::Memory,
+    }
+}

@@ -1,7 +1,0 @@
-use Rattle.std.proofs.Common.{◌≡◌, ◌++◌, drop}
-use Rattle.vdv452_tables.specs.Found.{found_cells}
-use Rattle.vdv452_tables.proofs.table.row_cells.Given as goal
-
--- what is read and what is left to read are the whole
-abbrev pub invariant-loop-entry : goal.invariant-loop-entry
-invariant-loop-entry l = l.cells.items ++ found_cells (drop l.entry-index l.found) l.row ≡ found_cells l.found l.row
