@@ -96,8 +96,10 @@ pub fn settings(alloc: Global, groups: &[u8]) -> Result<Params, Fail>
     Ok(read_params(alloc, &net, 1)?)
 }
 
+/// The depot's point.
 pub const DEPOT: Point = Point { typ: 2, nr: 9 };
 
+/// The point of a stop.
 pub const STOP: Point = Point { typ: 1, nr: 2 };
 
 /// A piece from the depot to the depot.
