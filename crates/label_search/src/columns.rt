@@ -14,8 +14,8 @@ use cover_core::{Column, Columns, Items, best_is_first_least};
 use plan_core::Memory;
 use std::alloc::Global;
 
-/// A list as a column of a class, where it has a worth.
-fn column_of<C: Columns>(
+/// A list of items as a column of a class, with its worth, where it has one; `None` exactly where it has none. `Memory` is the only error.
+pub fn column_of<C: Columns>(
     alloc: Global,
     columns: &C,
     class: u32,

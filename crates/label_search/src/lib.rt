@@ -13,7 +13,7 @@ mod least;
 mod levels;
 mod node;
 
-pub use columns::{best_column, cover_pays};
+pub use columns::{best_column, column_of, cover_pays};
 pub use labels::Labels;
 pub use later::{rest, rests};
 pub use least::search;

@@ -11,35 +11,10 @@ ghost use Rattle.unpaid_list.specs.Unpaid.{AreClassesPaid, IsFirstUnpaid, IsLeas
 
 use crate::labels::ClassLabels;
 use crate::lists::ValuedLists;
-use cover_core::{Column, Columns, Items, best_is_first_least};
-use label_search::search;
+use cover_core::{Column, Columns, best_is_first_least};
+use label_search::{column_of, search};
 use plan_core::Memory;
 use std::alloc::Global;
-
-/// A list as a column of a class, where it has a worth.
-fn column_of<C: Columns>(
-    alloc: Global,
-    columns: &C,
-    class: u32,
-    list: &[u32],
-) -> Result<Option<Column>, Memory>
-    requires class { class < length (C.problem columns.now).caps }
-    requires items { AllBelow (C.problem columns.now).items list.now }
-    ensures column { IfOk result (λ answer. answer ≡ worth_column (C.problem columns.now) class list.now) }
-    ensures bound { IfOk result (λ answer. IfSome answer (λ column. column.worth ≤ 4000000000)) }
-{
-    match columns.worth(class, list) {
-        None => Ok(None),
-        Some(worth) => match Items::from_slice(alloc, list) {
-            Ok(items) => Ok(Some(Column {
-                class,
-                worth,
-                items,
-            })),
-            Err(Memory) => Err(Memory),
-        },
-    }
-}
 
 /// The greatest value that is below minus a price.
 fn limit_of(class_price: i64) -> i64
