@@ -73,7 +73,8 @@ frm; num[10.0]; num[10.0]; num[10.0]; num[10.0]; num[10.0]; num[10.0]; num[10.0]
 /// On day 1 a trip from 1 to 2 ends at 32,400, and the trip back begins at 33,000; on day 2 at 40,000. The depot is 600 from 1 and 900
 /// from 2. On day 3 the first trip takes so long that its piece drives for 16,200 seconds where it ends with the trip; on day 4 it takes a
 /// second more. On days 5 to 7 there are four trips: one after another; one after another, each so long that the second and the third are
-/// no block; and two twins at a time, of which lists have equal values.
+/// no block; and two twins at a time, of which lists have equal values. On day 8 trips 0 and 1 go from 1 to 2 and end at 32,400 and 32,600;
+/// trips 2 and 3 go back from 33,000 and 33,200 to 36,600 and 36,800.
 const TRIPS: &[u8] = b"tbl; REC_FRT
 atr; BASIS_VERSION; FRT_FID; FRT_START; LI_NR; TAGESART_NR; FAHRTART_NR; FGR_NR; STR_LI_VAR; UM_UID
 frm; num[10.0]; num[10.0]; num[10.0]; num[10.0]; num[10.0]; num[10.0]; num[10.0]; num[10.0]; num[10.0]
@@ -97,7 +98,11 @@ rec; 1; 41; 28800; 1; 7; 1; 1; 1;
 rec; 1; 42; 28800; 1; 7; 1; 1; 1; 
 rec; 1; 43; 33000; 1; 7; 1; 1; 2; 
 rec; 1; 44; 33000; 1; 7; 1; 1; 2; 
-end; 20
+rec; 1; 51; 28800; 1; 8; 1; 1; 1; 
+rec; 1; 52; 29000; 1; 8; 1; 1; 1; 
+rec; 1; 53; 33000; 1; 8; 1; 1; 2; 
+rec; 1; 54; 33200; 1; 8; 1; 1; 2; 
+end; 24
 tbl; UEB_FZT
 atr; BASIS_VERSION; BEREICH_NR; FGR_NR; ONR_TYP_NR; ORT_NR; UEB_ZIEL_TYP; UEB_ZIEL; UEB_FAHRZEIT
 frm; num[10.0]; num[10.0]; num[10.0]; num[10.0]; num[10.0]; num[10.0]; num[10.0]; num[10.0]
@@ -110,6 +115,12 @@ end; 4
 
 const POOL: &[u8] = b"rec; 1; 2; 9; 1; 2; 1000; 1; 0
 end; 1
+";
+
+/// The second pool has no fixed cost, and its standing costs 4 a second.
+const TWO_POOLS: &[u8] = b"rec; 1; 2; 9; 1; 2; 1000; 1; 0
+rec; 2; 2; 9; 1; 2; 0; 1; 4
+end; 2
 ";
 
 const DRIVERS: &[u8] = b"tbl; X_FAHRER
@@ -151,4 +162,9 @@ pub fn day_of(
 /// The day of a kind, with one pool of two vehicles.
 pub fn day(alloc: Global, kind: u32) -> Result<Day, Fail> {
     day_of(alloc, TRIPS, POOL, DRIVERS, kind)
+}
+
+/// Day 8, with two pools.
+pub fn two_pool_day(alloc: Global) -> Result<Day, Fail> {
+    day_of(alloc, TRIPS, TWO_POOLS, DRIVERS, 8)
 }

@@ -193,6 +193,10 @@ pub const OPEN_QUOTE: &[Change] = &[(VERSION, "rec; 20260101; \"1\n")];
 /// A version is no number.
 pub const NO_NUMBER: &[Change] = &[(VERSION, "rec; 20260101; 1x\n")];
 
+/// What `trips` writes of the network.
+pub const TRIPS_WRITTEN: &str =
+    "tbl; REC_FRT\natr; BASIS_VERSION; FRT_FID; FRT_START; LI_NR; TAGESART_NR; FAHRTART_NR; FGR_NR; STR_LI_VAR; UM_UID\nfrm; num[10.0]; num[10.0]; num[10.0]; num[10.0]; num[10.0]; num[10.0]; num[10.0]; char[6]; num[10.0]\nrec; 1; 1; 28800; 1; 1; 1; 1; \"H\"; NULL\nrec; 1; 2; 33000; 1; 1; 1; 1; \"R\"; NULL\nend; 2\neof; 1\n";
+
 /// What `day` writes of the network.
 pub const DAY_WRITTEN: &str =
     "tbl; X_TAG\natr; BETRIEBSTAG; WOCHENTAG; BASIS_VERSION; TAGESART_NR; FAHRTEN\nfrm; num[19.0]; num[19.0]; num[19.0]; num[19.0]; num[19.0]\nrec; 20260302; 1; 1; 1; 2\nend; 1\ntbl; X_FAHRT\natr; FRT_FID; LI_NR; VON_TYP; VON_NR; BEGINN; NACH_TYP; NACH_NR; ENDE; LAENGE\nfrm; num[19.0]; num[19.0]; num[19.0]; num[19.0]; num[19.0]; num[19.0]; num[19.0]; num[19.0]; num[19.0]\nrec; 1; 1; 1; 1; 28800; 1; 2; 32400; 60000\nrec; 2; 1; 1; 2; 33000; 1; 1; 36600; 60000\nend; 2\neof; 2\n";

@@ -1,14 +1,10 @@
-//! Tests of rests, of covers in general and of blocks: what no contract says, and that calls succeed.
+//! Tests of what is left of a cover where columns have begun: what no contract says, and that calls succeed.
 //!
 //! A crate with tests is proved twice, so those of a floor stand above it.
 #![tactic(auto)]
 
 #[cfg(test)]
 mod begun_columns;
-#[cfg(test)]
-mod block_days;
-#[cfg(test)]
-mod block_rest_tests;
 #[cfg(test)]
 mod cover_rest_tests;
 #[cfg(test)]
@@ -17,5 +13,3 @@ mod labellings;
 mod rest_labels_tests;
 #[cfg(test)]
 mod rest_searches;
-#[cfg(test)]
-mod searches;

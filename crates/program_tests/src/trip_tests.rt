@@ -2,7 +2,8 @@
 
 use plan_core::{MemFiles, NoGate};
 use planner_runs::{
-    USAGE, WRITTEN_HEAD, end_into, end_of, has_written, is_so, joined, one_file, sink, three_files,
+    TRIPS_WRITTEN, USAGE, WRITTEN_HEAD, end_into, end_of, has_written, is_so, joined, one_file,
+    sink, three_files,
 };
 use std::alloc::Global;
 use std::test::Fail;
@@ -39,13 +40,7 @@ pub(crate) const DAY: [&str; 3] = ["trips", "20260302", "f"];
 
 pub(crate) const BOTH: [&str; 5] = [CALENDAR, TRIPS_HEAD, FIRST, SECOND, "end; 2\neof; 3\n"];
 
-pub(crate) const BOTH_WRITTEN: [&str; 5] = [
-    WRITTEN_HEAD,
-    TRIPS_HEAD,
-    FIRST,
-    SECOND,
-    "end; 2\neof; 1\n",
-];
+pub(crate) const BOTH_WRITTEN: [&str; 2] = [WRITTEN_HEAD, TRIPS_WRITTEN];
 
 /// Whether a file of these texts is answered by these ones, written with CR LF, and nothing is said on standard error.
 fn is_listed<R: Threads + Sync>(

@@ -7,17 +7,27 @@ ghost use Rattle.cover_rest.specs.Keeping.{AreHeads};
 ghost use Rattle.block_rest.specs.Heads.{AreOfDay};
 ghost use Rattle.block_rest.specs.Rest.{begun_of};
 
-use crate::begun_columns::column;
-use crate::block_days::day;
+use crate::days::two_pool_day;
 use crate::searches::{agrees, worth_of};
 use block_rest::{BlockRest, Head, heads, heads_are_heads, kept_is_same_heads};
-use cover_core::{Column, Columns, Plan, Worth};
+use cover_core::{Column, Columns, Items, Plan, Worth};
 use cover_rest::rest_is_kept;
 use day_model::Day;
 use depot_network::PoolNet;
 use plan_core::{Memory, Seq};
 use std::alloc::Global;
 use std::test::Fail;
+
+/// A column.
+fn column(alloc: Global, class: u32, worth: u64, items: &[u32]) -> Result<Column, Memory>
+    ensures { IfOk result (λ column. column ≡ record { class = class; worth = worth; items = items.now }) }
+{
+    Ok(Column {
+        class,
+        worth,
+        items: Items::from_slice(alloc, items)?,
+    })
+}
 
 /// The plan before: the second block's first trip comes before the first one's.
 fn earlier(alloc: Global, day: &Day) -> Result<Plan, Memory>
@@ -54,7 +64,7 @@ fn has_heads(alloc: Global, day: &Day, moment: u32, expected: &[u32]) -> Result<
 }
 
 fn has_all_heads(alloc: Global) -> Result<bool, Fail> {
-    let day = day(alloc)?;
+    let day = two_pool_day(alloc)?;
     let rows: [(u32, &[u32]); 10] = [
         (28_200, &[]),
         (28_201, &[0, 0, 0]),
@@ -137,7 +147,7 @@ fn has_worths(rest: &Option<BlockRest<'_>>, rows: &[Row]) -> bool {
 
 /// The items are the heads, and then trips 2 and 3.
 fn lists_have_worths(alloc: Global) -> Result<bool, Fail> {
-    let day = day(alloc)?;
+    let day = two_pool_day(alloc)?;
     let rest = rest_of(alloc, &day, true, 30_000, Worth::Cost)?;
     Ok(has_worths(
         &rest,
@@ -166,7 +176,7 @@ fn lists_of_the_rest_have_worths(rt: HostRuntime) -> Result<(), Fail> {
 
 /// The pull-out to trip 2 leaves at 32,100.
 fn late_lists_have_worths(alloc: Global) -> Result<bool, Fail> {
-    let day = day(alloc)?;
+    let day = two_pool_day(alloc)?;
     let at = rest_of(alloc, &day, false, 32_100, Worth::Cost)?;
     let late = rest_of(alloc, &day, false, 32_101, Worth::Cost)?;
     let counted = rest_of(alloc, &day, false, 32_101, Worth::Count)?;
@@ -276,7 +286,7 @@ fn has_items(alloc: Global, rest: &BlockRest<'_>) -> Result<bool, Memory> {
 
 /// The pull-out to trip 1 leaves at 28,400.
 fn has_rest(alloc: Global) -> Result<bool, Fail> {
-    let day = day(alloc)?;
+    let day = two_pool_day(alloc)?;
     if day.trips().len() < 3 {
         return Ok(false);
     }
@@ -327,7 +337,7 @@ fn is_priced(alloc: Global, day: &Day, case: &Case) -> Result<bool, Memory> {
 }
 
 fn are_priced(alloc: Global) -> Result<bool, Fail> {
-    let day = day(alloc)?;
+    let day = two_pool_day(alloc)?;
     let cases = [
         make_case(false, 30_000, Worth::Cost, 0, [2_500_000; 4]),
         make_case(false, 30_000, Worth::Cost, 1, [2_500_000; 4]),

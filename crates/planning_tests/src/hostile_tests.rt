@@ -1,11 +1,10 @@
 //! Hostile use of the commands that read planning files: too many trips or bytes, bytes that are no text, reads and writes that fail.
 
-use crate::trip_tests::BOTH_WRITTEN;
 use plan_core::{Bytes, NoGate};
 use planner_run::{InputFault, Status};
 use planner_runs::{
-    Ended, NO_CHANGE, UNENDED, demo, end_into, end_of, is_so, joined, one_file, plan_written,
-    replaced, sink,
+    Ended, NO_CHANGE, TRIPS_WRITTEN, UNENDED, WRITTEN_HEAD, demo, end_into, end_of, is_so, joined,
+    one_file, plan_written, replaced, sink,
 };
 use std::alloc::Global;
 use std::test::Fail;
@@ -209,7 +208,7 @@ fn leaves_each_front<R: Threads + Sync>(
 }
 
 fn trips_leave_fronts<R: Threads + Sync>(rt: &R, alloc: Global) -> Result<bool, Fail> {
-    let whole = joined(alloc, &BOTH_WRITTEN, b"\r\n")?;
+    let whole = joined(alloc, &[WRITTEN_HEAD, TRIPS_WRITTEN], b"\r\n")?;
     leaves_each_front(rt, alloc, "trips", whole.as_slice())
 }
 
