@@ -4,7 +4,8 @@ ghost use Rattle.std.specs.Prelude.{◌≡◌, ◌≢◌, ◌↔◌, ◌⊎◌, 
 ghost use Rattle.plan_core.specs.Outside.{Rose};
 ghost use Rattle.vdv451_text.specs.declared.fault.TextFault.{TextFault as FaultOfText};
 ghost use Rattle.plan_rows.specs.declared.fault.Place.{Place as PlaceOfTable};
-ghost use Rattle.plan_chart.specs.Lines.{IsTold, line_of};
+ghost use Rattle.input_files.specs.Lines.{IsTold};
+ghost use Rattle.plan_chart.specs.Lines.{line_of};
 ghost use Rattle.plan_chart.specs.Run as spec;
 ghost use Rattle.plan_chart.specs.Words.{asked as asked_by};
 
