@@ -1,5 +1,4 @@
 pub mod AnswerLemmas
-pub mod LineLemmas
 pub mod MadeLemmas
 pub mod Outcomes
 pub mod RunLemmas

@@ -10,7 +10,7 @@ use Rattle.cert_check.specs.declared.reason.Reason.{Reason}
 use Rattle.cert_check.specs.Reasons.{IsAnswer as IsCheckerAnswer}
 use Rattle.planner_run.specs.declared.status.Status.{Status}
 use Rattle.planner_run.specs.declared.status.Status.TheVariants as statuses
-use Rattle.planner_run.specs.Lines.{joined as joined_line}
+use Rattle.input_files.specs.Lines.{joined as joined_line}
 use Rattle.planner_run.specs.Model.{IsModelOf}
 use Rattle.planner_run.specs.Reasons.{reason_name, reason_number}
 

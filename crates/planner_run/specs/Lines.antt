@@ -1,8 +1,5 @@
 -- The line on standard error that each refusal has.
-use Rattle.std.specs.Prelude.{◌≡◌, ℕ, ◌≤◌, Bool, true, false, ◌++◌, ◌⊎◌, List, [], ◌∷◌, Option, Some, IfSome, codes, decimal}
-use Rattle.plan_core.specs.Outside.{Rose}
-use Rattle.vdv451_text.specs.declared.fault.TextKind.{TextKind}
-use Rattle.vdv451_text.specs.declared.fault.TextKind.TheVariants as texts
+use Rattle.std.specs.Prelude.{ℕ, ◌++◌, List, [], ◌∷◌, codes, decimal}
 use Rattle.vdv452_rows.specs.declared.fault.TableKind.{TableKind}
 use Rattle.vdv452_rows.specs.declared.fault.TableKind.TheVariants as tables
 use Rattle.day_calendar.specs.declared.day.DayFault.{DayFault}
@@ -19,18 +16,7 @@ use Rattle.planner_run.specs.declared.status.Status.{Status}
 use Rattle.planner_run.specs.declared.status.Status.TheVariants as statuses
 use Rattle.planner_run.specs.declared.status.InputFault.TheVariants as inputs
 use Rattle.planner_run.specs.Reasons.{reason_name, reason_number}
-use Rattle.input_files.specs.Taken.{TakesFront}
-
-abbrev pub text_kind : TextKind → List ℕ
-text_kind texts.Keyword = codes "Keyword"
-text_kind texts.Order = codes "Order"
-text_kind texts.Field = codes "Field"
-text_kind texts.Count = codes "Count"
-text_kind texts.EndCount = codes "EndCount"
-text_kind texts.EofCount = codes "EofCount"
-text_kind texts.Unended = codes "Unended"
-text_kind texts.TooLarge = codes "TooLarge"
-text_kind texts.Memory = codes "Memory"
+use Rattle.input_files.specs.Lines.{joined, text_kind}
 
 abbrev pub table_kind : TableKind → List ℕ
 table_kind tables.TableTwice = codes "TableTwice"
@@ -70,11 +56,6 @@ abbrev pub item_words : ItemName → List (List ℕ)
 item_words (items.Trip fid) = codes "trip " ∷ decimal fid ∷ []
 item_words (items.Piece block index) = codes "block " ∷ decimal block ∷ codes " piece " ∷ decimal index ∷ []
 
--- the parts of a line after one another
-abbrev pub joined : List (List ℕ) → List ℕ
-joined [] = []
-joined (part ∷ parts) = part ++ joined parts
-
 -- The line of a refusal, for a day as its word has it.
 abbrev pub line_of : List ℕ → Status → List ℕ
 line_of day statuses.Ok = []
@@ -98,18 +79,3 @@ line_of day (statuses.Day fault) = joined (codes "day " ∷ day ∷ codes ": " �
 line_of day (statuses.ReadFault file) = joined (codes "read fault: file " ∷ decimal file ∷ codes "\n" ∷ [])
 line_of day statuses.WriteFault = codes "write fault\n"
 line_of day statuses.Memory = codes "out of memory\n"
-
--- a line was written whole, or a front of it, and then the count of faults rose
-abbrev pub IsTold : Option (List ℕ) → Option (List ℕ) → ℕ → ℕ → List ℕ → Type 0
-IsTold old new before now line = IfSome old (λ bytes. TakesFront bytes new line) × (IfSome old (λ bytes. new ≡ Some (bytes ++ line)) ⊎ Rose before now)
-
--- of a line all was written but this rest
-pub record IsLeft (old new : Option (List ℕ)) (line rest : List ℕ) : Type 0 where
-  pub done : List ℕ
-  pub all : done ++ rest ≡ line
-  pub taken : IfSome old (λ bytes. new ≡ Some (bytes ++ done))
-
--- a line is being written: all but this rest is there, or a write failed before
-abbrev pub IsTelling : Option (List ℕ) → Option (List ℕ) → ℕ → ℕ → List ℕ → List ℕ → Bool → Type 0
-IsTelling old new before now line rest true = IsLeft old new line rest × (before ≤ now)
-IsTelling old new before now line rest false = IfSome old (λ bytes. TakesFront bytes new line) × Rose before now

@@ -1,6 +1,7 @@
 //! The lines on standard error.
 
-ghost use Rattle.std.specs.Prelude.{◌≡◌, false, ◌++◌, ◌∷◌, [], ℕ, List, Option, codes, decimal};
+ghost use Rattle.std.specs.Prelude.{◌≡◌, false, ◌++◌, ◌∷◌, [], ℕ, List, codes, decimal};
+ghost use Rattle.input_files.specs.Lines.{IsTold, joined};
 ghost use Rattle.planner_run.specs.Endings.{is_done};
 ghost use Rattle.planner_run.specs.Lines as spec;
 ghost use Rattle.planner_run.specs.Reasons.{reason_name as reason_name_of, reason_number as reason_number_of};
@@ -10,31 +11,13 @@ use crate::status::{InputFault, Status};
 use cert_check::Reason;
 use day_calendar::DayFault;
 use day_method::Side;
-use input_files::write_whole;
-use itoa::Buffer;
+use input_files::{text_kind, write_line, write_number, write_part};
 use plan_command::ItemName;
 use plan_core::{Point, Sink};
 use plan_params::{ParamFault, ParamKind};
 use trip_times::TripFault;
-use vdv451_text::{TextFault, TextKind};
+use vdv451_text::TextFault;
 use vdv452_tables::{TableFault, TableKind};
-
-/// The name of a kind of fault of a text.
-fn text_kind(kind: TextKind) -> &'static [u8]
-    ensures { result.now ≡ spec.text_kind kind }
-{
-    match kind {
-        TextKind::Keyword => b"Keyword",
-        TextKind::Order => b"Order",
-        TextKind::Field => b"Field",
-        TextKind::Count => b"Count",
-        TextKind::EndCount => b"EndCount",
-        TextKind::EofCount => b"EofCount",
-        TextKind::Unended => b"Unended",
-        TextKind::TooLarge => b"TooLarge",
-        TextKind::Memory => b"Memory",
-    }
-}
 
 /// The name of a kind of fault of the tables.
 fn table_kind(kind: TableKind) -> &'static [u8]
@@ -85,31 +68,8 @@ fn side_name(side: Side) -> &'static [u8]
     }
 }
 
-/// Writes a further part of a line, unless a part before it failed. It tells whether all parts so far are there.
-fn write_part<E: Sink>(err: &mut E, is_whole: bool, part: &[u8]) -> bool
-    ensures { (old : Option (List ℕ)) (faults : ℕ) (line rest : List ℕ) → spec.IsTelling old (E.taken err.old) faults (E.faults err.old) line (part.now ++ rest) is_whole
-        → spec.IsTelling old (E.taken err.new) faults (E.faults err.new) line rest result }
-{
-    if !is_whole {
-        return false;
-    }
-    match write_whole(err, part) {
-        Ok(()) => true,
-        Err(_) => false,
-    }
-}
-
-/// Writes a further number of a line.
-fn write_number<E: Sink>(err: &mut E, is_whole: bool, number: u64) -> bool
-    ensures { (old : Option (List ℕ)) (faults : ℕ) (line rest : List ℕ) → spec.IsTelling old (E.taken err.old) faults (E.faults err.old) line (decimal number ++ rest) is_whole
-        → spec.IsTelling old (E.taken err.new) faults (E.faults err.new) line rest result }
-{
-    let mut digits = Buffer::new();
-    write_part(err, is_whole, digits.format(number).as_bytes())
-}
-
 fn tell_text<E: Sink>(err: &mut E, file: u32, fault: &TextFault)
-    ensures { (day : List ℕ) → spec.IsTold (E.taken err.old) (E.taken err.new) (E.faults err.old) (E.faults err.new) (spec.line_of day (Status.Input (InputFault.Text file fault.now))) }
+    ensures { (day : List ℕ) → IsTold (E.taken err.old) (E.taken err.new) (E.faults err.old) (E.faults err.new) (spec.line_of day (Status.Input (InputFault.Text file fault.now))) }
 {
     let is_whole = write_part(err, true, b"file ");
     let is_whole = write_number(err, is_whole, file as u64);
@@ -121,7 +81,7 @@ fn tell_text<E: Sink>(err: &mut E, file: u32, fault: &TextFault)
 }
 
 fn tell_table<E: Sink>(err: &mut E, fault: &TableFault)
-    ensures { (day : List ℕ) → spec.IsTold (E.taken err.old) (E.taken err.new) (E.faults err.old) (E.faults err.new) (spec.line_of day (Status.Input (InputFault.Table fault.now))) }
+    ensures { (day : List ℕ) → IsTold (E.taken err.old) (E.taken err.new) (E.faults err.old) (E.faults err.new) (spec.line_of day (Status.Input (InputFault.Table fault.now))) }
 {
     let is_whole = write_part(err, true, b"table ");
     let is_whole = write_part(err, is_whole, fault.table.as_slice());
@@ -135,7 +95,7 @@ fn tell_table<E: Sink>(err: &mut E, fault: &TableFault)
 }
 
 fn tell_params<E: Sink>(err: &mut E, fault: &ParamFault)
-    ensures { (day : List ℕ) → spec.IsTold (E.taken err.old) (E.taken err.new) (E.faults err.old) (E.faults err.new) (spec.line_of day (Status.Input (InputFault.Params fault.now))) }
+    ensures { (day : List ℕ) → IsTold (E.taken err.old) (E.taken err.new) (E.faults err.old) (E.faults err.new) (spec.line_of day (Status.Input (InputFault.Params fault.now))) }
 {
     let is_whole = write_part(err, true, b"table ");
     let is_whole = write_part(err, is_whole, fault.table.as_slice());
@@ -148,7 +108,7 @@ fn tell_params<E: Sink>(err: &mut E, fault: &ParamFault)
 
 /// Writes a trip and a word.
 fn tell_word<E: Sink>(err: &mut E, fid: u64, word: &[u8])
-    ensures { spec.IsTold (E.taken err.old) (E.taken err.new) (E.faults err.old) (E.faults err.new) (spec.joined (codes "trip " ∷ decimal fid ∷ codes ": " ∷ word.now ∷ codes "\n" ∷ [])) }
+    ensures { IsTold (E.taken err.old) (E.taken err.new) (E.faults err.old) (E.faults err.new) (joined (codes "trip " ∷ decimal fid ∷ codes ": " ∷ word.now ∷ codes "\n" ∷ [])) }
 {
     let is_whole = write_part(err, true, b"trip ");
     let is_whole = write_number(err, is_whole, fid);
@@ -159,7 +119,7 @@ fn tell_word<E: Sink>(err: &mut E, fid: u64, word: &[u8])
 
 /// Writes a trip and the link that has no run time.
 fn tell_gap<E: Sink>(err: &mut E, fid: u64, from: Point, to: Point)
-    ensures { spec.IsTold (E.taken err.old) (E.taken err.new) (E.faults err.old) (E.faults err.new) (spec.joined (codes "trip " ∷ decimal fid ∷ codes ": " ∷ codes "NoRunTime " ∷ decimal from.typ ∷ codes "/" ∷ decimal from.nr ∷ codes " to " ∷ decimal to.typ ∷ codes "/" ∷ decimal to.nr ∷ codes "\n" ∷ [])) }
+    ensures { IsTold (E.taken err.old) (E.taken err.new) (E.faults err.old) (E.faults err.new) (joined (codes "trip " ∷ decimal fid ∷ codes ": " ∷ codes "NoRunTime " ∷ decimal from.typ ∷ codes "/" ∷ decimal from.nr ∷ codes " to " ∷ decimal to.typ ∷ codes "/" ∷ decimal to.nr ∷ codes "\n" ∷ [])) }
 {
     let is_whole = write_part(err, true, b"trip ");
     let is_whole = write_number(err, is_whole, fid);
@@ -176,7 +136,7 @@ fn tell_gap<E: Sink>(err: &mut E, fid: u64, from: Point, to: Point)
 }
 
 fn tell_trip<E: Sink>(err: &mut E, fid: u64, fault: TripFault)
-    ensures { (day : List ℕ) → spec.IsTold (E.taken err.old) (E.taken err.new) (E.faults err.old) (E.faults err.new) (spec.line_of day (Status.Input (InputFault.Trip fid fault))) }
+    ensures { (day : List ℕ) → IsTold (E.taken err.old) (E.taken err.new) (E.faults err.old) (E.faults err.new) (spec.line_of day (Status.Input (InputFault.Trip fid fault))) }
 {
     match fault {
         TripFault::NoRoute => tell_word(err, fid, b"NoRoute"),
@@ -188,7 +148,7 @@ fn tell_trip<E: Sink>(err: &mut E, fid: u64, fault: TripFault)
 
 /// Writes some text, a number and the line end.
 fn tell_number<E: Sink>(err: &mut E, text: &[u8], number: u64)
-    ensures { spec.IsTold (E.taken err.old) (E.taken err.new) (E.faults err.old) (E.faults err.new) (spec.joined (text.now ∷ decimal number ∷ codes "\n" ∷ [])) }
+    ensures { IsTold (E.taken err.old) (E.taken err.new) (E.faults err.old) (E.faults err.new) (joined (text.now ∷ decimal number ∷ codes "\n" ∷ [])) }
 {
     let is_whole = write_part(err, true, text);
     let is_whole = write_number(err, is_whole, number);
@@ -196,7 +156,7 @@ fn tell_number<E: Sink>(err: &mut E, text: &[u8], number: u64)
 }
 
 fn tell_day<E: Sink>(err: &mut E, day: &[u8], fault: DayFault)
-    ensures { spec.IsTold (E.taken err.old) (E.taken err.new) (E.faults err.old) (E.faults err.new) (spec.line_of day.now (Status.Day fault)) }
+    ensures { IsTold (E.taken err.old) (E.taken err.new) (E.faults err.old) (E.faults err.new) (spec.line_of day.now (Status.Day fault)) }
 {
     let is_whole = write_part(err, true, b"day ");
     let is_whole = write_part(err, is_whole, day);
@@ -207,7 +167,7 @@ fn tell_day<E: Sink>(err: &mut E, day: &[u8], fault: DayFault)
 
 /// Writes that a side has no plan, with the bound and the places.
 fn tell_no_plan<E: Sink>(err: &mut E, side: Side, bound: u64, places: u64)
-    ensures { spec.IsTold (E.taken err.old) (E.taken err.new) (E.faults err.old) (E.faults err.new) (spec.joined (codes "no plan: " ∷ spec.side_name side ∷ codes " bound " ∷ decimal bound ∷ codes " places " ∷ decimal places ∷ codes "\n" ∷ [])) }
+    ensures { IsTold (E.taken err.old) (E.taken err.new) (E.faults err.old) (E.faults err.new) (joined (codes "no plan: " ∷ spec.side_name side ∷ codes " bound " ∷ decimal bound ∷ codes " places " ∷ decimal places ∷ codes "\n" ∷ [])) }
 {
     let is_whole = write_part(err, true, b"no plan: ");
     let is_whole = write_part(err, is_whole, side_name(side));
@@ -220,7 +180,7 @@ fn tell_no_plan<E: Sink>(err: &mut E, side: Side, bound: u64, places: u64)
 
 /// Writes that a trip is left.
 fn tell_left_trip<E: Sink>(err: &mut E, fid: u64)
-    ensures { spec.IsTold (E.taken err.old) (E.taken err.new) (E.faults err.old) (E.faults err.new) (spec.joined (codes "not placed: " ∷ codes "trip " ∷ decimal fid ∷ codes "\n" ∷ [])) }
+    ensures { IsTold (E.taken err.old) (E.taken err.new) (E.faults err.old) (E.faults err.new) (joined (codes "not placed: " ∷ codes "trip " ∷ decimal fid ∷ codes "\n" ∷ [])) }
 {
     let is_whole = write_part(err, true, b"not placed: ");
     let is_whole = write_part(err, is_whole, b"trip ");
@@ -230,7 +190,7 @@ fn tell_left_trip<E: Sink>(err: &mut E, fid: u64)
 
 /// Writes that a piece is left.
 fn tell_left_piece<E: Sink>(err: &mut E, block: u32, index: u32)
-    ensures { spec.IsTold (E.taken err.old) (E.taken err.new) (E.faults err.old) (E.faults err.new) (spec.joined (codes "not placed: " ∷ codes "block " ∷ decimal block ∷ codes " piece " ∷ decimal index ∷ codes "\n" ∷ [])) }
+    ensures { IsTold (E.taken err.old) (E.taken err.new) (E.faults err.old) (E.faults err.new) (joined (codes "not placed: " ∷ codes "block " ∷ decimal block ∷ codes " piece " ∷ decimal index ∷ codes "\n" ∷ [])) }
 {
     let is_whole = write_part(err, true, b"not placed: ");
     let is_whole = write_part(err, is_whole, b"block ");
@@ -241,7 +201,7 @@ fn tell_left_piece<E: Sink>(err: &mut E, block: u32, index: u32)
 }
 
 fn tell_left<E: Sink>(err: &mut E, name: ItemName)
-    ensures { spec.IsTold (E.taken err.old) (E.taken err.new) (E.faults err.old) (E.faults err.new) (spec.joined (codes "not placed: " ∷ (spec.item_words name ++ codes "\n" ∷ []))) }
+    ensures { IsTold (E.taken err.old) (E.taken err.new) (E.faults err.old) (E.faults err.new) (joined (codes "not placed: " ∷ (spec.item_words name ++ codes "\n" ∷ []))) }
 {
     match name {
         ItemName::Trip { fid } => tell_left_trip(err, fid),
@@ -251,7 +211,7 @@ fn tell_left<E: Sink>(err: &mut E, name: ItemName)
 
 /// Writes that an earlier plan is refused, with the number and the name of the reason.
 fn tell_old_plan<E: Sink>(err: &mut E, reason: &Reason)
-    ensures { spec.IsTold (E.taken err.old) (E.taken err.new) (E.faults err.old) (E.faults err.new) (spec.joined (codes "old plan " ∷ decimal (reason_number_of reason.now) ∷ codes " " ∷ reason_name_of reason.now ∷ codes "\n" ∷ [])) }
+    ensures { IsTold (E.taken err.old) (E.taken err.new) (E.faults err.old) (E.faults err.new) (joined (codes "old plan " ∷ decimal (reason_number_of reason.now) ∷ codes " " ∷ reason_name_of reason.now ∷ codes "\n" ∷ [])) }
 {
     let is_whole = write_part(err, true, b"old plan ");
     let is_whole = write_number(err, is_whole, reason_number(reason));
@@ -260,16 +220,9 @@ fn tell_old_plan<E: Sink>(err: &mut E, reason: &Reason)
     let _ = write_part(err, is_whole, b"\n");
 }
 
-/// Writes a line of one part.
-fn tell_line<E: Sink>(err: &mut E, line: &[u8])
-    ensures { spec.IsTold (E.taken err.old) (E.taken err.new) (E.faults err.old) (E.faults err.new) line.now }
-{
-    let _ = write_whole(err, line);
-}
-
 /// Writes the first and the last day of a roster.
 fn tell_days<E: Sink>(err: &mut E, first: u32, last: u32)
-    ensures { (day : List ℕ) → spec.IsTold (E.taken err.old) (E.taken err.new) (E.faults err.old) (E.faults err.new) (spec.line_of day (Status.Input (InputFault.Days first last))) }
+    ensures { (day : List ℕ) → IsTold (E.taken err.old) (E.taken err.new) (E.faults err.old) (E.faults err.new) (spec.line_of day (Status.Input (InputFault.Days first last))) }
 {
     let is_whole = write_part(err, true, b"days: ");
     let is_whole = write_number(err, is_whole, first as u64);
@@ -279,7 +232,7 @@ fn tell_days<E: Sink>(err: &mut E, first: u32, last: u32)
 }
 
 fn tell_input<E: Sink>(err: &mut E, fault: &InputFault)
-    ensures { (day : List ℕ) → spec.IsTold (E.taken err.old) (E.taken err.new) (E.faults err.old) (E.faults err.new) (spec.line_of day (Status.Input fault.now)) }
+    ensures { (day : List ℕ) → IsTold (E.taken err.old) (E.taken err.new) (E.faults err.old) (E.faults err.new) (spec.line_of day (Status.Input fault.now)) }
 {
     match fault {
         InputFault::Text { file, fault } => tell_text(err, *file, fault),
@@ -294,13 +247,13 @@ fn tell_input<E: Sink>(err: &mut E, fault: &InputFault)
 /// Writes the line of a refusal, for a day as its word has it. It takes no memory. Where a write fails, the rest of the line is left out.
 pub fn tell<E: Sink>(err: &mut E, day: &[u8], status: &Status)
     requires { is_done status.now ≡ false }
-    ensures { spec.IsTold (E.taken err.old) (E.taken err.new) (E.faults err.old) (E.faults err.new) (spec.line_of day.now status.now) }
+    ensures { IsTold (E.taken err.old) (E.taken err.new) (E.faults err.old) (E.faults err.new) (spec.line_of day.now status.now) }
 {
     match status {
         Status::Ok => unreachable!(),
         Status::CheckNo(_) => unreachable!(),
         Status::Usage => {
-            tell_line(
+            write_line(
                 err,
                 b"usage: planner trips|day|plan|certify|check|make|replan|week\n",
             );
@@ -315,7 +268,7 @@ pub fn tell<E: Sink>(err: &mut E, day: &[u8], status: &Status)
         Status::NotPlaced { name, .. } => tell_left(err, *name),
         Status::OldPlan(reason) => tell_old_plan(err, reason),
         Status::ReadFault { file } => tell_number(err, b"read fault: file ", *file as u64),
-        Status::WriteFault => tell_line(err, b"write fault\n"),
-        Status::Memory => tell_line(err, b"out of memory\n"),
+        Status::WriteFault => write_line(err, b"write fault\n"),
+        Status::Memory => write_line(err, b"out of memory\n"),
     }
 }

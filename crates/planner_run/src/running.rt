@@ -11,8 +11,9 @@ ghost use Rattle.command_words.specs.declared.request.Request.{Request as RunReq
 ghost use Rattle.cover_core.specs.declared.Plan.{Plan as RunPlan};
 ghost use Rattle.day_calendar.specs.declared.day.DayFault.{DayFault as FaultOfDay};
 ghost use Rattle.input_files.specs.Inputs.{IsReadFault, NoneRose};
+ghost use Rattle.input_files.specs.Lines.{IsTold};
 ghost use Rattle.planner_run.specs.Endings.{is_done};
-ghost use Rattle.planner_run.specs.Lines.{IsTold, line_of};
+ghost use Rattle.planner_run.specs.Lines.{line_of};
 ghost use Rattle.planner_run.specs.MadeEnds.{IsMadeEnding};
 ghost use Rattle.planner_run.specs.Run.{IsAnswer, IsEndingOf, IsRefusal, TakesAnswer, TakesFrontOfAnswer, is_open, names_for, stage_of, told, told_for};
 ghost use Rattle.planner_run.specs.Tasks.{checks, climbs, task_of};

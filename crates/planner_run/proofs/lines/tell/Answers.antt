@@ -7,10 +7,10 @@ pub returns-in-ReadFault : goal.returns-in-ReadFault
 returns-in-ReadFault g c = rw c.in-ReadFault.is c.tell_number.ensures
 
 pub returns-in-WriteFault : goal.returns-in-WriteFault
-returns-in-WriteFault g c = rw c.in-WriteFault.is c.tell_line-in-WriteFault.ensures
+returns-in-WriteFault g c = rw c.in-WriteFault.is c.write_line-in-WriteFault.ensures
 
 pub returns-in-Memory : goal.returns-in-Memory
-returns-in-Memory g c = rw c.in-Memory.is c.tell_line-in-Memory.ensures
+returns-in-Memory g c = rw c.in-Memory.is c.write_line-in-Memory.ensures
 
 pub returns-in-NotPlaced : goal.returns-in-NotPlaced
 returns-in-NotPlaced g c = rw c.in-NotPlaced.is c.tell_left.ensures
