@@ -7,12 +7,4 @@ use Rattle.planner_run.specs.declared.status.Status.TheVariants as statuses
 abbrev pub is_done : Status → Bool
 is_done statuses.Ok = true
 is_done (statuses.CheckNo reason) = true
-is_done statuses.Usage = false
-is_done (statuses.Input fault) = false
-is_done (statuses.Day fault) = false
-is_done (statuses.NoPlan side bound places) = false
-is_done (statuses.NotPlaced side item name partial) = false
-is_done (statuses.ReadFault file) = false
-is_done statuses.WriteFault = false
-is_done statuses.Memory = false
-is_done (statuses.OldPlan reason) = false
+is_done _ = false

@@ -16,11 +16,4 @@ abbrev pub IsMadeEnding : Status → Type 0
 IsMadeEnding statuses.Ok = Unit {0}
 IsMadeEnding statuses.Memory = Unit {0}
 IsMadeEnding statuses.WriteFault = Unit {0}
-IsMadeEnding statuses.Usage = ⊥
-IsMadeEnding (statuses.Input fault) = ⊥
-IsMadeEnding (statuses.Day fault) = ⊥
-IsMadeEnding (statuses.NoPlan side bound places) = ⊥
-IsMadeEnding (statuses.NotPlaced side item name partial) = ⊥
-IsMadeEnding (statuses.ReadFault file) = ⊥
-IsMadeEnding (statuses.CheckNo reason) = ⊥
-IsMadeEnding (statuses.OldPlan reason) = ⊥
+IsMadeEnding _ = ⊥

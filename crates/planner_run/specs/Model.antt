@@ -44,19 +44,9 @@ abbrev pub IsModelCause : List Table → ℕ → Status → Type 0
 IsModelCause tables day (statuses.Input (inputs.Table fault)) = first_fault (schemas_of needs.All) tables ≡ Some fault
 IsModelCause tables day (statuses.Input (inputs.Trips count)) = HasModelFault tables day (models.TooManyTrips count)
 IsModelCause tables day (statuses.Input (inputs.Params fault)) = HasModelFault tables day (models.Params fault)
-IsModelCause tables day (statuses.Input (inputs.Days first last)) = ⊥
 IsModelCause tables day (statuses.Input (inputs.Trip fid fault)) = HasModelFault tables day (models.Trip fid fault)
 IsModelCause tables day (statuses.Day fault) = (first_fault (schemas_of needs.All) tables ≡ None) × IsDayFault (net_of needs.All tables) day fault
-IsModelCause tables day (statuses.Input (inputs.Text file fault)) = ⊥
-IsModelCause tables day (statuses.NoPlan side bound places) = ⊥
-IsModelCause tables day (statuses.NotPlaced side item name partial) = ⊥
-IsModelCause tables day statuses.Memory = ⊥
-IsModelCause tables day statuses.Ok = ⊥
-IsModelCause tables day statuses.Usage = ⊥
-IsModelCause tables day (statuses.ReadFault file) = ⊥
-IsModelCause tables day statuses.WriteFault = ⊥
-IsModelCause tables day (statuses.CheckNo reason) = ⊥
-IsModelCause tables day (statuses.OldPlan reason) = ⊥
+IsModelCause tables day _ = ⊥
 
 -- memory ran out, or the tables tell no day
 abbrev pub IsModelRefused : List Table → ℕ → Status → Type 0

@@ -33,25 +33,13 @@ use Rattle.planner_run.specs.Tasks.{Certify, Check, Day, Make, MakeRun, Plan, Re
 abbrev pub stage_of : Task → Stage
 stage_of (Check count) = stages.Planning (count - 1) most_bytes
 stage_of (Replan count moment numbers) = stages.Planning (count - 1) most_bytes
-stage_of Trips = stages.Planning 63 most_bytes
-stage_of Day = stages.Planning 63 most_bytes
-stage_of (Plan asked) = stages.Planning 63 most_bytes
-stage_of (Certify asked) = stages.Planning 63 most_bytes
-stage_of (Make seed trips) = stages.Planning 63 most_bytes
-stage_of (MakeRun seed trips asked) = stages.Planning 63 most_bytes
-stage_of Week = stages.Planning 63 most_bytes
+stage_of _ = stages.Planning 63 most_bytes
 
 -- the planning tables of all files, from those of each file
 abbrev pub tables_in : Task → List (List Table) → List Table
 tables_in (Check count) parts = joined (take count parts)
 tables_in (Replan count moment numbers) parts = joined (take count parts)
-tables_in Trips parts = joined parts
-tables_in Day parts = joined parts
-tables_in (Plan asked) parts = joined parts
-tables_in (Certify asked) parts = joined parts
-tables_in (Make seed trips) parts = joined parts
-tables_in (MakeRun seed trips asked) parts = joined parts
-tables_in Week parts = joined parts
+tables_in _ parts = joined parts
 
 -- the text that a command writes of the planning tables, for a day; a day that is made is its own tables
 abbrev pub IsText : Task → List Table → ℕ → List ℕ → Type 0
@@ -72,25 +60,13 @@ IsWhole (Check count) parts day ending bytes =
     IsCheckText (joined (take count parts)) (slice_index_or parts count []) (slice_index_or parts (count + 1) []) day ending bytes
 IsWhole (Replan count moment numbers) parts day ending bytes =
     IsReplanText numbers moment (joined (take count parts)) (slice_index_or parts count []) day bytes × (ending ≡ statuses.Ok)
-IsWhole Trips parts day ending bytes = IsText Trips (joined parts) day bytes × (ending ≡ statuses.Ok)
-IsWhole Day parts day ending bytes = IsText Day (joined parts) day bytes × (ending ≡ statuses.Ok)
-IsWhole (Plan asked) parts day ending bytes = IsText (Plan asked) (joined parts) day bytes × (ending ≡ statuses.Ok)
-IsWhole (Certify asked) parts day ending bytes = IsText (Certify asked) (joined parts) day bytes × (ending ≡ statuses.Ok)
-IsWhole (Make seed trips) parts day ending bytes = IsText (Make seed trips) (joined parts) day bytes × (ending ≡ statuses.Ok)
-IsWhole (MakeRun seed trips asked) parts day ending bytes = IsText (MakeRun seed trips asked) (joined parts) day bytes × (ending ≡ statuses.Ok)
-IsWhole Week parts day ending bytes = IsText Week (joined parts) day bytes × (ending ≡ statuses.Ok)
+IsWhole task parts day ending bytes = IsText task (joined parts) day bytes × (ending ≡ statuses.Ok)
 
 -- so many files were read: planning files, for a check a plan and a certificate, and an earlier plan where a day is planned anew
 abbrev pub HasParts : Task → ℕ → Type 0
 HasParts (Check count) files = files ≡ count + 2
 HasParts (Replan count moment numbers) files = files ≡ count + 1
-HasParts Trips files = Unit {0}
-HasParts Day files = Unit {0}
-HasParts (Plan asked) files = Unit {0}
-HasParts (Certify asked) files = Unit {0}
-HasParts (Make seed trips) files = Unit {0}
-HasParts (MakeRun seed trips asked) files = Unit {0}
-HasParts Week files = Unit {0}
+HasParts _ files = Unit {0}
 
 -- why a command refuses the planning tables, for a day
 abbrev pub IsCause : Task → List Table → ℕ → Status → Type 0
@@ -113,15 +89,7 @@ IsRefused task tables day status = (status ≡ statuses.Memory) ⊎ IsCause task
 abbrev pub IsPartsCause : Task → List (List Table) → ℕ → Status → Type 0
 IsPartsCause (Replan count moment numbers) parts day status =
     IsReplanCause numbers moment (joined (take count parts)) (slice_index_or parts count []) day status
-IsPartsCause (Check count) parts day status = IsCause (Check count) (tables_in (Check count) parts) day status
-IsPartsCause Trips parts day status = IsCause Trips (tables_in Trips parts) day status
-IsPartsCause Day parts day status = IsCause Day (tables_in Day parts) day status
-IsPartsCause (Plan asked) parts day status = IsCause (Plan asked) (tables_in (Plan asked) parts) day status
-IsPartsCause (Certify asked) parts day status = IsCause (Certify asked) (tables_in (Certify asked) parts) day status
-IsPartsCause (Make seed trips) parts day status = IsCause (Make seed trips) (tables_in (Make seed trips) parts) day status
-IsPartsCause (MakeRun seed trips asked) parts day status =
-    IsCause (MakeRun seed trips asked) (tables_in (MakeRun seed trips asked) parts) day status
-IsPartsCause Week parts day status = IsCause Week (tables_in Week parts) day status
+IsPartsCause task parts day status = IsCause task (tables_in task parts) day status
 
 -- memory ran out, or the command refuses the tables of each file for the day
 abbrev pub ArePartsRefused : Task → List (List Table) → ℕ → Status → Type 0
@@ -151,12 +119,7 @@ IsRefusal task contents day (statuses.Day fault) = IsTablesRefusal task contents
 IsRefusal task contents day (statuses.NoPlan side bound places) = IsTablesRefusal task contents day (statuses.NoPlan side bound places)
 IsRefusal task contents day (statuses.NotPlaced side item name partial) = IsTablesRefusal task contents day (statuses.NotPlaced side item name partial)
 IsRefusal task contents day (statuses.OldPlan reason) = IsTablesRefusal task contents day (statuses.OldPlan reason)
-IsRefusal task contents day statuses.Memory = ⊥
-IsRefusal task contents day statuses.Ok = ⊥
-IsRefusal task contents day statuses.Usage = ⊥
-IsRefusal task contents day (statuses.ReadFault file) = ⊥
-IsRefusal task contents day statuses.WriteFault = ⊥
-IsRefusal task contents day (statuses.CheckNo reason) = ⊥
+IsRefusal task contents day _ = ⊥
 
 -- why there is no text: a refusal, or a count of faults that rose; want of memory needs no cause
 abbrev pub IsAnswerCause : (Status → Type 0) → (ℕ → Type 0) → Status → Type 0
@@ -167,10 +130,7 @@ IsAnswerCause refusal read_fault (statuses.Day fault) = refusal (statuses.Day fa
 IsAnswerCause refusal read_fault (statuses.NoPlan side bound places) = refusal (statuses.NoPlan side bound places)
 IsAnswerCause refusal read_fault (statuses.NotPlaced side item name partial) = refusal (statuses.NotPlaced side item name partial)
 IsAnswerCause refusal read_fault (statuses.OldPlan reason) = refusal (statuses.OldPlan reason)
-IsAnswerCause refusal read_fault statuses.Ok = ⊥
-IsAnswerCause refusal read_fault statuses.Usage = ⊥
-IsAnswerCause refusal read_fault statuses.WriteFault = ⊥
-IsAnswerCause refusal read_fault (statuses.CheckNo reason) = ⊥
+IsAnswerCause refusal read_fault _ = ⊥
 
 -- the whole text was added to what was taken before
 pub record TakesAnswer (task : Task) (contents : List (List ℕ)) (day : ℕ) (ending : Status) (taken : Option (List ℕ)) (old : List ℕ) : Type 0 where
@@ -198,21 +158,7 @@ told held request = held_under held request.names
 -- the names of the files that a refusal speaks of: those up to the one whose text has the fault, or all
 abbrev pub names_for : List (List ℕ) → Status → List (List ℕ)
 names_for names (statuses.Input (inputs.Text file fault)) = take file names
-names_for names (statuses.Input (inputs.Table fault)) = names
-names_for names (statuses.Input (inputs.Trips count)) = names
-names_for names (statuses.Input (inputs.Params fault)) = names
-names_for names (statuses.Input (inputs.Days first last)) = names
-names_for names (statuses.Input (inputs.Trip fid fault)) = names
-names_for names (statuses.Day fault) = names
-names_for names (statuses.NoPlan side bound places) = names
-names_for names (statuses.NotPlaced side item name partial) = names
-names_for names statuses.Memory = names
-names_for names statuses.Ok = names
-names_for names statuses.Usage = names
-names_for names (statuses.ReadFault file) = names
-names_for names statuses.WriteFault = names
-names_for names (statuses.CheckNo reason) = names
-names_for names (statuses.OldPlan reason) = names
+names_for names _ = names
 
 -- what these files hold, where all of them tell it
 abbrev pub told_for : (List ℕ → Option (List ℕ)) → List (List ℕ) → Status → Option (List (List ℕ))
@@ -222,15 +168,7 @@ told_for held names status = held_under held (names_for names status)
 abbrev pub is_of_planning : Status → Bool
 is_of_planning (statuses.NoPlan side bound places) = true
 is_of_planning (statuses.NotPlaced side item name partial) = true
-is_of_planning (statuses.Input fault) = false
-is_of_planning (statuses.Day fault) = false
-is_of_planning (statuses.ReadFault file) = false
-is_of_planning statuses.Memory = false
-is_of_planning statuses.Ok = false
-is_of_planning statuses.Usage = false
-is_of_planning statuses.WriteFault = false
-is_of_planning (statuses.CheckNo reason) = false
-is_of_planning (statuses.OldPlan reason) = false
+is_of_planning _ = false
 
 -- Whether the definitions leave open if it is this refusal that comes. What climbing promises may be met by several plans and bounds.
 abbrev pub is_open : Task → Status → Bool
@@ -240,15 +178,7 @@ is_open task status = is_of_planning status && climbs task
 abbrev pub IsUnread : Status → Type 0
 IsUnread statuses.Memory = Unit {0}
 IsUnread (statuses.ReadFault file) = Unit {0}
-IsUnread statuses.Ok = ⊥
-IsUnread (statuses.CheckNo reason) = ⊥
-IsUnread (statuses.OldPlan reason) = ⊥
-IsUnread statuses.Usage = ⊥
-IsUnread (statuses.Input fault) = ⊥
-IsUnread (statuses.Day fault) = ⊥
-IsUnread (statuses.NoPlan side bound places) = ⊥
-IsUnread (statuses.NotPlaced side item name partial) = ⊥
-IsUnread statuses.WriteFault = ⊥
+IsUnread _ = ⊥
 
 -- the status for a file that is refused
 abbrev pub file_status : FileFault → Status
@@ -259,11 +189,4 @@ file_status files.Memory = statuses.Memory
 -- a check may end with a no, and every other command that ends well with Ok
 abbrev pub IsEndingOf : Task → Status → Type 0
 IsEndingOf (Check count) status = is_done status ≡ true
-IsEndingOf (Replan count moment numbers) status = status ≡ statuses.Ok
-IsEndingOf Trips status = status ≡ statuses.Ok
-IsEndingOf Day status = status ≡ statuses.Ok
-IsEndingOf (Plan asked) status = status ≡ statuses.Ok
-IsEndingOf (Certify asked) status = status ≡ statuses.Ok
-IsEndingOf (Make seed trips) status = status ≡ statuses.Ok
-IsEndingOf (MakeRun seed trips asked) status = status ≡ statuses.Ok
-IsEndingOf Week status = status ≡ statuses.Ok
+IsEndingOf _ status = status ≡ statuses.Ok

@@ -48,49 +48,26 @@ task_of request = task_for request.command request.effort request.flow (length r
 
 -- whether a plan is found by climbing
 abbrev pub climbs : Task → Bool
-climbs Trips = false
-climbs Day = false
 climbs (Plan asked) = asked.numbers.climb
 climbs (Certify asked) = asked.numbers.climb
-climbs (Check files) = false
 climbs (Replan files moment numbers) = numbers.climb
-climbs (Make seed trips) = false
 climbs (MakeRun seed trips asked) = asked.numbers.climb
-climbs Week = false
+climbs _ = false
 
 -- whether a plan and a certificate are checked
 abbrev pub checks : Task → Bool
-checks Trips = false
-checks Day = false
-checks (Plan asked) = false
-checks (Certify asked) = false
 checks (Check files) = true
-checks (Replan files moment numbers) = false
-checks (Make seed trips) = false
-checks (MakeRun seed trips asked) = false
-checks Week = false
+checks _ = false
 
 -- whether a command checks a plan and a certificate
 abbrev pub is_check : Command → Bool
-is_check commands.Trips = false
-is_check commands.Day = false
-is_check commands.Plan = false
-is_check commands.Certify = false
 is_check commands.Check = true
-is_check (commands.Replan moment) = false
-is_check (commands.Make making) = false
-is_check commands.Week = false
+is_check _ = false
 
 -- the moment from which a command plans a day anew
 abbrev pub replan_moment : Command → Option ℕ
-replan_moment commands.Trips = None
-replan_moment commands.Day = None
-replan_moment commands.Plan = None
-replan_moment commands.Certify = None
-replan_moment commands.Check = None
 replan_moment (commands.Replan moment) = Some moment
-replan_moment (commands.Make making) = None
-replan_moment commands.Week = None
+replan_moment _ = None
 
 -- whether a plan is read behind the planning files
 abbrev pub reads_plan : Command → Bool

@@ -66,19 +66,7 @@ abbrev pub IsDayCause : List Table → ℕ → Status → Type 0
 IsDayCause tables day (statuses.Input (inputs.Table fault)) = first_fault (schemas_of needs.Calendar) tables ≡ Some fault
 IsDayCause tables day (statuses.Input (inputs.Trips count)) = HasTooMany tables day count
 IsDayCause tables day (statuses.Day fault) = (first_fault (schemas_of needs.Calendar) tables ≡ None) × IsDayFault (net_of needs.Calendar tables) day fault
-IsDayCause tables day (statuses.Input (inputs.Text file fault)) = ⊥
-IsDayCause tables day (statuses.Input (inputs.Params fault)) = ⊥
-IsDayCause tables day (statuses.Input (inputs.Days first last)) = ⊥
-IsDayCause tables day (statuses.Input (inputs.Trip fid fault)) = ⊥
-IsDayCause tables day (statuses.NoPlan side bound places) = ⊥
-IsDayCause tables day (statuses.NotPlaced side item name partial) = ⊥
-IsDayCause tables day statuses.Memory = ⊥
-IsDayCause tables day statuses.Ok = ⊥
-IsDayCause tables day statuses.Usage = ⊥
-IsDayCause tables day (statuses.ReadFault file) = ⊥
-IsDayCause tables day statuses.WriteFault = ⊥
-IsDayCause tables day (statuses.CheckNo reason) = ⊥
-IsDayCause tables day (statuses.OldPlan reason) = ⊥
+IsDayCause tables day _ = ⊥
 
 -- memory ran out, or the tables are refused for the day
 abbrev pub IsRefused : List Table → ℕ → Status → Type 0
