@@ -2,3 +2,4 @@ pub mod Lists
 pub mod Decided
 pub mod Counted
 pub mod Worthy
+pub mod Small

@@ -3,6 +3,7 @@ use Rattle.std.specs.Prelude.{◌≡◌, ◌≢◌, ℕ, ◌<◌, ◌≤◌, Lis
 use Rattle.cover_core.specs.declared.Column.{Column}
 use Rattle.cover_core.specs.Cover.{Problem}
 use Rattle.cover_core.specs.Plans.{IsPlan, times, all_items, all_classes}
+use Rattle.cover_core.specs.FirstLeast.{AreCheap}
 use Rattle.plan_check.specs.declared.verdict.PlanVerdict.{PlanVerdict}
 use Rattle.plan_check.specs.declared.verdict.PlanVerdict.TheVariants.{Lawful, Times, Unlawful, Over}
 
@@ -56,6 +57,20 @@ IsVerdict p lists (Lawful plan) = HaveSameLists lists plan.columns × IsPlan p p
 IsVerdict p lists (Times item count) = IsFirstTimes p.items lists item count
 IsVerdict p lists (Unlawful place) = StandOnce p lists × IsFirstUnlawful p lists place
 IsVerdict p lists (Over class used) = StandOnce p lists × HaveWorths p lists (length lists) × IsFirstOver p lists class used
+
+-- a plan that was found has at most 3,000 lists
+abbrev pub HasFewLists : PlanVerdict → Type 0
+HasFewLists (Lawful plan) = length plan.columns ≤ 3000
+HasFewLists (Times item count) = Unit {0}
+HasFewLists (Unlawful place) = Unit {0}
+HasFewLists (Over class used) = Unit {0}
+
+-- a plan that was found has no list that is worth more than 4,000,000,000
+abbrev pub HasCheapLists : PlanVerdict → Type 0
+HasCheapLists (Lawful plan) = AreCheap plan.columns
+HasCheapLists (Times item count) = Unit {0}
+HasCheapLists (Unlawful place) = Unit {0}
+HasCheapLists (Over class used) = Unit {0}
 
 -- the lists of a plan have one verdict: that they are this plan
 abbrev pub PlansAreFound : Problem → Type 0

@@ -7,7 +7,7 @@ ghost use Rattle.cover_core.specs.Plans.{all_items};
 ghost use Rattle.plan_check.specs.Counts.{IsFirstOf};
 ghost use Rattle.plan_check.specs.Found.{HasPlaceBelow, of_classes, of_worths, worths_of};
 ghost use Rattle.plan_check.specs.Judged.{verdict_of, with_worth, worth_in};
-ghost use Rattle.plan_check.specs.Verdicts.{IsVerdict};
+ghost use Rattle.plan_check.specs.Verdicts.{HasCheapLists, HasFewLists, IsVerdict};
 
 use crate::counts::{class_counts, first_off, item_counts};
 use crate::laws::lists_are_judged;
@@ -86,7 +86,8 @@ fn check_classes<C: Columns>(
 ) -> Result<PlanVerdict, Memory>
     requires lists { length lists.now < 2 ^ 32 }
     requires found { found ≡ map (with_worth (C.problem columns.now)) lists.now }
-    ensures { IfOk result (λ verdict. verdict ≡ of_classes (C.problem columns.now) lists.now) }
+    ensures verdict { IfOk result (λ verdict. verdict ≡ of_classes (C.problem columns.now) lists.now) }
+    ensures cheap { IfOk result HasCheapLists }
 {
     let counts = class_counts(alloc, columns.classes(), lists)?;
     match first_over(columns, counts.as_slice()) {
@@ -105,7 +106,8 @@ fn check_worths<C: Columns>(
     lists: &[Column],
 ) -> Result<PlanVerdict, Memory>
     requires { length lists.now < 2 ^ 32 }
-    ensures { IfOk result (λ verdict. verdict ≡ of_worths (C.problem columns.now) lists.now) }
+    ensures verdict { IfOk result (λ verdict. verdict ≡ of_worths (C.problem columns.now) lists.now) }
+    ensures cheap { IfOk result HasCheapLists }
 {
     match find_worths(alloc, columns, lists)? {
         Worths::NoneAt(place) => Ok(PlanVerdict::Unlawful {
@@ -119,7 +121,9 @@ fn check_worths<C: Columns>(
 fn judge<C: Columns>(alloc: Global, columns: &C, lists: &[Column]) -> Result<PlanVerdict, Memory>
     requires lists { length lists.now < 2 ^ 32 }
     requires items { length (all_items lists.now) < 2 ^ 32 }
-    ensures { IfOk result (λ verdict. verdict ≡ verdict_of (C.problem columns.now) lists.now) }
+    ensures verdict { IfOk result (λ verdict. verdict ≡ verdict_of (C.problem columns.now) lists.now) }
+    ensures few { IfOk result HasFewLists }
+    ensures cheap { IfOk result HasCheapLists }
 {
     let counts = item_counts(alloc, columns.items(), lists)?;
     match first_off(counts.as_slice()) {
@@ -132,7 +136,8 @@ fn judge<C: Columns>(alloc: Global, columns: &C, lists: &[Column]) -> Result<Pla
 }
 
 /// What is found of lists that are offered as a plan of a problem, whatever worths they state: they are one, with the worths that the
-/// problem gives, or the first cause why they are none. A list whose class or one of whose items is not there has no worth.
+/// problem gives, or the first cause why they are none. A list whose class or one of whose items is not there has no worth. A plan has at
+/// most 3,000 lists, each worth at most 4,000,000,000 cost units.
 ///
 /// It takes time in the order of the items and classes and of the lengths of the lists, beside one call of `worth` for each list.
 ///
@@ -146,7 +151,9 @@ pub fn check_plan<C: Columns>(
 ) -> Result<PlanVerdict, Memory>
     requires lists { length lists.now < 2 ^ 32 }
     requires items { length (all_items lists.now) < 2 ^ 32 }
-    ensures { IfOk result (λ verdict. IsVerdict (C.problem columns.now) lists.now verdict) }
+    ensures verdict { IfOk result (λ verdict. IsVerdict (C.problem columns.now) lists.now verdict) }
+    ensures few { IfOk result HasFewLists }
+    ensures cheap { IfOk result HasCheapLists }
 {
     lists_are_judged::<C>();
     judge(alloc, columns, lists)

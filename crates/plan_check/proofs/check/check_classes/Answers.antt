@@ -3,15 +3,17 @@ use Rattle.std.proofs.lemmas.Grind.{get_or_default_zero}
 use Rattle.std.specs.Prelude.{Option, Some, None, slice_index}
 use Rattle.cover_core.specs.declared.Column.{Column}
 use Rattle.cover_core.specs.Plans.{all_classes}
+use Rattle.cover_core.specs.FirstLeast.{AreCheap}
 use Rattle.plan_check.specs.declared.verdict.PlanVerdict.{PlanVerdict}
 use Rattle.plan_check.specs.declared.verdict.PlanVerdict.TheVariants.{Lawful, Over}
 use Rattle.plan_check.specs.Counts.{AreCounts, IsFirstOf}
 use Rattle.plan_check.specs.Judged.{by_classes}
 use Rattle.plan_check.proofs.Counted.{first-over}
+use Rattle.plan_check.proofs.Small.{all-cheap}
 use Rattle.plan_check.proofs.check.check_classes.Goals as goal
 
-pub returns-in-Some : goal.returns-in-Some
-returns-in-Some g c =
+pub returns-in-Some-clause-verdict : goal.returns-in-Some-clause-verdict
+returns-in-Some-clause-verdict g c =
     let p = g.C.Columns.problem c.args.columns.now in
     let lists = c.args.lists.now in
     let counts = c.in_ok-counts.counts.items in
@@ -26,8 +28,8 @@ returns-in-Some g c =
     let over : ℕ → PlanVerdict = λ used. Over c.in-Some.class used in
     ap over read ∙ sym (ap (by_classes p lists) found)
 
-pub returns-in-None : goal.returns-in-None
-returns-in-None g c =
+pub returns-in-None-clause-verdict : goal.returns-in-None-clause-verdict
+returns-in-None-clause-verdict g c =
     let p = g.C.Columns.problem c.args.columns.now in
     let lists = c.args.lists.now in
     let counts = c.in_ok-counts.counts.items in
@@ -38,3 +40,8 @@ returns-in-None g c =
     let found = first-over p lists counts None long c.in_ok-counts.ensures.counts first in
     let lawful : List Column → PlanVerdict = λ columns. Lawful (record { columns = columns }) in
     ap lawful c.requires.found ∙ sym (ap (by_classes p lists) found)
+
+pub returns-in-None-clause-cheap : goal.returns-in-None-clause-cheap
+returns-in-None-clause-cheap g c =
+    let p = g.C.Columns.problem c.args.columns.now in
+    subst AreCheap (sym c.requires.found) (all-cheap p c.args.lists.now c.classes.ensures.worths)

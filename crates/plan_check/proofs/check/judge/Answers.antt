@@ -1,4 +1,4 @@
-use Rattle.std.proofs.Common.{◌≡◌, ◌<◌, List, ℕ, length, not, nat_eq, ap, ◌∙◌, sym, subst, arith}
+use Rattle.std.proofs.Common.{◌≡◌, ◌<◌, ◌≤◌, List, ℕ, length, not, nat_eq, ap, ◌∙◌, sym, subst, arith}
 use Rattle.std.proofs.lemmas.Grind.{get_or_default_zero}
 use Rattle.std.specs.Prelude.{Option, Some, None, IfOk, slice_index}
 use Rattle.plan_check.specs.declared.verdict.PlanVerdict.{PlanVerdict}
@@ -6,10 +6,11 @@ use Rattle.plan_check.specs.declared.verdict.PlanVerdict.TheVariants.{Times}
 use Rattle.plan_check.specs.Counts.{IsFirstOf}
 use Rattle.plan_check.specs.Judged.{by_items, first_of, is_off}
 use Rattle.plan_check.proofs.Counted.{first-off}
+use Rattle.plan_check.proofs.Small.{few-judged}
 use Rattle.plan_check.proofs.check.judge.Goals as goal
 
-pub returns-in-Some : goal.returns-in-Some
-returns-in-Some g c =
+pub returns-in-Some-clause-verdict : goal.returns-in-Some-clause-verdict
+returns-in-Some-clause-verdict g c =
     let p = g.C.Columns.problem c.args.columns.now in
     let lists = c.args.lists.now in
     let counts = c.in_ok-counts.counts.items in
@@ -24,8 +25,8 @@ returns-in-Some g c =
     let times : ℕ → PlanVerdict = λ count. Times c.in-Some.item count in
     ap times read ∙ sym (ap (by_items p lists) (sym items ∙ found))
 
-pub returns : goal.returns
-returns g c =
+pub returns-clause-verdict : goal.returns-clause-verdict
+returns-clause-verdict g c =
     let p = g.C.Columns.problem c.args.columns.now in
     let lists = c.args.lists.now in
     let counts = c.in_ok-counts.counts.items in
@@ -36,4 +37,10 @@ returns g c =
     let found = first-off lists counts None c.in_ok-counts.ensures.counts first in
     let items = ap (λ (n : ℕ). first_of n 0 (is_off lists)) long in
     let R : PlanVerdict → Type 0 = λ v. IfOk c.check_worths.result (λ verdict. verdict ≡ v) in
-    subst R (sym (ap (by_items p lists) (sym items ∙ found))) c.check_worths.ensures
+    subst R (sym (ap (by_items p lists) (sym items ∙ found))) c.check_worths.ensures.verdict
+
+pub returns-clause-few : goal.returns-clause-few
+returns-clause-few g c =
+    let p = g.C.Columns.problem c.args.columns.now in
+    let few : p.items ≤ 3000 = subst (λ (n : ℕ). n ≤ 3000) c.items.ensures.value c.items.ensures.few in
+    few-judged p c.args.lists.now c.check_worths.result (g.met.C.Columns.listed c.args.columns.now) few (returns-clause-verdict g c)
