@@ -1,5 +1,5 @@
 -- What is read in the layout of a day is what the day says.
-use Rattle.std.proofs.Common.{◌≡◌, ℕ, ◌+◌, ◌*◌, ◌<◌, Bool, true, false, List, length, map, Option, Some, refl, sym, ap, subst, ◌∙◌, slice_get, slice_index, get_or, is_some}
+use Rattle.std.proofs.Common.{◌≡◌, ℕ, ◌+◌, ◌*◌, ◌<◌, Bool, true, false, List, length, map, Option, Some, refl, sym, ap, subst, ◌∙◌, slice_get, slice_index, get_or, is_some, arith}
 use Rattle.std.specs.Prelude.{unwrap_or}
 use Rattle.std.proofs.lemmas.List.{length-map}
 use Rattle.std.proofs.lemmas.Option.{slice_get_within, get_or_from_slice_get}
@@ -16,17 +16,25 @@ use Rattle.point_grid.specs.declared.numbering.Numbering.{Numbering}
 use Rattle.point_grid.specs.Grid.{IsGrid, told}
 use Rattle.point_grid.specs.Numbering.{AreNumbered}
 use Rattle.point_grid.proofs.Flat.{cell_told, cell_within, flat_at, grid_cell, mapped_at, there}
+use Rattle.day_model.specs.Begins.{AreHeads, AreMinutes, AreNexts}
 use Rattle.day_model.specs.Facts.{DayFacts, admits, dead, is_relief}
 use Rattle.day_model.specs.Layout.{AreLaidOut, admissions_of, reliefs_of}
 use Rattle.day_model.specs.Links.{admits_at, given, pull_in_at, with_pool, with_trip}
 
+-- numbers are below the count of the points
+pub numbers_below : (given : List Point) (numbering : Numbering) → AreNumbered given numbering → (i : ℕ) → i < length numbering.numbers → slice_index numbering.numbers i < length numbering.points
+numbers_below given numbering are i inside =
+    let many = are.count in
+    let (point, at) = there given i (omega (arith, many, inside)) in
+    slice_get_within numbering.points _ point (are.points i point at)
+
 -- a layout is made of its parts
-laid_of : (trips : List Trip) (params : ParamRows) (deads : List (Ends × ℕ)) (begins ends : Numbering) (between outward inward : Grid) (admitted relieved : List Bool) →
+laid_of : (trips : List Trip) (params : ParamRows) (deads : List (Ends × ℕ)) (begins ends : Numbering) (firsts nexts minutes : List ℕ) (between outward inward : Grid) (admitted relieved : List Bool) →
     AreNumbered (map (λ (trip : Trip). trip.from) trips) begins → AreNumbered (map (λ (trip : Trip). trip.to) trips) ends →
     IsGrid (dead_on deads) ends.points begins.points between → IsGrid (dead_on deads) (map (λ (pool : Pool). pool.depot) params.pools) begins.points outward →
-    IsGrid (dead_on deads) ends.points (map (λ (pool : Pool). pool.depot) params.pools) inward → admitted ≡ admissions_of params params.pools trips → relieved ≡ reliefs_of params trips →
-    AreLaidOut trips params deads (record { begins = begins.numbers; ends = ends.numbers; between = between; outward = outward; inward = inward; admitted = admitted; relieved = relieved })
-laid_of trips params deads begins ends between outward inward admitted relieved first last are_between are_outward are_inward are_admitted are_relieved =
+    IsGrid (dead_on deads) ends.points (map (λ (pool : Pool). pool.depot) params.pools) inward → admitted ≡ admissions_of params params.pools trips → relieved ≡ reliefs_of params trips → length firsts ≡ length begins.points → AreHeads begins.numbers firsts 0 → AreNexts begins.numbers nexts 0 → AreMinutes trips 2881 minutes →
+    AreLaidOut trips params deads (record { begins = begins.numbers; firsts = firsts; nexts = nexts; minutes = minutes; ends = ends.numbers; between = between; outward = outward; inward = inward; admitted = admitted; relieved = relieved })
+laid_of trips params deads begins ends firsts nexts minutes between outward inward admitted relieved first last are_between are_outward are_inward are_admitted are_relieved room are_firsts are_nexts are_minutes =
     let from : Trip → Point = λ trip. trip.from in
     let to : Trip → Point = λ trip. trip.to in
     let depot : Pool → Point = λ pool. pool.depot in
@@ -38,11 +46,23 @@ laid_of trips params deads begins ends between outward inward admitted relieved 
       inward = λ class t pool trip at at'. grid_cell (dead_on deads) ends.points (map depot params.pools) inward (slice_index ends.numbers t) class trip.to pool.depot are_inward (last.points t trip.to (mapped_at to trips t trip at')) (mapped_at depot params.pools class pool at);
       admitted = are_admitted;
       relieved = are_relieved;
-      numbers = record {
-        count = first.count ∙ length-map trips from;
+      departures = record {
+        points = record {
+          count = first.count ∙ length-map trips from;
+          same = λ t u trip next at at' one.
+              let P : ℕ → Type 0 = λ n. slice_get begins.points n ≡ Some trip.from in
+              one_point trip.from next.from (sym (subst P one (first.points t trip.from (mapped_at from trips t trip at))) ∙ first.points u next.from (mapped_at from trips u next at'));
+        };
+        below = λ t inside. (let less = numbers_below (map from trips) begins first t inside in omega (arith, less, room));
+        heads = are_firsts;
+        chains = are_nexts;
+      };
+      minutes = are_minutes;
+      lasts = record {
+        count = last.count ∙ length-map trips to;
         same = λ t u trip next at at' one.
-            let P : ℕ → Type 0 = λ n. slice_get begins.points n ≡ Some trip.from in
-            one_point trip.from next.from (sym (subst P one (first.points t trip.from (mapped_at from trips t trip at))) ∙ first.points u next.from (mapped_at from trips u next at'));
+            let P : ℕ → Type 0 = λ n. slice_get ends.points n ≡ Some trip.to in
+            one_point trip.to next.to (sym (subst P one (last.points t trip.to (mapped_at to trips t trip at))) ∙ last.points u next.to (mapped_at to trips u next at'));
       };
     }
   where
@@ -50,19 +70,19 @@ laid_of trips params deads begins ends between outward inward admitted relieved 
     one_point a b e = let f : Option Point → Point = λ o. unwrap_or o a in ap f e
 
 -- the same, where its parts are over lists of points that are read first
-pub laid_out : (trips : List Trip) (params : ParamRows) (deads : List (Ends × ℕ)) (begins ends : Numbering) (between outward inward : Grid) (admitted relieved : List Bool) (firsts lasts depots from to : List Point) →
-    firsts ≡ map (λ (trip : Trip). trip.from) trips → lasts ≡ map (λ (trip : Trip). trip.to) trips → depots ≡ map (λ (pool : Pool). pool.depot) params.pools →
+pub laid_out : (trips : List Trip) (params : ParamRows) (deads : List (Ends × ℕ)) (begins ends : Numbering) (firsts nexts minutes : List ℕ) (between outward inward : Grid) (admitted relieved : List Bool) (first_points lasts depots from to : List Point) →
+    first_points ≡ map (λ (trip : Trip). trip.from) trips → lasts ≡ map (λ (trip : Trip). trip.to) trips → depots ≡ map (λ (pool : Pool). pool.depot) params.pools →
     from ≡ begins.points → to ≡ ends.points →
-    AreNumbered firsts begins → AreNumbered lasts ends → IsGrid (dead_on deads) to from between → IsGrid (dead_on deads) depots from outward → IsGrid (dead_on deads) to depots inward → admitted ≡ admissions_of params params.pools trips → relieved ≡ reliefs_of params trips →
-    AreLaidOut trips params deads (record { begins = begins.numbers; ends = ends.numbers; between = between; outward = outward; inward = inward; admitted = admitted; relieved = relieved })
-laid_out trips params deads begins ends between outward inward admitted relieved firsts lasts depots from to e1 e2 e3 e4 e5 first last are_between are_outward are_inward are_admitted are_relieved =
-    laid_of trips params deads begins ends between outward inward admitted relieved
+    AreNumbered first_points begins → AreNumbered lasts ends → IsGrid (dead_on deads) to from between → IsGrid (dead_on deads) depots from outward → IsGrid (dead_on deads) to depots inward → admitted ≡ admissions_of params params.pools trips → relieved ≡ reliefs_of params trips → length firsts ≡ length begins.points → AreHeads begins.numbers firsts 0 → AreNexts begins.numbers nexts 0 → AreMinutes trips 2881 minutes →
+    AreLaidOut trips params deads (record { begins = begins.numbers; firsts = firsts; nexts = nexts; minutes = minutes; ends = ends.numbers; between = between; outward = outward; inward = inward; admitted = admitted; relieved = relieved })
+laid_out trips params deads begins ends firsts nexts minutes between outward inward admitted relieved first_points lasts depots from to e1 e2 e3 e4 e5 first last are_between are_outward are_inward are_admitted are_relieved room are_firsts are_nexts are_minutes =
+    laid_of trips params deads begins ends firsts nexts minutes between outward inward admitted relieved
     (let P : List Point → Type 0 = λ ps. AreNumbered ps begins in subst P e1 first)
     (let P : List Point → Type 0 = λ ps. AreNumbered ps ends in subst P e2 last)
     (let P : List Point → Type 0 = λ ps. IsGrid (dead_on deads) ends.points ps between in let Q : List Point → Type 0 = λ ps. IsGrid (dead_on deads) ps from between in subst P e4 (subst Q e5 are_between))
     (let P : List Point → Type 0 = λ ps. IsGrid (dead_on deads) (map (λ (pool : Pool). pool.depot) params.pools) ps outward in let Q : List Point → Type 0 = λ ps. IsGrid (dead_on deads) ps from outward in subst P e4 (subst Q e3 are_outward))
     (let P : List Point → Type 0 = λ ps. IsGrid (dead_on deads) ends.points ps inward in let Q : List Point → Type 0 = λ ps. IsGrid (dead_on deads) ps depots inward in subst P e3 (subst Q e5 are_inward))
-    are_admitted are_relieved
+    are_admitted are_relieved room are_firsts are_nexts are_minutes
 
 abbrev pub place : Grid → ℕ → ℕ → ℕ
 place grid row column = row * grid.columns + column

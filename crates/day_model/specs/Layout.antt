@@ -9,7 +9,7 @@ use Rattle.plan_params.specs.declared.rows.pool.Pool.{Pool}
 use Rattle.plan_params.specs.LookUps.{admits_in, is_relief_in}
 use Rattle.point_grid.specs.Grid.{IsCell}
 use Rattle.day_model.specs.declared.layout.Layout.{Layout}
-use Rattle.day_model.specs.Begins.{AreBeginNumbers}
+use Rattle.day_model.specs.Begins.{AreDepartures, AreEndNumbers, AreMinutes}
 
 -- whether each of the pools admits each of the trips, pool by pool
 abbrev pub admissions_of : ParamRows → List Pool → List Trip → List Bool
@@ -31,4 +31,6 @@ pub record AreLaidOut (trips : List Trip) (params : ParamRows) (deads : List (En
       IsCell layout.inward (slice_index layout.ends t) class (dead_on deads trip.to pool.depot)
   pub admitted : layout.admitted ≡ admissions_of params params.pools trips
   pub relieved : layout.relieved ≡ reliefs_of params trips
-  pub numbers : AreBeginNumbers trips layout.begins
+  pub departures : AreDepartures trips layout.begins layout.firsts layout.nexts
+  pub minutes : AreMinutes trips 2881 layout.minutes
+  pub lasts : AreEndNumbers trips layout.ends

@@ -5,12 +5,13 @@ ghost use Rattle.vdv452_tables.specs.Ranges.{IsTime};
 ghost use Rattle.trip_times.specs.declared.trip.Trip.{Trip};
 ghost use Rattle.plan_params.specs.Limits.{HaveRanges};
 ghost use Rattle.day_model.specs.Building.{most_trips};
-ghost use Rattle.day_model.specs.Begins.{AreBeginNumbers};
+ghost use Rattle.day_model.specs.Begins.{AreDepartures, AreEndNumbers, AreMinutes};
 ghost use Rattle.day_model.specs.Facts.{dead, is_relief};
 ghost use Rattle.day_model.specs.Layout.{AreLaidOut};
 ghost use Rattle.day_model.specs.Links.{admits_at, link_at, pull_in_at, pull_out_at, with_pool, with_trip};
 ghost use Rattle.day_model.specs.Ranges.{AreInRange, IsDaily, IsShort};
 
+use crate::departures::Departures;
 use crate::going::{by_depot, direct, leaving};
 use crate::layout::Layout;
 use crate::link::Link;
@@ -115,12 +116,33 @@ impl Day {
         &self.trips()[number as usize]
     }
 
-    /// For each trip a number of its first point: trips with one number begin at one point. The numbers are dense, from 0.
-    pub fn begin_numbers(&self) -> &[u32]
-        ensures { AreBeginNumbers self.now.trips result.now }
+    /// The trips by the points at which they begin.
+    pub fn departures(&self) -> Departures<'_>
+        ensures { AreDepartures self.now.trips result.numbers.now result.firsts.now result.nexts.now }
     {
         let layout: &Layout = &self.layout;
-        layout.begins.as_slice()
+        Departures {
+            numbers: layout.begins.as_slice(),
+            firsts: layout.firsts.as_slice(),
+            nexts: layout.nexts.as_slice(),
+        }
+    }
+
+    /// For each minute of two days, 0 to 2,880, a place such that no trip before it begins in the minute or later: the number of the first
+    /// trip that does, or the number of trips where none does.
+    pub fn by_minute(&self) -> &[u32]
+        ensures { AreMinutes self.now.trips 2881 result.now }
+    {
+        let layout: &Layout = &self.layout;
+        layout.minutes.as_slice()
+    }
+
+    /// For each trip a number of its last point: trips with one number end at one point. The numbers are dense, from 0.
+    pub fn end_numbers(&self) -> &[u32]
+        ensures { AreEndNumbers self.now.trips result.now }
+    {
+        let layout: &Layout = &self.layout;
+        layout.ends.as_slice()
     }
 
     /// How long the deadhead from a trip to another takes, in seconds; none where there is none.

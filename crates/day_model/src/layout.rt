@@ -6,6 +6,7 @@ ghost use Rattle.plan_params.specs.LookUps.{admits_in, is_relief_in};
 ghost use Rattle.day_model.specs.Building.{most_trips};
 ghost use Rattle.day_model.specs.Layout.{AreLaidOut, admissions_of, reliefs_of};
 
+use crate::departures::{chains_of, minutes_of};
 use deadheads::Deadheads;
 use plan_core::{Memory, Point, Seq};
 use plan_params::{Params, Pool};
@@ -18,6 +19,12 @@ use trip_times::Trip;
 pub struct Layout {
     /// For each trip the number of its first point.
     pub begins: Seq<u32>,
+    /// For each of these numbers the first trip that has it.
+    pub firsts: Seq<u32>,
+    /// For each trip the next one that begins at its first point; the number of trips where there is none.
+    pub nexts: Seq<u32>,
+    /// For each minute a place such that no trip before it begins then or later.
+    pub minutes: Seq<u32>,
     /// For each trip the number of its last point.
     pub ends: Seq<u32>,
     /// From last points to first points.
@@ -123,8 +130,13 @@ pub(crate) fn layout_of(
     let inward = grid_of(alloc, &times, to, depots)?;
     let admitted = admissions(alloc, params, trips)?;
     let relieved = reliefs(alloc, params, trips)?;
+    let minutes = minutes_of(alloc, trips)?;
+    let chains = chains_of(alloc, begins.numbers.as_slice(), from.len())?;
     Ok(Layout {
         begins: begins.numbers,
+        firsts: chains.firsts,
+        nexts: chains.nexts,
+        minutes,
         ends: ends.numbers,
         between,
         outward,

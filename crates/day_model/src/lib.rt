@@ -8,6 +8,7 @@
 
 mod building;
 mod day;
+mod departures;
 mod fault;
 mod going;
 mod layout;
@@ -15,5 +16,6 @@ mod link;
 
 pub use building::{MOST_TRIPS, build_day};
 pub use day::Day;
+pub use departures::Departures;
 pub use fault::DayModelFault;
 pub use link::Link;

@@ -5,6 +5,7 @@ use Rattle.std.proofs.Math.Nat.{eq-or-lt_of_le}
 use Rattle.std.proofs.lemmas.Bool.{cases_eq}
 use Rattle.std.proofs.lemmas.Int.{ints}
 use Rattle.cover_core.specs.Plans.{number_at}
+use Rattle.day_model.specs.Begins.{AreHeads}
 use Rattle.path_pricing.specs.Rows.{AreBelow, AreModerate, AreRows, IsCellLowered, IsModerate, IsRowAdded, IsRowCopied}
 
 pub number_set : (xs : List ℤ) (k : ℕ) (v : ℤ) → k < length xs → number_at (slice_set xs k v) k ≡ v
@@ -145,10 +146,14 @@ row_at count width from place number numbers value cells behind rows u there sam
     let P : ℕ → Type 0 = λ n. number_at cells ((count - place) * width + n) ≤ℤ value u in
     subst P same (rows place u behind after there)
 
-pub entry_read : (xs : List ℕ) (i v : ℕ) → i < length xs → slice_index_or xs i v ≡ slice_index xs i
-entry_read [] i v h = absurd (omega arith)
-entry_read (x ∷ xs) zero v h = refl
-entry_read (x ∷ xs) (suc i) v h = entry_read xs i v (omega arith)
+-- the number of each trip has a trip that has it
+pub have_heads : (numbers heads : List ℕ) (u : ℕ) → u < length numbers → slice_index numbers u < length heads → AreHeads numbers heads 0 →
+    (slice_index heads (slice_index numbers u) < length numbers) × (slice_index numbers (slice_index heads (slice_index numbers u)) ≡ slice_index numbers u)
+have_heads numbers heads u there less are =
+    let first = are.first u (omega arith) there in
+    let inside : slice_index heads (slice_index numbers u) < length numbers = omega (arith, first, there) in
+    let (from, own) = are.own (slice_index numbers u) less inside in
+    (inside, own)
 
 -- there is room for all rows from one on, and for two more behind those of the later trips
 pub room_from : (count from k width size : ℕ) → from ≤ k → size ≡ (count - from + 1) * width → (count - k) * width ≤ size
@@ -179,21 +184,3 @@ equal_moderate (suc n) v fits (suc i) = equal_moderate n v fits i
 pub equal_count : (n : ℕ) (v : ℤ) → length (replicate n v) ≡ n
 equal_count zero v = refl
 equal_count (suc n) v = omega (arith, equal_count n v)
-
--- numbers of places, one of which is set
-pub entry_set : (xs : List ℕ) (k v : ℕ) → k < length xs → slice_index (slice_set xs k v) k ≡ v
-entry_set [] k v h = absurd (omega arith)
-entry_set (x ∷ xs) zero v h = refl
-entry_set (x ∷ xs) (suc k) v h = entry_set xs k v (omega arith)
-
-pub entry_other : (xs : List ℕ) (k j v : ℕ) → k ≢ j → slice_index (slice_set xs k v) j ≡ slice_index xs j
-entry_other [] k j v h = refl
-entry_other (x ∷ xs) zero zero v h = absurd (h refl)
-entry_other (x ∷ xs) zero (suc j) v h = refl
-entry_other (x ∷ xs) (suc k) zero v h = refl
-entry_other (x ∷ xs) (suc k) (suc j) v h = entry_other xs k j v (λ e. h (ap suc e))
-
-pub entry_count : (xs : List ℕ) (k v : ℕ) → length (slice_set xs k v) ≡ length xs
-entry_count [] k v = refl
-entry_count (x ∷ xs) zero v = refl
-entry_count (x ∷ xs) (suc k) v = omega (arith, entry_count xs k v)

@@ -1,5 +1,5 @@
 -- Going on from a trip, point by point.
-use Rattle.std.proofs.Common.{◌≡◌, ℕ, ℤ, pos, negsuc, ◌+◌, ◌-◌, ◌*◌, ◌<◌, ◌≤◌, ◌+ℤ◌, ◌-ℤ◌, ◌≤ℤ◌, ◌<ℤ◌, ◌&&◌, Bool, true, false, cond, nat_le, nat_lt, inl, inr, zero, suc, List, [], ◌∷◌, length, All, Option, Some, None, ◌⊎◌, refl, sym, ap, subst, ◌∙◌, arith, slice_get, slice_set, mul-add}
+use Rattle.std.proofs.Common.{◌≡◌, ℕ, ℤ, pos, negsuc, ◌+◌, ◌-◌, ◌*◌, ◌<◌, ◌≤◌, ◌+ℤ◌, ◌-ℤ◌, ◌≤ℤ◌, ◌<ℤ◌, ◌&&◌, Bool, true, false, cond, nat_le, nat_lt, inl, inr, zero, suc, List, [], ◌∷◌, length, All, Option, Some, None, ◌⊎◌, refl, sym, ap, subst, ◌∙◌, arith, slice_get, mul-add}
 use Rattle.std.specs.Prelude.{option_and_then, slice_index}
 use Rattle.std.specs.Int.RustNames.{unsigned_abs}
 use Rattle.std.specs.Option.{option_map}
@@ -16,7 +16,7 @@ use Rattle.trip_times.specs.declared.trip.Trip.{Trip}
 use Rattle.plan_params.specs.declared.rows.pool.Pool.{Pool}
 use Rattle.day_model.specs.declared.link.Link.{Link}
 use Rattle.day_model.specs.declared.link.Link.TheVariants.{Direct, Depot}
-use Rattle.day_model.specs.Begins.{AreBeginNumbers}
+use Rattle.day_model.specs.Begins.{AreBeginNumbers, IsFirstFrom}
 use Rattle.day_model.specs.Facts.{DayFacts, admits, dead}
 use Rattle.day_model.specs.Links.{depot_for, depot_link, direct_for, direct_link, first_of, given, link, pull_in_at, seconds, with_pool, with_trip}
 use Rattle.day_model.specs.Blocks.{link_cost}
@@ -24,44 +24,7 @@ use Rattle.day_model.specs.Ranges.{IsDaily}
 use Rattle.depot_network.specs.Open.{scaled}
 use Rattle.depot_network.proofs.Bounds.{and_then_some, seconds_some, some_same}
 use Rattle.depot_network.proofs.Opens.{given_both, map_some}
-use Rattle.path_pricing.specs.Points.{AreFirsts, DepotAbove, DirectAbove, IsFirstFrom, PointAbove, PointsAbove, by_depot, passed_value, stand_rate_at, stood_until, stood_value}
-use Rattle.path_pricing.proofs.Cells.{entry_count, entry_other, entry_set}
-
--- Places from where on trips begin late enough.
-pub first_past : (trips : List Trip) (time : ℤ) (k : ℕ) (trip : Trip) → slice_get trips k ≡ Some trip → trip.begin.0 <ℤ time → IsFirstFrom trips time k → IsFirstFrom trips time (k + 1)
-first_past trips time k trip is early first u next at late =
-    elim (eq-or-lt_of_le {n = k} {m = u} (first u next at late)) [
-      | inl same ↦
-          let P : ℕ → Type 0 = λ j. slice_get trips j ≡ Some next in
-          let one : trip ≡ next = some_same trip next (sym is ∙ subst P (sym same) at) in
-          let begins : trip.begin.0 ≡ next.begin.0 = ap (λ (x : Trip). x.begin.0) one in
-          absurd (omega (arith, ints, early, late, begins))
-      | inr more ↦ omega (arith, more)
-    ]
-
-pub first_later : (trips : List Trip) (time other : ℤ) (k : ℕ) → time ≤ℤ other → IsFirstFrom trips time k → IsFirstFrom trips other k
-first_later trips time other k less first u trip at late = first u trip at (omega (arith, ints, less, late))
-
-pub firsts_more : (trips : List Trip) (firsts : List ℕ) (m k : ℕ) → m < 2881 → k ≤ length trips → IsFirstFrom trips (pos (60 * m)) k → AreFirsts trips m firsts → AreFirsts trips (m + 1) (slice_set firsts m k)
-firsts_more trips firsts m k few within first are =
-    let long = are.count in
-    let own = entry_set firsts m k (omega (arith, few, long)) in
-    record {
-      count = entry_count firsts m k ∙ long;
-      within = λ j less. elim (eq-or-lt_of_le {n = j} {m = m} (omega (arith, less))) [
-        | inl same ↦ let P : ℕ → Type 0 = λ i. slice_index (slice_set firsts m k) i ≤ length trips in subst P (sym same) (omega (arith, own, within))
-        | inr other ↦ let is = entry_other firsts m j k (λ same. absurd (omega (arith, same, other))) in let old = are.within j other in omega (arith, is, old)
-      ];
-      first = λ j less. elim (eq-or-lt_of_le {n = j} {m = m} (omega (arith, less))) [
-        | inl same ↦
-            let P : ℕ → Type 0 = λ i. IsFirstFrom trips (pos (60 * i)) (slice_index (slice_set firsts m k) i) in
-            let Q : ℕ → Type 0 = λ n. IsFirstFrom trips (pos (60 * m)) n in
-            subst P (sym same) (subst Q (sym own) first)
-        | inr other ↦
-            let Q : ℕ → Type 0 = λ n. IsFirstFrom trips (pos (60 * j)) n in
-            subst Q (sym (entry_other firsts m j k (λ same. absurd (omega (arith, same, other))))) (are.first j other)
-      ];
-    }
+use Rattle.path_pricing.specs.Points.{DepotAbove, DirectAbove, PointAbove, PointsAbove, by_depot, passed_value, stand_rate_at, stood_until, stood_value}
 
 pub there : {A : Type 0} (xs : List A) (i : ℕ) → i < length xs → (x : A) × (slice_get xs i ≡ Some x)
 there [] i within = absurd (omega (arith, within))

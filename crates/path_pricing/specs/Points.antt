@@ -1,5 +1,5 @@
--- Going on from a trip, point by point: from where on trips begin late enough, and what going on with one of them adds at least.
-use Rattle.std.specs.Prelude.{◌≡◌, ℕ, ℤ, pos, ◌+◌, ◌*◌, ◌<◌, ◌≤◌, ◌+ℤ◌, ◌-ℤ◌, ◌≤ℤ◌, Bool, cond, List, length, Option, Some, None, ◌⊎◌, slice_get, slice_index}
+-- Going on from a trip, point by point: what going on with one of the trips that begin there adds at least.
+use Rattle.std.specs.Prelude.{◌≡◌, ℕ, ℤ, pos, ◌+◌, ◌*◌, ◌<◌, ◌+ℤ◌, ◌-ℤ◌, ◌≤ℤ◌, Bool, cond, List, length, Option, Some, None, ◌⊎◌, slice_get, slice_index}
 use Rattle.std.specs.Int.RustNames.{unsigned_abs}
 use Rattle.plan_core.specs.declared.Price.{Price}
 use Rattle.cover_core.specs.Plans.{number_at, price_at}
@@ -9,16 +9,6 @@ use Rattle.plan_params.specs.declared.rows.pool.Pool.{Pool}
 use Rattle.day_model.specs.Facts.{DayFacts, dead}
 use Rattle.depot_network.specs.Open.{scaled}
 use Rattle.depot_network.specs.Walk.{added}
-
--- no trip before a place begins at a time or later
-abbrev pub IsFirstFrom : List Trip → ℤ → ℕ → Type 0
-IsFirstFrom trips time first = (u : ℕ) (trip : Trip) → slice_get trips u ≡ Some trip → time ≤ℤ trip.begin.0 → first ≤ u
-
--- for each of the first minutes such a place
-pub record AreFirsts (trips : List Trip) (end : ℕ) (firsts : List ℕ) : Type 0 where
-  pub count : length firsts ≡ 2881
-  pub within : (minute : ℕ) → minute < end → slice_index firsts minute ≤ length trips
-  pub first : (minute : ℕ) → minute < end → IsFirstFrom trips (pos (60 * minute)) (slice_index firsts minute)
 
 -- the seconds driven to the depot and from there, where both are there
 abbrev pub by_depot : Option ℕ → Option ℕ → Option ℕ

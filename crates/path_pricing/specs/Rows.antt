@@ -41,8 +41,3 @@ AreRows count width from numbers value cells =
 -- the first numbers are below so many
 abbrev pub AreBelow : ℕ → List ℕ → ℕ → Type 0
 AreBelow width numbers end = (u : ℕ) → u < end → slice_index numbers u < width
-
--- for the number of each of the first trips there is a trip that has it
-abbrev pub HaveHeads : List ℕ → List ℕ → ℕ → Type 0
-HaveHeads numbers heads end =
-    (u : ℕ) → u < end → (slice_index heads (slice_index numbers u) < length numbers) × (slice_index numbers (slice_index heads (slice_index numbers u)) ≡ slice_index numbers u)

@@ -4,16 +4,15 @@ ghost use Rattle.std.specs.Prelude.{◌≡◌, ◌<◌, ◌≤◌, ◌+◌, ◌-
 ghost use Rattle.cover_core.specs.FirstLeast.{AllWithin};
 ghost use Rattle.cover_core.specs.Plans.{number_at};
 ghost use Rattle.plan_params.specs.Limits.{IsPool};
-ghost use Rattle.day_model.specs.Begins.{AreBeginNumbers};
+ghost use Rattle.day_model.specs.Begins.{AreBeginNumbers, AreDepartures, AreHeads, AreMinutes};
 ghost use Rattle.path_pricing.specs.Blocks.{AreBoundsFrom, ClosesAbove, IsDeep, StepsAbove};
-ghost use Rattle.path_pricing.specs.Points.{AreFirsts, passed_value, stood_value};
-ghost use Rattle.path_pricing.specs.Rows.{AreBelow, AreModerate, AreRows, HaveHeads, IsModerate};
+ghost use Rattle.path_pricing.specs.Points.{passed_value, stood_value};
+ghost use Rattle.path_pricing.specs.Rows.{AreBelow, AreModerate, AreRows, IsModerate};
 
 use crate::costs::{begin_of, charge, stand_rate};
-use crate::firsts::firsts_of;
-use crate::heads::{heads_of, width_of};
 use crate::points::with_point;
 use crate::rows::add_row;
+use day_model::Departures;
 use depot_network::{PoolNet, price};
 use plan_core::{Memory, Price};
 use plan_params::Pool;
@@ -71,8 +70,8 @@ fn rest_behind(
     requires numbers { AreBeginNumbers net.now.day.trips numbers.now }
     requires below { AreBelow width numbers.now (length net.now.day.trips) }
     requires count { length heads.now ≡ width }
-    requires heads { HaveHeads numbers.now heads.now (length net.now.day.trips) }
-    requires firsts { AreFirsts net.now.day.trips 2881 firsts.now }
+    requires heads { AreHeads numbers.now heads.now 0 }
+    requires firsts { AreMinutes net.now.day.trips 2881 firsts.now }
     requires stood_room { (length net.now.day.trips - t) * width ≤ length stood.now }
     requires stood_moderate { AreModerate stood.now }
     requires stood { AreRows (length net.now.day.trips) width (t + 1) numbers.now (stood_value net.now.day net.now.counts prices.now pool.now rests.now) stood.now }
@@ -128,28 +127,31 @@ fn more(number: i64, cost: i64) -> i64
     number + cost
 }
 
-/// For each trip from one on what the continuations behind it add at least, point by point. It takes memory and time with the product of the
-/// trips and of the points at which they begin. `Memory` is the only error.
+/// For each trip from one on what the continuations behind it add at least, point by point, where trips begin at no more than 500 points. It
+/// takes memory and time with the product of the trips and of these points. `Memory` is the only error.
 pub(crate) fn rests_by_points(
     alloc: Global,
     net: &PoolNet<'_>,
     class: u32,
     pool: &Pool,
     prices: &[Price],
+    departures: Departures<'_>,
     from: u32,
 ) -> Result<Vec<i64>, Memory>
     requires there { slice_get net.now.day.params.pools class ≡ Some pool.now }
     requires ranges { IsPool pool.now }
     requires moderate { AllWithin 10000000000000 prices.now }
+    requires departures { AreDepartures net.now.day.trips departures.numbers.now departures.firsts.now departures.nexts.now }
+    requires few { length departures.firsts.now ≤ 500 }
     requires from { from ≤ length net.now.day.trips }
     ensures { IfOk result (λ rests. AreBoundsFrom net.now.day net.now.counts prices.now pool.now rests.items from) }
 {
     let day = net.day();
     let count = day.trips().len();
-    let numbers = day.begin_numbers();
-    let width = width_of(numbers);
-    let heads = heads_of(alloc, numbers, width)?;
-    let firsts = firsts_of(alloc, day)?;
+    let numbers = departures.numbers;
+    let heads = departures.firsts;
+    let width = heads.len();
+    let firsts = day.by_minute();
     let size = (count - from as usize + 1) * width;
     let mut rests = blank(alloc, count, 0)?;
     let mut stood = blank(alloc, size, FAR)?;
@@ -165,8 +167,8 @@ pub(crate) fn rests_by_points(
             prices,
             rests.as_slice(),
             numbers,
-            firsts.as_slice(),
-            heads.as_slice(),
+            firsts,
+            heads,
             width,
             stood.as_slice(),
             passed.as_slice(),

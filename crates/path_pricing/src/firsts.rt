@@ -1,46 +1,14 @@
 //! From where on trips begin late enough.
 
-ghost use Rattle.std.specs.Prelude.{◌≡◌, ◌<◌, ◌≤◌, ◌+◌, ◌*◌, ◌≤ℤ◌, ℕ, IfOk, Some, length, pos, slice_get};
+ghost use Rattle.std.specs.Prelude.{◌≡◌, ◌<◌, ◌≤◌, ◌+◌, ◌≤ℤ◌, ℕ, Some, length, pos, slice_get};
 ghost use Rattle.trip_times.specs.declared.trip.Trip.{Trip as AnyTrip};
-ghost use Rattle.path_pricing.specs.Points.{AreFirsts, IsFirstFrom};
+ghost use Rattle.day_model.specs.Begins.{AreMinutes, IsFirstFrom};
 
 use day_model::Day;
-use plan_core::Memory;
-use std::alloc::Global;
-
-/// Goes on from a trip over those that begin before a time.
-fn past(day: &Day, from: u32, time: u32) -> u32
-    requires within { from ≤ length day.now.trips }
-    requires before { IsFirstFrom day.now.trips (pos time) from }
-    ensures within { result ≤ length day.now.trips }
-    ensures first { IsFirstFrom day.now.trips (pos time) result }
-{
-    let count = day.trips().len() as u32;
-    for trip in from..count {
-        let next = day.trip(trip);
-        if next.begin.0 >= time as i64 {
-            return trip;
-        }
-    }
-    count
-}
-
-/// For each minute of two days, and for the first one after them, a place such that no trip before it begins in the minute or later.
-pub(crate) fn firsts_of(alloc: Global, day: &Day) -> Result<Vec<u32>, Memory>
-    ensures { IfOk result (λ firsts. AreFirsts day.now.trips 2881 firsts.items) }
-{
-    let mut firsts = vec![in alloc; 0; 2_881]?;
-    let mut trip = 0;
-    for minute in 0..2_881u32 {
-        trip = past(day, trip, 60 * minute);
-        firsts[minute as usize] = trip;
-    }
-    Ok(firsts)
-}
 
 /// A place such that no trip before it begins at a time or later.
 fn first_from(day: &Day, firsts: &[u32], time: u32) -> u32
-    requires { AreFirsts day.now.trips 2881 firsts.now }
+    requires { AreMinutes day.now.trips 2881 firsts.now }
     ensures within { result ≤ length day.now.trips }
     ensures first { IsFirstFrom day.now.trips (pos time) result }
 {
@@ -63,7 +31,7 @@ fn later(a: u32, b: u32) -> u32
 
 /// A place behind a trip such that none of the trips between begins at a time or later.
 pub(crate) fn next_from(day: &Day, firsts: &[u32], t: u32, time: u32) -> u32
-    requires firsts { AreFirsts day.now.trips 2881 firsts.now }
+    requires firsts { AreMinutes day.now.trips 2881 firsts.now }
     requires trip { t < length day.now.trips }
     ensures after { t < result }
     ensures within { result ≤ length day.now.trips }

@@ -6,7 +6,6 @@
 mod behind;
 mod costs;
 mod firsts;
-mod heads;
 mod labels;
 mod linked;
 mod points;

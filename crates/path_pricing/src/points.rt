@@ -3,10 +3,10 @@
 ghost use Rattle.std.specs.Prelude.{◌≡◌, ◌<◌, ◌≤◌, ◌+◌, ◌-◌, ◌*◌, ◌+ℤ◌, ◌-ℤ◌, ◌≤ℤ◌, ℕ, ℤ, List, IfSome, Some, length, neg_ℤ, pos, slice_get, slice_index};
 ghost use Rattle.cover_core.specs.Plans.{number_at};
 ghost use Rattle.plan_params.specs.Limits.{IsPool};
-ghost use Rattle.day_model.specs.Begins.{AreBeginNumbers};
+ghost use Rattle.day_model.specs.Begins.{AreBeginNumbers, AreMinutes};
 ghost use Rattle.day_model.specs.Facts.{dead};
 ghost use Rattle.day_model.specs.Links.{pull_in_at, with_pool, with_trip};
-ghost use Rattle.path_pricing.specs.Points.{AreFirsts, DepotAbove, DirectAbove, PointAbove, by_depot};
+ghost use Rattle.path_pricing.specs.Points.{DepotAbove, DirectAbove, PointAbove, by_depot};
 ghost use Rattle.path_pricing.specs.Rows.{AreModerate, AreRows, IsModerate};
 
 use crate::costs::{charge, end_of, stand_rate};
@@ -52,7 +52,7 @@ fn with_direct(
     least: i64,
 ) -> i64
     requires ranges { IsPool pool.now }
-    requires firsts { AreFirsts day.now.trips 2881 firsts.now }
+    requires firsts { AreMinutes day.now.trips 2881 firsts.now }
     requires room { (length day.now.trips - t) * width ≤ length stood.now }
     requires moderate { AreModerate stood.now }
     requires number { number < width }
@@ -106,7 +106,7 @@ fn with_depot(
 ) -> i64
     requires there { slice_get day.now.params.pools class ≡ Some pool.now }
     requires ranges { IsPool pool.now }
-    requires firsts { AreFirsts day.now.trips 2881 firsts.now }
+    requires firsts { AreMinutes day.now.trips 2881 firsts.now }
     requires room { (length day.now.trips - t) * width ≤ length passed.now }
     requires moderate { AreModerate passed.now }
     requires number { number < width }
@@ -145,7 +145,7 @@ pub(crate) fn with_point(
 ) -> i64
     requires there { slice_get net.now.day.params.pools class ≡ Some pool.now }
     requires ranges { IsPool pool.now }
-    requires firsts { AreFirsts net.now.day.trips 2881 firsts.now }
+    requires firsts { AreMinutes net.now.day.trips 2881 firsts.now }
     requires stood_room { (length net.now.day.trips - t) * width ≤ length stood.now }
     requires stood { AreModerate stood.now }
     requires passed_room { (length net.now.day.trips - t) * width ≤ length passed.now }

@@ -6,7 +6,6 @@ ghost use Rattle.plan_params.specs.Limits.{IsPool};
 ghost use Rattle.path_pricing.specs.Blocks.{AreBoundsFrom};
 
 use crate::behind::rests_by_points;
-use crate::heads::width_of;
 use crate::linked::rests_by_links;
 use depot_network::PoolNet;
 use plan_core::{Memory, Price};
@@ -34,8 +33,9 @@ pub fn rests_from(
     requires from { from ≤ length net.now.day.trips }
     ensures { IfOk result (λ rests. AreBoundsFrom net.now.day net.now.counts prices.now pool.now rests.items from) }
 {
-    if width_of(net.day().begin_numbers()) <= MOST_POINTS {
-        rests_by_points(alloc, net, class, pool, prices, from)
+    let departures = net.day().departures();
+    if departures.firsts.len() <= MOST_POINTS {
+        rests_by_points(alloc, net, class, pool, prices, departures, from)
     } else {
         rests_by_links(alloc, net, class, pool, prices, from)
     }

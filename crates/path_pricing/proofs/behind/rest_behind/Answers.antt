@@ -3,7 +3,8 @@ use Rattle.std.proofs.lemmas.Int.{ints, to_z-of_z}
 use Rattle.std.specs.Prelude.{FitsSigned, slice_index}
 use Rattle.path_pricing.specs.Blocks.{ClosesAbove}
 use Rattle.path_pricing.specs.Points.{PointAbove, PointsAbove, passed_value, stood_value}
-use Rattle.path_pricing.proofs.Cells.{entry_read}
+use Rattle.day_model.proofs.Following.{entry_read}
+use Rattle.path_pricing.proofs.Cells.{have_heads}
 use Rattle.path_pricing.proofs.Going.{points_more, points_none}
 use Rattle.path_pricing.proofs.Places.{settled_closes, settled_steps}
 use Rattle.path_pricing.proofs.behind.rest_behind.Goals as goal
@@ -38,12 +39,14 @@ loop-number-preserved c =
     let here : (u : ℕ) → c.args.t < u → u < length day.trips → slice_index c.args.numbers.now u ≡ number →
     PointAbove day net.counts c.args.pool.now c.args.numbers.now (stood_value day net.counts c.args.prices.now c.args.pool.now c.args.rests.now) (passed_value c.args.prices.now c.args.rests.now) c.args.t number new =
     λ u after there same.
-    (let (within, own) = c.requires.heads u there in
+    (let count = c.requires.numbers.count in
+    let width = c.requires.count in
+    let less = c.requires.below u there in
+    let (within, own) = have_heads c.args.numbers.now c.args.heads.now u (omega (arith, there, count)) (omega (arith, less, width)) c.requires.heads in
     let P : ℕ → Type 0 = λ n. slice_index c.args.heads.now n < length c.args.numbers.now in
     let Q : ℕ → Type 0 = λ n. slice_index c.args.numbers.now (slice_index c.args.heads.now n) ≡ n in
     let within' = subst P same within in
     let own' = subst Q same own in
-    let count = c.requires.numbers.count in
     let read = entry_read c.args.heads.now number 0 inside in
     c.with_point-least.ensures.point c.args.numbers.now (stood_value day net.counts c.args.prices.now c.args.pool.now c.args.rests.now) (passed_value c.args.prices.now c.args.rests.now)
     (omega (arith, within', count, read)) c.requires.numbers (ap (slice_index c.args.numbers.now) read ∙ own') c.requires.stood c.requires.passed) in

@@ -8,7 +8,8 @@ use Rattle.depot_network.specs.Open.{scaled}
 use Rattle.path_pricing.specs.Blocks.{AreBoundsFrom, StepsAbove}
 use Rattle.path_pricing.specs.Points.{passed_value, stand_rate_at, stood_value}
 use Rattle.path_pricing.specs.Rows.{AreBelow, AreRows}
-use Rattle.path_pricing.proofs.Cells.{base_more, entry_read, room_two, rows_more, set_length}
+use Rattle.day_model.proofs.Following.{entry_read}
+use Rattle.path_pricing.proofs.Cells.{base_more, room_two, rows_more, set_length}
 use Rattle.path_pricing.proofs.Places.{own_passed, own_stood, passed_same, rests_end, rests_set, stood_same}
 use Rattle.path_pricing.proofs.behind.rests_by_points.Goals as goal
 
@@ -39,8 +40,8 @@ loop-t-preserved c =
     let count : ℕ = length day.trips in
     let items : List ℤ = c.loop-t.rests.items in
     let k : ℕ = c.loop-t.t - 1 in
-    let width : ℕ = c.width_of-width.result in
-    let numbers : List ℕ = c.begin_numbers-numbers.result.now in
+    let width : ℕ = length c.args.departures.firsts.now in
+    let numbers : List ℕ = c.args.departures.numbers.now in
     let prices = c.args.prices.now in
     let pool = c.args.pool.now in
     let new : ℤ = c.rest_behind-rest.result in
@@ -64,9 +65,8 @@ loop-t-preserved c =
     c.charge-until.ensures.value ∙ ap (λ b. scaled b (c.stand_rate.result * c.begin_of.result)) c.counts.ensures
     ∙ ap (λ n. scaled net.counts (n * c.begin_of.result)) c.stand_rate.ensures.value ∙ ap (λ n. scaled net.counts (stand_rate_at pool trip * n)) c.begin_of.ensures.value in
     let many : length numbers ≡ count = search rules in
-    let Below : ℕ → Type 0 = λ n. AreBelow width numbers n in
     let stood_is : stood ≡ value +ℤ until = omega (arith, ints, c.more.ensures.value) in
-    let below : AreBelow width numbers count = subst Below many c.width_of-width.ensures.below in
+    let below : AreBelow width numbers count = λ u inside. c.requires.departures.below u (omega (arith, many, inside)) in
     let From : ℕ → Type 0 = λ t. AreBoundsFrom day net.counts prices pool items t in
     let Steps : List ℤ → Type 0 = λ l. StepsAbove day net.counts prices pool l k count new in
     let Set : ℤ → Type 0 = λ z. AreBoundsFrom day net.counts prices pool (slice_set items k z) k in
@@ -105,7 +105,7 @@ returns c =
 pub overflow_mul-size : goal.overflow_mul-size
 overflow_mul-size c =
     let few : length c.trips-count.result.now - c.args.from + 1 ≤ 3001 = omega (arith, c.trips-count.ensures.few) in
-    let more = mul-le-mul few c.width_of-width.ensures.bound in
+    let more = mul-le-mul few c.requires.few in
     omega (arith, more)
 
 pub less-value-requires-clause-rest_low : goal.less-value-requires-clause-rest_low
@@ -120,29 +120,29 @@ pub add_row-requires-clause-number : goal.add_row-requires-clause-number
 add_row-requires-clause-number c =
     let count : ℕ = length c.args.net.now.day.trips in
     let k : ℕ = c.loop-t.t - 1 in
-    let numbers : List ℕ = c.begin_numbers-numbers.result.now in
+    let numbers : List ℕ = c.args.departures.numbers.now in
     let many : length numbers ≡ count = search rules in
     let there : k < length numbers = omega (arith, many, c.loop-t.invariant.within, c.loop-t-test.true) in
     let read = entry_read numbers k 0 there in
-    let below = c.width_of-width.ensures.below k there in
+    let below = c.requires.departures.below k there in
     omega (arith, read, below)
 
 pub add_row-requires-in-loop-t-clause-number : goal.add_row-requires-in-loop-t-clause-number
 add_row-requires-in-loop-t-clause-number c =
     let count : ℕ = length c.args.net.now.day.trips in
     let k : ℕ = c.loop-t.t - 1 in
-    let numbers : List ℕ = c.begin_numbers-numbers.result.now in
+    let numbers : List ℕ = c.args.departures.numbers.now in
     let many : length numbers ≡ count = search rules in
     let there : k < length numbers = omega (arith, many, c.loop-t.invariant.within, c.loop-t-test.true) in
     let read = entry_read numbers k 0 there in
-    let below = c.width_of-width.ensures.below k there in
+    let below = c.requires.departures.below k there in
     omega (arith, read, below)
 
 pub add_row-requires-in-loop-t-clause-room : goal.add_row-requires-in-loop-t-clause-room
 add_row-requires-in-loop-t-clause-room c =
     let count : ℕ = length c.args.net.now.day.trips in
     let k : ℕ = c.loop-t.t - 1 in
-    let width : ℕ = c.width_of-width.result in
+    let width : ℕ = length c.args.departures.firsts.now in
     let same : c.loop-t.t ≡ k + 1 = omega (arith, c.loop-t-test.true) in
     let there : k < count = omega (arith, same, c.loop-t.invariant.within) in
     let behind : c.args.from ≤ k = omega (arith, same, c.loop-t-test.true) in

@@ -1,8 +1,8 @@
 use Rattle.std.proofs.Common.{◌≡◌, ◌*◌, ◌+◌, ◌≤◌, ℕ, ◌/◌, arith, pos, rules, subst, sym, length}
 use Rattle.std.proofs.lemmas.Int.{ints}
-use Rattle.path_pricing.specs.Points.{IsFirstFrom}
-use Rattle.path_pricing.proofs.Cells.{entry_read}
-use Rattle.path_pricing.proofs.Going.{first_later, first_none}
+use Rattle.day_model.specs.Begins.{IsFirstFrom}
+use Rattle.day_model.proofs.Following.{entry_read, first_later}
+use Rattle.path_pricing.proofs.Going.{first_none}
 use Rattle.path_pricing.proofs.firsts.first_from.Goals as goal
 
 pub returns-then-minute-lt2881-clause-first : goal.returns-then-minute-lt2881-clause-first
