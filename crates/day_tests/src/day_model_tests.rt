@@ -11,7 +11,7 @@ use vdv452_tables::{Needs, Network};
 
 /// On each of the days 1 to 4 a trip from 1 to 2 ends at 32,400, and the trip back begins at 33,000, 32,699, 32,700 or 40,000. On day 5
 /// both trips lack a run time, and the first in the table begins last. On day 6 a trip of line 2, which admits no vehicle of the depot,
-/// begins at 899.
+/// begins at 899. On day 7 both trips go from 1 to 2.
 const NETWORK: &[TableRows] = &[
     ("REC_ORT", &["1; 1; 1", "1; 1; 2", "1; 2; 9"]),
     (
@@ -49,6 +49,8 @@ const NETWORK: &[TableRows] = &[
             "1; 9; 33000; 1; 5; 1; 1; 3; ",
             "1; 10; 32000; 1; 5; 1; 1; 3; ",
             "1; 11; 899; 2; 6; 1; 1; 1; ",
+            "1; 12; 28800; 1; 7; 1; 1; 1; ",
+            "1; 13; 33000; 1; 7; 1; 1; 1; ",
         ],
     ),
     (
@@ -110,6 +112,34 @@ fn is_shut(day: &Day) -> bool {
     !day.admits(0, 0) && day.pull_out(0, 0).is_none() && day.pull_in(0, 0) == Some(600)
 }
 
+fn has_departures(day: &Day, numbers: &[u32], firsts: &[u32], nexts: &[u32]) -> bool {
+    let departures = day.departures();
+    departures.numbers == numbers
+        && (departures.firsts == firsts && departures.nexts == nexts)
+        && day.end_numbers() == numbers
+}
+
+/// Whether the first trip begins in minute 480 and the second in minute 550, on the minute both.
+fn has_minutes(day: &Day) -> bool {
+    let minutes = day.by_minute();
+    minutes.len() == 2_881
+        && (minutes[0] == 0 && minutes[480] == 0)
+        && (minutes[481] == 1 && minutes[550] == 1)
+        && (minutes[551] == 2 && minutes[2_880] == 2)
+}
+
+fn tells_departures(
+    alloc: Global,
+    given: &[TableRows],
+    day: u32,
+    numbers: &[u32],
+    firsts: &[u32],
+    nexts: &[u32],
+) -> Result<bool, Fail> {
+    let day = day_of(alloc, given, day)?;
+    Ok(has_departures(&day, numbers, firsts, nexts) && has_minutes(&day))
+}
+
 fn first_is_told(alloc: Global, given: &[TableRows], day: u32) -> Result<bool, Fail> {
     let day = day_of(alloc, given, day)?;
     Ok(has_parts(&day) && has_pulls(&day))
@@ -150,6 +180,14 @@ fn lacks_a_run_time(alloc: Global, given: &[TableRows], day: u32) -> Result<bool
 #[test]
 fn a_day_tells_its_trips_and_pulls(rt: HostRuntime) -> Result<(), Fail> {
     assert!(rt; first_is_told(rt.alloc(), NETWORK, 1)?);
+    Ok(())
+}
+
+#[test]
+fn trips_of_one_point_stand_one_behind_another(rt: HostRuntime) -> Result<(), Fail> {
+    let alloc = rt.alloc();
+    assert!(rt; tells_departures(alloc, NETWORK, 1, &[0, 1], &[0, 1], &[2, 2])?);
+    assert!(rt; tells_departures(alloc, NETWORK, 7, &[0, 0], &[0], &[1, 2])?);
     Ok(())
 }
 
