@@ -22,7 +22,7 @@ use Rattle.day_model.specs.Links.{depot_for, depot_link, direct_for, direct_link
 use Rattle.day_model.specs.Blocks.{link_cost}
 use Rattle.day_model.specs.Ranges.{IsDaily}
 use Rattle.depot_network.specs.Open.{scaled}
-use Rattle.depot_network.proofs.Bounds.{and_then_some, seconds_some, some_same}
+use Rattle.depot_network.proofs.Bounds.{and_then_some, link_fits, seconds_some, some_same}
 use Rattle.depot_network.proofs.Opens.{given_both, map_some}
 use Rattle.path_pricing.specs.Points.{DepotAbove, DirectAbove, PointAbove, PointsAbove, by_depot, passed_value, stand_rate_at, stood_until, stood_value}
 
@@ -221,7 +221,9 @@ module _ (day : DayFacts) (counts : Bool) (prices : List Price) (pool : Pool) (r
       (λ l e. direct_adds t u trip next low l (daily_at day.trips t trip at daily) (daily_at day.trips u next at' daily) after at at' (subst D (sym same) direct) e)
       (λ l e. depot_adds t u trip next low l after at at' (subst E (sym same) depot) e) is_link
   adds_of t u trip next low l daily after at at' is_link inside same (inr near) =
-      let below = near u after inside same in
+      let fits = link_fits day pool trip next l is_link in
+      let begins : trip.end.0 ≤ℤ next.begin.0 = omega (arith, ints, fits) in
+      let below = near u trip next after at at' begins same in
       let up = scaled_up (link_cost pool next l) in
       omega (arith, ints, below, up)
 

@@ -1,5 +1,5 @@
 -- Going on from a trip, point by point: what going on with one of the trips that begin there adds at least.
-use Rattle.std.specs.Prelude.{◌≡◌, ℕ, ℤ, pos, ◌+◌, ◌*◌, ◌<◌, ◌+ℤ◌, ◌-ℤ◌, ◌≤ℤ◌, Bool, cond, List, length, Option, Some, None, ◌⊎◌, slice_get, slice_index}
+use Rattle.std.specs.Prelude.{◌≡◌, ℕ, ℤ, pos, ◌+◌, ◌*◌, ◌<◌, ◌+ℤ◌, ◌-ℤ◌, ◌≤ℤ◌, Bool, cond, List, Option, Some, None, ◌⊎◌, slice_get, slice_index}
 use Rattle.std.specs.Int.RustNames.{unsigned_abs}
 use Rattle.plan_core.specs.declared.Price.{Price}
 use Rattle.cover_core.specs.Plans.{number_at, price_at}
@@ -47,11 +47,13 @@ DepotAbove day counts pool numbers value t number least =
     dead day trip.to pool.depot ≡ Some inward → dead day pool.depot next.from ≡ Some outward → (trip.end.0 +ℤ pos (inward + outward)) ≤ℤ next.begin.0 →
     least ≤ℤ (scaled counts (pool.dead_rate * (inward + outward)) +ℤ value u)
 
--- What is known of a trip has one of the points in it: no way to a trip that begins there adds less, or no such trip and its rest do by themselves.
+-- What is known of a trip has one of the points in it: no way to a trip that begins there adds less, or no such trip that begins when it has
+-- ended or later and its rest do by themselves.
 abbrev pub PointAbove : DayFacts → Bool → Pool → List ℕ → (ℕ → ℤ) → (ℕ → ℤ) → ℕ → ℕ → ℤ → Type 0
 PointAbove day counts pool numbers stood passed t number least =
     (DirectAbove day counts pool numbers stood t number least × DepotAbove day counts pool numbers passed t number least) ⊎
-    ((u : ℕ) → t < u → u < length day.trips → slice_index numbers u ≡ number → least ≤ℤ passed u)
+    ((u : ℕ) (trip next : Trip) → t < u → slice_get day.trips t ≡ Some trip → slice_get day.trips u ≡ Some next → trip.end.0 ≤ℤ next.begin.0 →
+    slice_index numbers u ≡ number → least ≤ℤ passed u)
 
 -- no link from a trip to one of the points before an end adds less, with the rest behind that
 abbrev pub PointsAbove : DayFacts → Bool → List Price → Pool → List ℤ → List ℕ → ℕ → ℕ → ℤ → Type 0

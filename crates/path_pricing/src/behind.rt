@@ -9,7 +9,8 @@ ghost use Rattle.path_pricing.specs.Blocks.{AreBoundsFrom, ClosesAbove, IsDeep, 
 ghost use Rattle.path_pricing.specs.Points.{passed_value, stood_value};
 ghost use Rattle.path_pricing.specs.Rows.{AreBelow, AreModerate, AreRows, IsModerate};
 
-use crate::costs::{begin_of, charge, stand_rate};
+use crate::costs::{begin_of, charge, end_of, stand_rate};
+use crate::firsts::next_from;
 use crate::points::with_point;
 use crate::rows::add_row;
 use day_model::Departures;
@@ -82,12 +83,14 @@ fn rest_behind(
     ensures steps { StepsAbove net.now.day net.now.counts prices.now pool.now rests.now t (length net.now.day.trips) result }
     ensures deep { IsDeep (length net.now.day.trips) t result }
 {
-    let count = net.day().trips().len() as u32;
+    let day = net.day();
+    let count = day.trips().len() as u32;
+    let place = next_from(day, firsts, t, end_of(day.trip(t)));
     let mut least = with_pull_in(net, class, pool, t);
     for number in 0..width {
         let head = heads[number];
         least = with_point(
-            net, class, pool, firsts, stood, passed, width, number, head, t, least,
+            net, class, pool, firsts, stood, passed, width, number, head, t, place, least,
         );
     }
     settled(least, count - t)

@@ -2,6 +2,7 @@
 
 ghost use Rattle.std.specs.Prelude.{◌≡◌, ◌<◌, ◌≤◌, ◌+◌, ◌-◌, ◌*◌, ◌+ℤ◌, ◌-ℤ◌, ◌≤ℤ◌, ℕ, ℤ, List, IfSome, Some, length, neg_ℤ, pos, slice_get, slice_index};
 ghost use Rattle.cover_core.specs.Plans.{number_at};
+ghost use Rattle.trip_times.specs.declared.trip.Trip.{Trip as AnyTrip};
 ghost use Rattle.plan_params.specs.Limits.{IsPool};
 ghost use Rattle.day_model.specs.Begins.{AreBeginNumbers, AreMinutes};
 ghost use Rattle.day_model.specs.Facts.{dead};
@@ -128,8 +129,9 @@ fn with_depot(
     }
 }
 
-/// What is known so far, with the ways to the trips of a point, one of which is its head. No way costs less than nothing, so where the
-/// least that these trips and their rests add is no lower than what is known, nothing more is asked.
+/// What is known so far, with the ways to the trips of a point, one of which is its head. No trip before `place` begins when the trip has
+/// ended or later. No way costs less than nothing, so where the least that the trips of the point from there on and their rests add is no
+/// lower than what is known, nothing more is asked.
 pub(crate) fn with_point(
     net: &PoolNet<'_>,
     class: u32,
@@ -141,6 +143,7 @@ pub(crate) fn with_point(
     number: usize,
     head: u32,
     t: u32,
+    place: u32,
     least: i64,
 ) -> i64
     requires there { slice_get net.now.day.params.pools class ≡ Some pool.now }
@@ -152,6 +155,9 @@ pub(crate) fn with_point(
     requires passed { AreModerate passed.now }
     requires number { number < width }
     requires trip { t < length net.now.day.trips }
+    requires after { t < place }
+    requires within { place ≤ length net.now.day.trips }
+    requires first { (u : ℕ) (trip next : AnyTrip) → t < u → slice_get net.now.day.trips t ≡ Some trip → slice_get net.now.day.trips u ≡ Some next → trip.end.0 ≤ℤ next.begin.0 → place ≤ u }
     ensures low { result ≤ℤ least }
     ensures point { (numbers : List ℕ) (by_stand by_pass : ℕ → ℤ) → head < length net.now.day.trips → AreBeginNumbers net.now.day.trips numbers → slice_index numbers head ≡ number → AreRows (length net.now.day.trips) width (t + 1) numbers by_stand stood.now → AreRows (length net.now.day.trips) width (t + 1) numbers by_pass passed.now → PointAbove net.now.day net.now.counts pool.now numbers by_stand by_pass t number result }
 {
@@ -161,7 +167,7 @@ pub(crate) fn with_point(
     if head >= count {
         return least;
     }
-    let near = cell_from(passed, count, width, t + 1, number);
+    let near = cell_from(passed, count, width, place, number);
     if least <= near {
         return least;
     }

@@ -1,6 +1,9 @@
-use Rattle.std.proofs.Common.{◌≡◌, ◌<◌, ◌+◌, ◌∙◌, ℕ, ℤ, ap, arith, length, rules, subst, sym, to_z, of_z, w64}
+use Rattle.std.proofs.Common.{◌≡◌, ◌<◌, ◌+◌, ◌∙◌, ℕ, ℤ, Some, ap, arith, length, rules, slice_get, subst, sym, to_z, of_z, w64}
 use Rattle.std.proofs.lemmas.Int.{ints, to_z-of_z}
 use Rattle.std.specs.Prelude.{FitsSigned, slice_index}
+use Rattle.trip_times.specs.declared.trip.Trip.{Trip}
+use Rattle.day_model.specs.Facts.{DayFacts}
+use Rattle.depot_network.proofs.Bounds.{some_same}
 use Rattle.path_pricing.specs.Blocks.{ClosesAbove}
 use Rattle.path_pricing.specs.Points.{PointAbove, PointsAbove, passed_value, stood_value}
 use Rattle.day_model.proofs.Following.{entry_read}
@@ -73,3 +76,15 @@ returns-clause-steps c =
     rw (to_z-of_z w64 _ fits)
     (settled_steps net.day net.counts c.args.prices.now c.args.pool.now c.args.rests.now c.args.t c.args.width c.args.numbers.now least c.settled.result c.requires.moderate c.requires.below c.requires.deep
     (search (rules, c.settled.ensures.least)) (subst P end c.loop-number.invariant.points))
+
+pub with_point-least-requires-clause-first : goal.with_point-least-requires-clause-first
+with_point-least-requires-clause-first c = λ u trip next later at at' begins.
+    let net = c.args.net.now in
+    let shown = c.trip.result.now in
+    let At : DayFacts → Type 0 = λ d. slice_get d.trips c.args.t ≡ Some shown in
+    let is : slice_get net.day.trips c.args.t ≡ Some shown = subst At c.day-day.ensures c.trip.ensures.trip in
+    let one : shown ≡ trip = some_same shown trip (sym is ∙ at) in
+    let ends : shown.end.0 ≡ trip.end.0 = ap (λ (x : Trip). x.end.0) one in
+    let is_end = c.end_of.ensures.value in
+    let Day : DayFacts → Type 0 = λ d. slice_get d.trips u ≡ Some next in
+    c.next_from-place.ensures.first u next later (subst Day (sym c.day-day.ensures) at') (omega (arith, ints, ends, is_end, begins))

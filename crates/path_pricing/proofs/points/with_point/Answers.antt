@@ -1,5 +1,6 @@
 use Rattle.std.proofs.Common.{◌≡◌, ◌≤◌, ◌+◌, ◌-◌, ◌*◌, ℕ, Bool, arith, inl, inr, length, rules, subst, sym, w64}
 use Rattle.std.proofs.lemmas.Int.{ints, to_z-of_z}
+use Rattle.std.proofs.lemmas.Option.{slice_get_within}
 use Rattle.std.specs.Prelude.{FitsSigned}
 use Rattle.cover_core.specs.Plans.{number_at}
 use Rattle.day_model.specs.Begins.{AreBeginNumbers}
@@ -13,10 +14,9 @@ use Rattle.path_pricing.proofs.points.with_point.Goals as goal
 pub cell_from-near-requires-clause-room : goal.cell_from-near-requires-clause-room
 cell_from-near-requires-clause-room c =
     let count = length c.args.net.now.day.trips in
-    let trip = c.requires.trip in
     let all : length c.trips.result.now ≡ count = search rules in
-    let P : ℕ → Type 0 = λ n. (n - (c.args.t + 1)) * c.args.width + c.args.width ≤ length c.args.passed.now in
-    subst P (sym all) (room_for count c.args.t (c.args.t + 1) c.args.width (length c.args.passed.now) (omega arith) (omega (arith, trip)) c.requires.passed_room)
+    let P : ℕ → Type 0 = λ n. (n - c.args.place) * c.args.width + c.args.width ≤ length c.args.passed.now in
+    subst P (sym all) (room_for count c.args.t c.args.place c.args.width (length c.args.passed.now) c.requires.after c.requires.within c.requires.passed_room)
 
 pub returns-then-head-count-clause-point : goal.returns-then-head-count-clause-point
 returns-then-head-count-clause-point c = λ numbers by_stand by_pass within are own stood passed. absurd (let all = c.if-head-count.true in search (rules, all, within))
@@ -29,12 +29,13 @@ returns-then-least-near-clause-point c = λ numbers by_stand by_pass within are 
     let near_fits : FitsSigned w64 c.cell_from-near.result = search rules in
     let near_back = to_z-of_z w64 c.cell_from-near.result near_fits in
     let all : length c.trips.result.now ≡ count = search rules in
-    let P : ℕ → Type 0 = λ n. c.cell_from-near.result ≡ number_at c.args.passed.now ((n - (c.args.t + 1)) * c.args.width + c.args.number) in
+    let P : ℕ → Type 0 = λ n. c.cell_from-near.result ≡ number_at c.args.passed.now ((n - c.args.place) * c.args.width + c.args.number) in
     let near = subst P all c.cell_from-near.ensures in
-    inr (λ u later there same.
-    (let behind : c.args.t + 1 ≤ c.args.t + 1 = omega arith in
-    let after : c.args.t + 1 ≤ u = omega (arith, later) in
-    let row = row_at count c.args.width (c.args.t + 1) (c.args.t + 1) c.args.number numbers by_pass c.args.passed.now behind passed u there same after in
+    inr (λ u trip next later at at' begins same.
+    (let after = c.requires.first u trip next later at at' begins in
+    let behind : c.args.t + 1 ≤ c.args.place = (let first = c.requires.after in omega (arith, first)) in
+    let there = slice_get_within c.args.net.now.day.trips u next at' in
+    let row = row_at count c.args.width (c.args.t + 1) c.args.place c.args.number numbers by_pass c.args.passed.now behind passed u there same after in
     omega (arith, ints, row, c.if-least-near.true, near, back, near_back)))
 
 pub returns-clause-point : goal.returns-clause-point
