@@ -1,6 +1,6 @@
 //! Plans, read from tables.
 
-ghost use Rattle.std.specs.Prelude.{◌<◌, ◌^◌, All, length};
+ghost use Rattle.std.specs.Prelude.{◌<◌, ◌^◌, All, IfOk, length};
 ghost use Rattle.umlauf_write.specs.Reading.{read_of};
 ghost use Rattle.plan_read.specs.Places.{Gives, IsReadOf};
 ghost use Rattle.plan_read.specs.Reading as spec;
@@ -48,7 +48,8 @@ fn all_four(bounds: &[u64]) -> Result<(), ReadFault>
 /// What the rows of five tables say.
 fn rows_said(alloc: Global, day: &Day, rows: &PlanRows) -> Result<PlanText, ReadFault>
     requires { spec.AreSized rows.now }
-    ensures { Gives result (spec.rows_said day.now rows.now) }
+    ensures said { Gives result (spec.rows_said day.now rows.now) }
+    ensures bounds { IfOk result (λ text. All (λ bound. bound < 2 ^ 63) text.bounds) }
 {
     let counts = Counts {
         blocks: rows.blocks.rows.len() as u32,
@@ -96,7 +97,8 @@ fn rows_found<'t>(tables: &'t [Table]) -> Result<PlanRows<'t>, ReadFault>
 /// The plan that tables say, where a table is named by its kind.
 fn read_tables(alloc: Global, day: &Day, tables: &[Table]) -> Result<PlanText, ReadFault>
     requires { All (λ table. length table.rows < 2 ^ 32) tables.now }
-    ensures { Gives result (spec.read_places day.now tables.now) }
+    ensures said { Gives result (spec.read_places day.now tables.now) }
+    ensures bounds { IfOk result (λ text. All (λ bound. bound < 2 ^ 63) text.bounds) }
 {
     match rows_found(tables) {
         Ok(rows) => rows_said(alloc, day, &rows),
@@ -128,7 +130,7 @@ fn named(alloc: Global, fault: ReadFault) -> PlanFault
 /// trip is named by its FRT_FID, a pool by its HOF_NR and a group by its GRUPPE_NR, where of two with one number the first is meant.
 ///
 /// A block's trips and a duty's pieces stand in the order of their rows, and each block has the worth 0. A trip may be missing or stand
-/// in several rows, and so may a piece.
+/// in several rows, and so may a piece. Each bound is below 2^63, as every number of a field is.
 ///
 /// Each table has fewer than 2^32 rows, as one that was read from a file has. Each row is looked at once, and a trip is found by halving
 /// the trips of the day, which are put in the order of their FRT_FID first.
@@ -146,7 +148,8 @@ fn named(alloc: Global, fault: ReadFault) -> PlanFault
 /// `Memory` where memory runs out, and for nothing else.
 pub fn read_plan(alloc: Global, day: &Day, tables: &[Table]) -> Result<PlanText, PlanFault>
     requires { All (λ table. length table.rows < 2 ^ 32) tables.now }
-    ensures { IsReadOf (read_of day.now tables.now) result }
+    ensures read { IsReadOf (read_of day.now tables.now) result }
+    ensures bounds { IfOk result (λ text. All (λ bound. bound < 2 ^ 63) text.bounds) }
 {
     match read_tables(alloc, day, tables) {
         Ok(text) => Ok(text),
