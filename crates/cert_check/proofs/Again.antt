@@ -1,5 +1,5 @@
 -- Blocks and duties in printed order: what their tables are made of is in its ranges.
-use Rattle.std.proofs.Common.{◌≡◌, ℕ, suc, ◌+◌, ◌*◌, ◌^◌, ◌<◌, ◌≤◌, Bool, true, false, nat_lt, if◌then◌else◌, All, List, [], ◌∷◌, ◌++◌, length, map, Option, Some, None, is_some, IsTrue, refl, sym, ap, ◌∙◌, subst, arith}
+use Rattle.std.proofs.Common.{◌≡◌, ℕ, suc, ◌*◌, ◌^◌, ◌<◌, ◌≤◌, Bool, true, false, nat_lt, if◌then◌else◌, All, List, [], ◌∷◌, length, map, Option, Some, None, is_some, IsTrue, refl, ap, ◌∙◌, subst, arith}
 use Rattle.std.proofs.lemmas.Int.{ints}
 use Rattle.std.proofs.lemmas.List.{length-map, length-append}
 use Rattle.std.proofs.lemmas.List.Elements.{All-from_recursion, All-weaker, recursion_from_All}
@@ -26,7 +26,7 @@ use Rattle.duty_network.specs.Ranges.{IsShift as IsDutyShift}
 use Rattle.umlauf_write.specs.declared.text.PlanText.{PlanText}
 use Rattle.umlauf_write.specs.Answers.{IsPiece}
 use Rattle.umlauf_write.specs.Printed.{first_of_column, printed}
-use Rattle.umlauf_write.proofs.Order.{order_cheap, order_plan}
+use Rattle.umlauf_write.proofs.Order.{order_cheap}
 use Rattle.cert_check.specs.Judging.{Case, blocks_in, duties_in, duties_over, new_piece, pieces_in, renumbered}
 use Rattle.cert_check.specs.Reasons.{HasDuties, duties_again}
 
@@ -83,9 +83,6 @@ duty_items c pieces columns plan =
     let p = duties_in c pieces false in
     All-from_recursion (λ (duty : Column). All (λ (item : ℕ). item < length pieces) duty.items) columns (numbered_below p columns (duties_listed (duties_over c pieces false)) plan.worths)
 
-pub few_blocks : (facts : DayFacts) (columns : List Column) → length facts.trips ≤ 3000 → IsPlan (blocks_of facts false) columns → length columns ≤ 3000
-few_blocks facts columns few plan = omega (arith, few, has_few_columns (blocks_of facts false) (blocks_listed (record { day = facts; counts = false })) columns plan)
-
 -- what holds of each column holds of each in printed order
 put_each : (P : Column → Type 0) (c : Column) (cs : List Column) → P c → AllByRecursion P cs → AllByRecursion P (put_in_order first_of_column c cs)
 put_each P c [] is are = (is, tt)
@@ -133,9 +130,9 @@ pub record FitsTables (day : DayFacts) (blocks duties : List Column) : Type 0 wh
 
 -- A plan's blocks and duties in printed order have their ranges: each column keeps its class and its worth, and as many items.
 pub in_ranges : (c : Case) (blocks duties : Plan) → IsPlan (blocks_in c false) blocks.columns → IsPlan (duties_in c (pieces_in c blocks.columns) false) duties.columns →
-    length c.day.trips ≤ 3000 → length (pieces_in c blocks.columns) ≤ 3000 → AreCheap blocks.columns → AreCheap duties.columns →
+    length blocks.columns ≤ 3000 → length (pieces_in c blocks.columns) ≤ 3000 → AreCheap blocks.columns → AreCheap duties.columns →
     FitsTables c.day (printed blocks.columns) (duties_again c blocks duties)
-in_ranges c blocks duties block_plan duty_plan few_trips few_pieces cheap_blocks cheap_duties =
+in_ranges c blocks duties block_plan duty_plan few_blocks few_pieces cheap_blocks cheap_duties =
     let old = pieces_in c blocks.columns in
     let f : Column → Column = renumbered blocks.columns old (pieces_in c (printed blocks.columns)) in
     let p = duties_in c old false in
@@ -147,7 +144,7 @@ in_ranges c blocks duties block_plan duty_plan few_trips few_pieces cheap_blocks
     let Block : Column → Type 0 = λ block. block.class < length (blocks_in c false).caps in
     let Trips : Column → Type 0 = λ block. AllBelow (length c.day.trips) block.items in
     record {
-      few_blocks = omega (arith, order_long blocks.columns, few_blocks c.day blocks.columns few_trips block_plan);
+      few_blocks = omega (arith, order_long blocks.columns, few_blocks);
       pools = subst Pools (length-map c.day.params.pools (λ (pool : Pool). pool.cap)) (All-from_recursion Block (printed blocks.columns) (order_each Block blocks.columns (classes_below (blocks_in c false) blocks.columns block_plan.worths)));
       trips = All-from_recursion Trips (printed blocks.columns) (order_each Trips blocks.columns (items_below (blocks_in c false) blocks.columns (blocks_listed (record { day = c.day; counts = false })) block_plan.worths));
       cheap_blocks = order_cheap blocks.columns cheap_blocks;
@@ -162,9 +159,9 @@ in_ranges c blocks duties block_plan duty_plan few_trips few_pieces cheap_blocks
     }
 
 -- the same of the blocks and duties that the tables say
-pub has_ranges : (c : Case) (text : PlanText) (blocks duties : Plan) → HasDuties c text blocks duties → length c.day.trips ≤ 3000 → length (pieces_in c blocks.columns) ≤ 3000 →
+pub has_ranges : (c : Case) (text : PlanText) (blocks duties : Plan) → HasDuties c text blocks duties → length blocks.columns ≤ 3000 → length (pieces_in c blocks.columns) ≤ 3000 →
     AreCheap blocks.columns → AreCheap duties.columns → FitsTables c.day (printed blocks.columns) (duties_again c blocks duties)
-has_ranges c text blocks duties has few_trips few_pieces cheap_blocks cheap_duties = in_ranges c blocks duties has.has_blocks.lawful.1 has.lawful.1 few_trips few_pieces cheap_blocks cheap_duties
+has_ranges c text blocks duties has few_blocks few_pieces cheap_blocks cheap_duties = in_ranges c blocks duties has.has_blocks.lawful.1 has.lawful.1 few_blocks few_pieces cheap_blocks cheap_duties
 
 -- few columns with few items each have few items in all
 items_few : (cs : List Column) → AllByRecursion (λ (c : Column). length c.items ≤ 3000) cs → length (all_items cs) ≤ 3000 * length cs
@@ -173,7 +170,3 @@ items_few (c ∷ cs) few = let one = few.0 in omega (arith, one, length-append c
 
 pub all_few : (cs : List Column) → length cs ≤ 3000 → All (λ (c : Column). length c.items ≤ 3000) cs → length (all_items cs) < 2 ^ 32
 all_few cs few each = omega (arith, few, items_few cs (recursion_from_All (λ (c : Column). length c.items ≤ 3000) cs each))
-
--- duties are no more than pieces
-pub few_duties : (c : Case) (pieces : List Piece) (columns : List Column) → length pieces ≤ 3000 → IsPlan (duties_in c pieces false) columns → length columns ≤ 3000
-few_duties c pieces columns few plan = omega (arith, few, has_few_columns (duties_in c pieces false) (duties_listed (duties_over c pieces false)) columns plan)

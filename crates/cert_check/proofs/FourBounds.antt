@@ -1,22 +1,13 @@
--- The bounds that the tables of a plan say: there are four, each below 2^63.
-use Rattle.std.proofs.Common.{◌≡◌, ℕ, ℤ, pos, negsuc, neg_ℤ, zero, suc, ◌+◌, ◌-◌, ◌<◌, ◌≤◌, ◌^◌, ◌==◌, ◌&&◌, Bool, true, false, if◌then◌else◌, nat_le, nat_lt, All, List, [], ◌∷◌, ◌++◌, length, map, refl, sym, ap, ◌∙◌, subst, arith}
+-- The bounds that the tables of a plan say: there are four.
+use Rattle.std.proofs.Common.{◌≡◌, ℕ, ℤ, suc, ◌+◌, ◌<◌, ◌≤◌, Bool, true, false, if◌then◌else◌, nat_lt, List, [], ◌∷◌, ◌++◌, length, refl, ap, ◌∙◌, arith}
 use Rattle.std.proofs.lemmas.Bool.Decides.{nat_tests}
-use Rattle.std.proofs.lemmas.Int.{ints}
-use Rattle.std.proofs.lemmas.List.Elements.{All-filter, All-from_recursion, All-head, recursion_from_All}
-use Rattle.std.specs.List.{AllByRecursion, filter}
-use Rattle.std.specs.Prelude.{Option, Some, None, Result, Ok, Err, IfSome, is_some, option_and_then, slice_get}
-use Rattle.std.specs.Str.Parse.{digits_value}
-use Rattle.vdv451_text.specs.declared.table.Field.{Field}
-use Rattle.vdv451_text.specs.declared.table.Field.TheVariants.{Num, Text, Raw, Empty}
+use Rattle.std.specs.Prelude.{Option, Some, None, Ok, is_some, option_and_then}
 use Rattle.vdv451_text.specs.declared.table.Table.{Table}
-use Rattle.vdv451_text.specs.Fields.{is_digits, negative, not_negative, number_of}
-use Rattle.vdv452_rows.specs.Cells.{whole_number}
-use Rattle.vdv452_rows.specs.Rows.{first, has_name, place_of, when}
-use Rattle.number_tables.specs.Outlines.{Place, entry_faults, given_of, named, numbers, place, rows_in, rows_of}
+use Rattle.vdv452_rows.specs.Rows.{first, when}
+use Rattle.number_tables.specs.Outlines.{Place, entry_faults, given_of, place, rows_of}
 use Rattle.day_model.specs.Facts.{DayFacts}
 use Rattle.umlauf_write.specs.declared.text.PlanText.{PlanText}
 use Rattle.umlauf_write.specs.Reading.{bound_entries, bound_entry, bounds, entries_from, not_below, own_number, places_of, read_of, read_or, said}
-use Rattle.cert_check.specs.Sizes.{AreLong, HaveLongs, IsLong}
 
 -- where nothing is wrong
 none-first : (xs : List Place) → first xs ≡ None → xs ≡ []
@@ -93,92 +84,3 @@ four-bounds day tables text read =
     let same : length (given_of (bound_entries tables)) ≡ length rows = given-long bounds.name 1 (bound_entries tables) are.right ∙ entries-long bound_entry 0 rows in
     let given : length (given_of (bound_entries tables)) ≡ length text.bounds = ap (λ (bs : List ℕ). length bs) are.given in
     omega (arith, most, least, same, given)
-
--- a number that is below 2^63
-abbrev IsSmall : ℕ → Type 0
-IsSmall n = n < 2 ^ 63
-
-abbrev MaySmall : Option ℤ → Type 0
-MaySmall o = (n : ℕ) → o ≡ Some (pos n) → IsSmall n
-
-digits-small : (t u : Bool) (v n : ℕ) → u ≡ nat_le v (2 ^ 63 - 1) → (if t && u then Some (pos v) else None) ≡ Some (pos n) → IsSmall n
-digits-small true true v n test e =
-    let same : v ≡ n = cc in
-    let low : v ≤ 2 ^ 63 - 1 = grind (arith, nat_tests) in
-    omega (arith, same, low)
-digits-small true false v n test e = absurd (cc)
-digits-small false u v n test e = absurd (cc)
-
-below-small : (t : Bool) (v n : ℕ) → (if t then Some (neg_ℤ (pos v)) else None) ≡ Some (pos n) → IsSmall n
-below-small true zero n e = let same : zero ≡ n = cc in omega (arith, same)
-below-small true (suc v) n e = absurd (cc)
-below-small false v n e = absurd (cc)
-
--- A text that spells a number spells one of 64 bits with a sign.
-text-small : (bytes : List ℕ) → MaySmall (number_of bytes)
-text-small [] n e = absurd (cc)
-text-small (b ∷ bytes) n e = by (b == 43) (b == 45) e
-  where
-    by : (p m : Bool) → (if p then not_negative bytes else if m then negative bytes else not_negative (b ∷ bytes)) ≡ Some (pos n) → IsSmall n
-    by true m e = digits-small (is_digits bytes) (nat_le (digits_value 10 bytes) (2 ^ 63 - 1)) (digits_value 10 bytes) n refl e
-    by false true e = below-small (is_digits bytes && nat_le (digits_value 10 bytes) (2 ^ 63)) (digits_value 10 bytes) n e
-    by false false e = digits-small (is_digits (b ∷ bytes)) (nat_le (digits_value 10 (b ∷ bytes)) (2 ^ 63 - 1)) (digits_value 10 (b ∷ bytes)) n refl e
-
-field-small : (f : Field) → IsLong f → MaySmall (whole_number f)
-field-small (Num z) long n e = let same : z ≡ pos n = cc in omega (arith, ints, long, same)
-field-small (Text text) long n e = text-small text n e
-field-small (Raw bytes) long n e = text-small bytes n e
-field-small Empty long n e = absurd (cc)
-
-field-long : (row : List Field) (k : ℕ) (f : Field) → AllByRecursion IsLong row → slice_get row k ≡ Some f → IsLong f
-field-long [] k f all is = absurd (cc)
-field-long (x ∷ xs) zero f all is = let same : x ≡ f = cc in subst IsLong same all.0
-field-long (x ∷ xs) (suc k) f all is = field-long xs k f all.1 is
-
-at-small : (row : List Field) (at : Option ℕ) → AllByRecursion IsLong row → MaySmall (option_and_then whole_number (option_and_then (slice_get row) at))
-at-small row None all n e = absurd (cc)
-at-small row (Some k) all n e = by (slice_get row k) refl e
-  where
-    by : (o : Option Field) → slice_get row k ≡ o → option_and_then whole_number o ≡ Some (pos n) → IsSmall n
-    by None is e = absurd (cc)
-    by (Some f) is e = field-small f (field-long row k f all is) n e
-
--- so each bound is
-left-small : (o : Option ℤ) (b : ℕ) → MaySmall o → not_below o ≡ Some b → IsSmall b
-left-small None b small e = absurd (cc)
-left-small (Some (pos n)) b small e = let same : n ≡ b = cc in omega (arith, same, small n refl)
-left-small (Some (negsuc n)) b small e = absurd (cc)
-
-entry-small : (row : ℕ) (art bound : Option ℤ) (b : ℕ) → MaySmall bound → bound_entry row (art ∷ bound ∷ []) ≡ Some b → IsSmall b
-entry-small row art bound b small e = by (if nat_lt row 4 then own_number row art else None) e
-  where
-    by : (o : Option ℕ) → option_and_then (λ own. not_below bound) o ≡ Some b → IsSmall b
-    by None e = absurd (cc)
-    by (Some own) e = left-small bound b small e
-
-rows-small : (table : Table) (row : ℕ) (rows : List (List Field)) → AllByRecursion (All IsLong) rows → AllByRecursion IsSmall (given_of (entries_from bound_entry row (map (numbers bounds.columns table) rows)))
-rows-small table row [] all = tt
-rows-small table row (fields ∷ rows) all = by (bound_entry row (numbers bounds.columns table fields)) refl (rows-small table (row + 1) rows all.1)
-  where
-    later : List (Option ℕ)
-    later = entries_from bound_entry (row + 1) (map (numbers bounds.columns table) rows)
-
-    by : (o : Option ℕ) → bound_entry row (numbers bounds.columns table fields) ≡ o → AllByRecursion IsSmall (given_of later) → AllByRecursion IsSmall (given_of (o ∷ later))
-    by None is rest = rest
-    by (Some b) is rest = (entry-small row _ _ b (at-small fields _ (recursion_from_All IsLong fields all.0)) is, rest)
-
-first-of : (P : Table → Type 0) (tables : List Table) → All P tables → IfSome (first tables) P
-first-of P [] all = tt
-first-of P (t ∷ ts) all = All-head P t ts all
-
-pub small-bounds : (day : DayFacts) (tables : List Table) (text : PlanText) → HaveLongs tables → read_of day tables ≡ Ok text → All (λ bound. bound < 2 ^ 63) text.bounds
-small-bounds day tables text longs read =
-    let are = bound-rows day tables text read in
-    let P : Table → Type 0 = λ table. AreLong table.rows in
-    let found = first-of P _ (All-filter (has_name bounds.name) P tables longs) in
-    let all : AllByRecursion IsSmall (given_of (bound_entries tables)) = by (named bounds tables) found in
-    All-from_recursion IsSmall text.bounds (subst (λ (bs : List ℕ). AllByRecursion IsSmall bs) are.given all)
-  where
-    by : (o : Option Table) → IfSome o (λ table. AreLong table.rows) → AllByRecursion IsSmall (given_of (entries_from bound_entry 0 (rows_in bounds o)))
-    by None found = tt
-    by (Some table) found = rows-small table 0 table.rows (recursion_from_All (All IsLong) table.rows found)

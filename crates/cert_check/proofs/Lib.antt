@@ -1,6 +1,5 @@
 pub mod Accepted
 pub mod Again
-pub mod Asked
 pub mod Charges
 pub mod Exact
 pub mod FewRows

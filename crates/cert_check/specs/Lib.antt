@@ -4,5 +4,4 @@ pub mod Judging
 pub mod Old
 pub mod Parts
 pub mod Reasons
-pub mod Sizes
 pub mod Steps

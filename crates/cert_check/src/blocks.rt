@@ -1,7 +1,8 @@
 //! The blocks of a plan as its tables say them: whether the tables are a plan, and its blocks one.
 #![tactic(auto)]
 
-ghost use Rattle.std.specs.Prelude.{◌≡◌, ◌<◌, ◌+◌, ◌^◌, false, IfErr, IfOk, Ok, Some, length, slice_get, slice_index};
+ghost use Rattle.std.specs.Prelude.{◌≡◌, ◌≤◌, ◌<◌, ◌+◌, ◌^◌, All, false, IfErr, IfOk, Ok, Some, length, slice_get, slice_index};
+ghost use Rattle.cover_core.specs.FirstLeast.{AreCheap};
 ghost use Rattle.cover_core.specs.Plans.{all_items};
 ghost use Rattle.plan_check.specs.Verdicts.{IsVerdict};
 ghost use Rattle.cert_check.specs.Judging.{blocks_in, fids_in, pools_in, text_in};
@@ -22,6 +23,7 @@ use umlauf_write::{PlanFault, PlanText};
 pub(crate) fn plan_text(alloc: Global, case: &Case<'_>) -> Result<PlanText, Stop>
     requires { IsCase case.now }
     ensures said { IfOk result (λ text. text_in case.now ≡ Ok text) }
+    ensures bounds { IfOk result (λ text. All (λ bound. bound < 2 ^ 63) text.bounds) }
     ensures stop { IfErr result (IsStop case.now) }
 {
     match read_plan(alloc, case.day, case.plan) {
@@ -36,6 +38,8 @@ pub(crate) fn lawful_blocks(alloc: Global, case: &Case<'_>, text: &PlanText) -> 
     requires case { IsCase case.now }
     requires said { text_in case.now ≡ Ok text.now }
     ensures blocks { IfOk result (λ blocks. HasBlocks case.now text.now blocks) }
+    ensures few { IfOk result (λ blocks. length blocks.columns ≤ 3000) }
+    ensures cheap { IfOk result (λ blocks. AreCheap blocks.columns) }
     ensures stop { IfErr result (IsStop case.now) }
 {
     let net = PoolNet::new(case.day, Worth::Cost);

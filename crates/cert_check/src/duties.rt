@@ -2,6 +2,7 @@
 #![tactic(auto)]
 
 ghost use Rattle.std.specs.Prelude.{◌≡◌, ◌≤◌, ◌<◌, ◌+◌, ◌^◌, All, false, IfErr, IfOk, Some, length, map, slice_get, slice_index};
+ghost use Rattle.cover_core.specs.FirstLeast.{AreCheap};
 ghost use Rattle.cover_core.specs.Plans.{IsPlan, all_items};
 ghost use Rattle.block_cut.specs.Cuts.{IsShift};
 ghost use Rattle.plan_params.specs.Limits.{HaveRanges};
@@ -142,6 +143,8 @@ pub(crate) fn lawful_duties(
     requires shifts { All IsShift pieces.now }
     requires few { length pieces.now ≤ 3000 }
     ensures duties { IfOk result (λ duties. HasDuties case.now text.now blocks.now duties) }
+    ensures few { IfOk result (λ duties. length duties.columns ≤ 3000) }
+    ensures cheap { IfOk result (λ duties. AreCheap duties.columns) }
     ensures stop { IfErr result (IsStop case.now) }
 {
     let params = case.day.params();

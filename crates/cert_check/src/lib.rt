@@ -14,7 +14,6 @@ mod laws;
 mod old;
 mod parts;
 mod printing;
-mod ranges;
 mod reason;
 mod stop;
 mod whole;

@@ -15,7 +15,6 @@ ghost use Rattle.cert_check.specs.Steps.{IsCase, IsDifference, IsStop};
 
 use crate::case::Case;
 use crate::duties::{block_pieces, net_of, piece_number};
-use crate::ranges::ask_tables;
 use crate::reason::Reason;
 use crate::stop::Stop;
 use block_cut::legs;
@@ -205,12 +204,11 @@ fn printed_answer(
     requires plan { IsPlan (blocks_in case.now false) blocks.now.columns }
     requires pieces { pieces.now ≡ pieces_in case.now blocks.now.columns }
     requires duties { IsPlan (duties_in case.now pieces.now false) duties.now.columns }
+    requires few_blocks { length blocks.now.columns ≤ 3000 }
     ensures answer { IfOk result (λ answer. answer ≡ answer_in case.now (printed blocks.now.columns) (duties_again case.now blocks.now duties.now) text.now.bounds) }
     ensures shifts { IfOk result (λ answer. All IsShift answer.pieces) }
     ensures few { IfOk result (λ answer. length answer.pieces ≤ 3000) }
 {
-    // The trips of a day are few: it says so.
-    let _ = case.day.trips();
     let sorted = in_printed_order(copied_plan(alloc, blocks)?)?;
     let anew = block_pieces(alloc, case, &sorted)?;
     let again = renumbered_all(
@@ -257,14 +255,13 @@ fn same_tables(
     requires answer { answer.now ≡ answer_in case.now (printed blocks.now.columns) (duties_again case.now blocks.now duties.now) text.now.bounds }
     requires shifts { All IsShift answer.now.pieces }
     requires few_pieces { length (pieces_in case.now blocks.now.columns) ≤ 3000 }
+    requires few_blocks { length blocks.now.columns ≤ 3000 }
     requires cheap_blocks { AreCheap blocks.now.columns }
     requires cheap_duties { AreCheap duties.now.columns }
+    requires bounds { All (λ bound. bound < 2 ^ 63) text.now.bounds }
     ensures same { IfOk result (λ _. difference_in case.now text.now blocks.now duties.now ≡ None) }
     ensures stop { IfErr result (IsStop case.now) }
 {
-    // The trips of a day are few, and the bounds of tables have 64 bits with a sign: they say so.
-    let _ = case.day.trips();
-    ask_tables(case.plan);
     let made = plan_tables(alloc, case.day, case.rec_frt, answer)?;
     let aside = Aside {
         table: b"X_SCHRANKE",
@@ -331,16 +328,17 @@ pub(crate) fn printed_plan(
     requires has { HasDuties case.now text.now blocks.now duties.now }
     requires pieces { pieces.now ≡ pieces_in case.now blocks.now.columns }
     requires few { length pieces.now ≤ 3000 }
+    requires few_blocks { length blocks.now.columns ≤ 3000 }
     requires cheap_blocks { AreCheap blocks.now.columns }
     requires cheap_duties { AreCheap duties.now.columns }
+    requires bounds { All (λ bound. bound < 2 ^ 63) text.now.bounds }
     ensures tables { IfOk result (λ _. HasTables case.now text.now blocks.now duties.now) }
     ensures pieces { IfOk result (λ anew. anew ≡ printed_pieces case.now blocks.now) }
     ensures shifts { IfOk result (λ anew. All IsShift anew) }
     ensures few { IfOk result (λ anew. length anew ≤ 3000) }
     ensures stop { IfErr result (IsStop case.now) }
 {
-    // The trips of a day are few, and its settings have their ranges: it says so.
-    let _ = case.day.trips();
+    // The settings of a day have their ranges: it says so.
     let _ = case.day.params();
     let answer = printed_answer(alloc, case, text, blocks, pieces, duties)?;
     same_tables(alloc, case, text, blocks, duties, &answer)?;

@@ -11,7 +11,6 @@ use crate::case::Case;
 use crate::duties::{block_pieces, lawful_duties};
 use crate::gaps::covered;
 use crate::printing::printed_plan;
-use crate::ranges::{ask_blocks, ask_duties};
 use crate::reason::Answered;
 use crate::stop::Stop;
 use cover_core::plan_cost;
@@ -28,8 +27,6 @@ fn judged(alloc: Global, case: &Case<'_>) -> Result<Answered, Stop>
     let blocks = lawful_blocks(alloc, case, &text)?;
     let pieces = block_pieces(alloc, case, &blocks)?;
     let duties = lawful_duties(alloc, case, &text, &blocks, &pieces)?;
-    ask_blocks(case, &blocks);
-    ask_duties(alloc, case, &pieces, &duties)?;
     let anew = printed_plan(alloc, case, &text, &blocks, pieces.as_slice(), &duties)?;
     let cert = certificate(alloc, case, &text, &blocks, &duties, anew.len() as u32)?;
     charged(case, &text, &blocks, &duties, &cert)?;

@@ -42,7 +42,7 @@ returns-in-Times-clause-stop c =
     c.in_ok-lists.ensures groups (c.as_slice.ensures ∙ c.requires.pieces) c.as_slice-2.ensures in
     let verdict = duty-verdict k columns text c.args.pieces.now c.params-params.result.now c.in_ok-net.net c.as_slice-3.result.now
     c.in_ok-duties.field-0 (verdicts.Times c.in-Times.item c.in-Times.count)
-    c.in_ok-net.ensures c.requires.pieces params lists c.in-Times.is c.in_ok-duties.ensures in
+    c.in_ok-net.ensures c.requires.pieces params lists c.in-Times.is c.in_ok-duties.ensures.verdict in
     piece-times k text c.args.blocks.now c.as_slice-in-Times.result.now c.in-Times.item c.in-Times.count _
     (c.as_slice-in-Times.ensures ∙ c.requires.pieces) c.requires.blocks verdict
 
@@ -58,7 +58,7 @@ overflow_add-result c =
     c.in_ok-lists.ensures groups (c.as_slice.ensures ∙ c.requires.pieces) c.as_slice-2.ensures in
     let verdict = duty-verdict k columns text c.args.pieces.now c.params-params.result.now c.in_ok-net.net c.as_slice-3.result.now
     c.in_ok-duties.field-0 (verdicts.Unlawful c.in-Unlawful.place)
-    c.in_ok-net.ensures c.requires.pieces params lists c.in-Unlawful.is c.in_ok-duties.ensures in
+    c.in_ok-net.ensures c.requires.pieces params lists c.in-Unlawful.is c.in_ok-duties.ensures.verdict in
     let below = unlawful-below (duties_in k (pieces_in k columns) false) (duty_lists k columns text) c.in-Unlawful.place verdict in
     let few = few-duties k text columns (duty_lists k columns text) c.requires.case c.requires.blocks.said refl in
     omega (arith, below, few)
@@ -75,6 +75,6 @@ returns-clause-stop c =
     c.in_ok-lists.ensures groups (c.as_slice.ensures ∙ c.requires.pieces) c.as_slice-2.ensures in
     let verdict = duty-verdict k columns text c.args.pieces.now c.params-params.result.now c.in_ok-net.net c.as_slice-3.result.now
     c.in_ok-duties.field-0 (verdicts.Over c.in-Over.class c.in-Over.used)
-    c.in_ok-net.ensures c.requires.pieces params lists c.in-Over.is c.in_ok-duties.ensures in
+    c.in_ok-net.ensures c.requires.pieces params lists c.in-Over.is c.in_ok-duties.ensures.verdict in
     let drivers = c.groups-in-Over.ensures.rows ∙ ap (λ (p : ParamRows). p.groups) params in
     group-over k text c.args.blocks.now c.groups-in-Over.result.now c.in-Over.class c.in-Over.used _ drivers c.requires.blocks verdict

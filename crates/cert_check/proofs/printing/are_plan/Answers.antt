@@ -17,7 +17,7 @@ returns-in-Lawful-clause-yes c =
     let net : c.in_ok-net.net ≡ duties_over c.args.case.now c.args.pieces.now false =
     c.in_ok-net.ensures ∙ (ap with c.params.ensures.settings ∙ ap (λ (k : Case). duties_over k c.args.pieces.now false) c.case.view_is) in
     let judged : IsVerdict p cs c.in_ok-found.field-0 =
-    subst (λ (l : List Column). IsVerdict p l c.in_ok-found.field-0) c.as_slice.ensures (subst (λ (d : DutyFacts). IsVerdict (duties d) c.as_slice.result.now c.in_ok-found.field-0) net c.in_ok-found.ensures) in
+    subst (λ (l : List Column). IsVerdict p l c.in_ok-found.field-0) c.as_slice.ensures (subst (λ (d : DutyFacts). IsVerdict (duties d) c.as_slice.result.now c.in_ok-found.field-0) net c.in_ok-found.ensures.verdict) in
     let found = c.in-Lawful.found in
     let lawful : IsVerdict p cs (Lawful found) = subst (λ (v : PlanVerdict). IsVerdict p cs v) c.in-Lawful.is judged in
     let worths : c.have_worths.result ≡ same_worths cs found.columns =
@@ -32,7 +32,7 @@ returns-in-Lawful-clause-no c =
     let net : c.in_ok-net.net ≡ duties_over c.args.case.now c.args.pieces.now false =
     c.in_ok-net.ensures ∙ (ap with c.params.ensures.settings ∙ ap (λ (k : Case). duties_over k c.args.pieces.now false) c.case.view_is) in
     let judged : IsVerdict p cs c.in_ok-found.field-0 =
-    subst (λ (l : List Column). IsVerdict p l c.in_ok-found.field-0) c.as_slice.ensures (subst (λ (d : DutyFacts). IsVerdict (duties d) c.as_slice.result.now c.in_ok-found.field-0) net c.in_ok-found.ensures) in
+    subst (λ (l : List Column). IsVerdict p l c.in_ok-found.field-0) c.as_slice.ensures (subst (λ (d : DutyFacts). IsVerdict (duties d) c.as_slice.result.now c.in_ok-found.field-0) net c.in_ok-found.ensures.verdict) in
     let found = c.in-Lawful.found in
     let lawful : IsVerdict p cs (Lawful found) = subst (λ (v : PlanVerdict). IsVerdict p cs v) c.in-Lawful.is judged in
     let worths : c.have_worths.result ≡ same_worths cs found.columns =
@@ -47,5 +47,5 @@ returns-clause-no c =
     let net : c.in_ok-net.net ≡ duties_over c.args.case.now c.args.pieces.now false =
     c.in_ok-net.ensures ∙ (ap with c.params.ensures.settings ∙ ap (λ (k : Case). duties_over k c.args.pieces.now false) c.case.view_is) in
     let judged : IsVerdict p cs c.in_ok-found.field-0 =
-    subst (λ (l : List Column). IsVerdict p l c.in_ok-found.field-0) c.as_slice.ensures (subst (λ (d : DutyFacts). IsVerdict (duties d) c.as_slice.result.now c.in_ok-found.field-0) net c.in_ok-found.ensures) in
+    subst (λ (l : List Column). IsVerdict p l c.in_ok-found.field-0) c.as_slice.ensures (subst (λ (d : DutyFacts). IsVerdict (duties d) c.as_slice.result.now c.in_ok-found.field-0) net c.in_ok-found.ensures.verdict) in
     λ no plan. c.in_default.not-Lawful (record { columns = cs }) (itself p cs c.in_ok-found.field-0 judged plan)

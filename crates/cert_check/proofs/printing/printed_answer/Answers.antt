@@ -1,11 +1,10 @@
-use Rattle.std.proofs.Common.{◌<◌, ◌≤◌, ℕ, false, All, List, length, subst, sym}
+use Rattle.std.proofs.Common.{◌≡◌, ◌<◌, ◌≤◌, ℕ, false, All, List, length, ap, ◌∙◌, subst, sym, arith}
 use Rattle.cover_core.specs.declared.Column.{Column}
 use Rattle.cover_core.specs.declared.Plan.{Plan}
 use Rattle.cover_core.specs.Plans.{IsPlan}
-use Rattle.trip_times.specs.declared.trip.Trip.{Trip}
 use Rattle.block_cut.specs.Legs.{HasWorth}
 use Rattle.cert_check.specs.Judging.{Case, blocks_in}
-use Rattle.cert_check.proofs.Again.{duty_items, few_blocks, plan_worths}
+use Rattle.cert_check.proofs.Again.{duty_items, order_long, plan_worths}
 use Rattle.cert_check.proofs.printing.printed_answer.Goals as goal
 
 pub block_pieces-requires : goal.block_pieces-requires
@@ -14,10 +13,10 @@ block_pieces-requires c =
 
 pub renumbered_all-requires-clause-few : goal.renumbered_all-requires-clause-few
 renumbered_all-requires-clause-few c =
-    let plan : IsPlan (blocks_in c.args.case.now false) c.in_ok-sorted.sorted.columns =
-    c.in_ok-sorted.ensures.plan (blocks_in c.args.case.now false) (subst (λ (b : Plan). IsPlan (blocks_in c.args.case.now false) b.columns) (sym c.in_ok-copied_plan.ensures) c.requires.plan) in
-    let few : length c.args.case.now.day.trips ≤ 3000 = subst (λ (k : Case). length k.day.trips ≤ 3000) c.case.view_is (subst (λ (ts : List Trip). length ts ≤ 3000) c.trips.ensures.trips c.trips.ensures.few) in
-    subst (λ (l : List Column). length l ≤ 3000) (sym c.as_slice-2.ensures) (few_blocks c.args.case.now.day c.in_ok-sorted.sorted.columns few plan)
+    let copied : length c.in_ok-copied_plan.field-0.columns ≤ 3000 = subst (λ (b : Plan). length b.columns ≤ 3000) (sym c.in_ok-copied_plan.ensures) c.requires.few_blocks in
+    let same : length c.in_ok-sorted.sorted.columns ≡ length c.in_ok-copied_plan.field-0.columns =
+    ap (λ (l : List Column). length l) c.in_ok-sorted.ensures.order ∙ order_long c.in_ok-copied_plan.field-0.columns in
+    subst (λ (l : List Column). length l ≤ 3000) (sym c.as_slice-2.ensures) (omega (arith, same, copied))
 
 pub renumbered_all-requires-clause-items : goal.renumbered_all-requires-clause-items
 renumbered_all-requires-clause-items c =

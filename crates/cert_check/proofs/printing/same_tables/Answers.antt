@@ -1,10 +1,9 @@
-use Rattle.std.proofs.Common.{◌≡◌, ◌<◌, ◌≤◌, ◌^◌, ℕ, All, List, length, refl, sym, ap, ◌∙◌, subst, inl, arith, codes}
-use Rattle.std.specs.Prelude.{Option, Some, None}
+use Rattle.std.proofs.Common.{◌≡◌, ◌<◌, ◌≤◌, ◌^◌, ℕ, All, List, length, sym, ap, ◌∙◌, subst, inl, arith, codes}
+use Rattle.std.specs.Prelude.{Option, Some}
 use Rattle.vdv451_text.specs.declared.table.Table.{Table}
 use Rattle.cover_core.specs.declared.Column.{Column}
 use Rattle.cover_core.specs.Cover.{AllBelow}
 use Rattle.cover_core.specs.FirstLeast.{AreCheap}
-use Rattle.trip_times.specs.declared.trip.Trip.{Trip}
 use Rattle.umlauf_write.specs.declared.answer.Answer.{Answer}
 use Rattle.umlauf_write.specs.Answers.{answer_tables}
 use Rattle.table_differences.specs.declared.difference.Difference.{Difference}
@@ -12,9 +11,8 @@ use Rattle.table_differences.specs.Differences.{first_difference}
 use Rattle.cert_check.specs.declared.reason.Reason.{Reason}
 use Rattle.cert_check.specs.Judging.{Case}
 use Rattle.cert_check.specs.Reasons.{IsPlaceOf, IsReason, tables_in}
-use Rattle.cert_check.specs.Sizes.{HaveLongs}
 use Rattle.cert_check.proofs.Again.{has_ranges, shift_pieces}
-use Rattle.cert_check.proofs.FourBounds.{four-bounds, small-bounds}
+use Rattle.cert_check.proofs.FourBounds.{four-bounds}
 use Rattle.cert_check.proofs.Made.{tables_made}
 use Rattle.cert_check.proofs.printing.same_tables.Goals as goal
 
@@ -22,64 +20,56 @@ pub plan_tables-requires-clause-few_blocks : goal.plan_tables-requires-clause-fe
 plan_tables-requires-clause-few_blocks c =
     let P : Answer → Type 0 = λ answer. length answer.blocks.columns ≤ 3000 in
     let ranges = has_ranges c.args.case.now c.args.text.now c.args.blocks.now c.args.duties.now c.requires.has
-    (subst (λ (k : Case). length k.day.trips ≤ 3000) c.case.view_is (subst (λ (ts : List Trip). length ts ≤ 3000) c.trips.ensures.trips c.trips.ensures.few))
-    c.requires.few_pieces c.requires.cheap_blocks c.requires.cheap_duties in
+    c.requires.few_blocks c.requires.few_pieces c.requires.cheap_blocks c.requires.cheap_duties in
     subst P (sym c.requires.answer) ranges.few_blocks
 
 pub plan_tables-requires-clause-pools : goal.plan_tables-requires-clause-pools
 plan_tables-requires-clause-pools c =
     let P : Case → Answer → Type 0 = λ k answer. All (λ (block : Column). block.class < length k.day.params.pools) answer.blocks.columns in
     let ranges = has_ranges c.args.case.now c.args.text.now c.args.blocks.now c.args.duties.now c.requires.has
-    (subst (λ (k : Case). length k.day.trips ≤ 3000) c.case.view_is (subst (λ (ts : List Trip). length ts ≤ 3000) c.trips.ensures.trips c.trips.ensures.few))
-    c.requires.few_pieces c.requires.cheap_blocks c.requires.cheap_duties in
+    c.requires.few_blocks c.requires.few_pieces c.requires.cheap_blocks c.requires.cheap_duties in
     subst (λ (k : Case). P k c.args.answer.now) (sym c.case.view_is) (subst (P c.args.case.now) (sym c.requires.answer) ranges.pools)
 
 pub plan_tables-requires-clause-trips : goal.plan_tables-requires-clause-trips
 plan_tables-requires-clause-trips c =
     let P : Case → Answer → Type 0 = λ k answer. All (λ (block : Column). AllBelow (length k.day.trips) block.items) answer.blocks.columns in
     let ranges = has_ranges c.args.case.now c.args.text.now c.args.blocks.now c.args.duties.now c.requires.has
-    (subst (λ (k : Case). length k.day.trips ≤ 3000) c.case.view_is (subst (λ (ts : List Trip). length ts ≤ 3000) c.trips.ensures.trips c.trips.ensures.few))
-    c.requires.few_pieces c.requires.cheap_blocks c.requires.cheap_duties in
+    c.requires.few_blocks c.requires.few_pieces c.requires.cheap_blocks c.requires.cheap_duties in
     subst (λ (k : Case). P k c.args.answer.now) (sym c.case.view_is) (subst (P c.args.case.now) (sym c.requires.answer) ranges.trips)
 
 pub plan_tables-requires-clause-cheap_blocks : goal.plan_tables-requires-clause-cheap_blocks
 plan_tables-requires-clause-cheap_blocks c =
     let P : Answer → Type 0 = λ answer. AreCheap answer.blocks.columns in
     let ranges = has_ranges c.args.case.now c.args.text.now c.args.blocks.now c.args.duties.now c.requires.has
-    (subst (λ (k : Case). length k.day.trips ≤ 3000) c.case.view_is (subst (λ (ts : List Trip). length ts ≤ 3000) c.trips.ensures.trips c.trips.ensures.few))
-    c.requires.few_pieces c.requires.cheap_blocks c.requires.cheap_duties in
+    c.requires.few_blocks c.requires.few_pieces c.requires.cheap_blocks c.requires.cheap_duties in
     subst P (sym c.requires.answer) ranges.cheap_blocks
 
 pub plan_tables-requires-clause-few_duties : goal.plan_tables-requires-clause-few_duties
 plan_tables-requires-clause-few_duties c =
     let P : Answer → Type 0 = λ answer. length answer.duties.columns ≤ 3000 in
     let ranges = has_ranges c.args.case.now c.args.text.now c.args.blocks.now c.args.duties.now c.requires.has
-    (subst (λ (k : Case). length k.day.trips ≤ 3000) c.case.view_is (subst (λ (ts : List Trip). length ts ≤ 3000) c.trips.ensures.trips c.trips.ensures.few))
-    c.requires.few_pieces c.requires.cheap_blocks c.requires.cheap_duties in
+    c.requires.few_blocks c.requires.few_pieces c.requires.cheap_blocks c.requires.cheap_duties in
     subst P (sym c.requires.answer) ranges.few_duties
 
 pub plan_tables-requires-clause-groups : goal.plan_tables-requires-clause-groups
 plan_tables-requires-clause-groups c =
     let P : Case → Answer → Type 0 = λ k answer. All (λ (duty : Column). duty.class < length k.day.params.groups) answer.duties.columns in
     let ranges = has_ranges c.args.case.now c.args.text.now c.args.blocks.now c.args.duties.now c.requires.has
-    (subst (λ (k : Case). length k.day.trips ≤ 3000) c.case.view_is (subst (λ (ts : List Trip). length ts ≤ 3000) c.trips.ensures.trips c.trips.ensures.few))
-    c.requires.few_pieces c.requires.cheap_blocks c.requires.cheap_duties in
+    c.requires.few_blocks c.requires.few_pieces c.requires.cheap_blocks c.requires.cheap_duties in
     subst (λ (k : Case). P k c.args.answer.now) (sym c.case.view_is) (subst (P c.args.case.now) (sym c.requires.answer) ranges.groups)
 
 pub plan_tables-requires-clause-parts : goal.plan_tables-requires-clause-parts
 plan_tables-requires-clause-parts c =
     let P : Answer → Type 0 = λ answer. All (λ (duty : Column). length duty.items ≤ 3000) answer.duties.columns in
     let ranges = has_ranges c.args.case.now c.args.text.now c.args.blocks.now c.args.duties.now c.requires.has
-    (subst (λ (k : Case). length k.day.trips ≤ 3000) c.case.view_is (subst (λ (ts : List Trip). length ts ≤ 3000) c.trips.ensures.trips c.trips.ensures.few))
-    c.requires.few_pieces c.requires.cheap_blocks c.requires.cheap_duties in
+    c.requires.few_blocks c.requires.few_pieces c.requires.cheap_blocks c.requires.cheap_duties in
     subst P (sym c.requires.answer) ranges.parts
 
 pub plan_tables-requires-clause-cheap_duties : goal.plan_tables-requires-clause-cheap_duties
 plan_tables-requires-clause-cheap_duties c =
     let P : Answer → Type 0 = λ answer. AreCheap answer.duties.columns in
     let ranges = has_ranges c.args.case.now c.args.text.now c.args.blocks.now c.args.duties.now c.requires.has
-    (subst (λ (k : Case). length k.day.trips ≤ 3000) c.case.view_is (subst (λ (ts : List Trip). length ts ≤ 3000) c.trips.ensures.trips c.trips.ensures.few))
-    c.requires.few_pieces c.requires.cheap_blocks c.requires.cheap_duties in
+    c.requires.few_blocks c.requires.few_pieces c.requires.cheap_blocks c.requires.cheap_duties in
     subst P (sym c.requires.answer) ranges.cheap_duties
 
 pub plan_tables-requires-clause-pieces : goal.plan_tables-requires-clause-pieces
@@ -94,8 +84,7 @@ plan_tables-requires-clause-passes c =
 pub plan_tables-requires-clause-bounds : goal.plan_tables-requires-clause-bounds
 plan_tables-requires-clause-bounds c =
     let P : Answer → Type 0 = λ answer. All (λ (bound : ℕ). bound < 2 ^ 63) answer.bounds in
-    let longs = subst (λ (k : Case). HaveLongs k.plan) c.case.view_is c.ask_tables.ensures in
-    subst P (sym c.requires.answer) (small-bounds c.args.case.now.day c.args.case.now.plan c.args.text.now longs c.requires.has.has_blocks.said)
+    subst P (sym c.requires.answer) c.requires.bounds
 
 pub returns-in-None-clause-same : goal.returns-in-None-clause-same
 returns-in-None-clause-same c =
