@@ -28,46 +28,6 @@ use plan_core::{Bytes, Files, Gate, Sink};
 use std::alloc::Global;
 use std::thread::Threads;
 
-/// Answers what the words ask for, without a word on standard error.
-fn answered<R: Threads + Sync, F: Files, O: Sink, G: Gate + Sync>(
-    rt: &R,
-    alloc: Global,
-    words: &[Bytes],
-    files: &mut F,
-    out: &mut O,
-    gate: &G,
-) -> Status
-    ensures usage { (result ≡ Status.Usage) ↔ (asked words.now ≡ None) }
-    ensures input { (fault : RunFault) → result ≡ Status.Input fault → IfSome (asked words.now) (λ request. IfSome (told_for (F.held files.old) request.names (Status.Input fault)) (λ contents. IsRefusal (task_of request) contents request.day (Status.Input fault))) }
-    ensures day { (fault : FaultOfDay) → result ≡ Status.Day fault → IfSome (asked words.now) (λ request. IfSome (told (F.held files.old) request) (λ contents. IsRefusal (task_of request) contents request.day (Status.Day fault))) }
-    ensures no_plan { (side : RunSide) (bound places : ℕ) → result ≡ Status.NoPlan side bound places → IfSome (asked words.now) (λ request. IfSome (told (F.held files.old) request) (λ contents. IsRefusal (task_of request) contents request.day (Status.NoPlan side bound places))) }
-    ensures left { (side : RunSide) (item : ℕ) (name : RunName) (partial : RunPlan) → result ≡ Status.NotPlaced side item name partial → IfSome (asked words.now) (λ request. IfSome (told (F.held files.old) request) (λ contents. IsRefusal (task_of request) contents request.day (Status.NotPlaced side item name partial))) }
-    ensures old_plan { (reason : RunReason) → result ≡ Status.OldPlan reason → IfSome (asked words.now) (λ request. IfSome (told (F.held files.old) request) (λ contents. IsRefusal (task_of request) contents request.day (Status.OldPlan reason))) }
-    ensures read_fault { (file : ℕ) → result ≡ Status.ReadFault file → IfSome (asked words.now) (λ request. IsReadFault (stage_of (task_of request)) (F.held files.old) request.names (F.faults files.old) (F.faults files.new) file) }
-    ensures write_fault { result ≡ Status.WriteFault → Rose (O.faults out.old) (O.faults out.new) }
-    ensures ok { is_done result ≡ true → IfSome (asked words.now) (λ request. IfSome (told (F.held files.old) request) (λ contents. IfSome (O.taken out.old) (TakesAnswer (task_of request) contents request.day result (O.taken out.new)))) }
-    ensures front { result ≡ Status.WriteFault → IfSome (asked words.now) (λ request. IfSome (told (F.held files.old) request) (λ contents. IfSome (O.taken out.old) (TakesFrontOfAnswer (task_of request) contents request.day (O.taken out.new)))) }
-    ensures only { (request : RunRequest) (end : RunStatus) (bytes : List ℕ) → result ≡ Status.Ok → asked words.now ≡ Some request → climbs (task_of request) ≡ false → checks (task_of request) ≡ false
-        → IfSome (told (F.held files.old) request) (λ contents. IsAnswer (task_of request) contents request.day end bytes → IfSome (O.taken out.old) (λ old. O.taken out.new ≡ Some (old ++ bytes))) }
-    ensures nothing { is_done result ≡ false → result ≢ Status.WriteFault → out.new ≡ out.old }
-    ensures ending { is_done result ≡ true → IfSome (asked words.now) (λ request. IsEndingOf (task_of request) result) }
-    ensures made { (request : RunRequest) → asked words.now ≡ Some request → makes request.command ≡ true → IsMadeEnding result }
-    ensures still { ((file : ℕ) → result ≢ Status.ReadFault file) → (other : List ℕ) → F.faults files.new other ≡ F.faults files.old other }
-    ensures same { (other : List ℕ) → F.held files.new other ≡ F.held files.old other }
-    ensures unmoved { result ≢ Status.WriteFault → O.faults out.new ≡ O.faults out.old }
-    ensures refused { (status : RunStatus) (request : RunRequest) → asked words.now ≡ Some request → is_open (task_of request) status ≡ false → IsSomeAnd (told_for (F.held files.old) request.names status) (λ contents. IsRefusal (task_of request) contents request.day status)
-        → NoneRose (names_for request.names status) (F.faults files.old) (F.faults files.new) → (result ≡ status) ⊎ (result ≡ Status.Memory) }
-    ensures complete { (request : RunRequest) → asked words.now ≡ Some request → climbs (task_of request) ≡ false → IsSomeAnd (told (F.held files.old) request) (λ contents. (end : RunStatus) × (bytes : List ℕ) × IsAnswer (task_of request) contents request.day end bytes)
-        → NoneRose request.names (F.faults files.old) (F.faults files.new) → ¬ Rose (O.faults out.old) (O.faults out.new)
-        → (is_done result ≡ true) ⊎ (result ≡ Status.Memory) }
-{
-    match read_words(alloc, words) {
-        Ok(request) => carry_out(rt, alloc, &request, files, out, gate),
-        Err(WordsFault::Usage) => Status::Usage,
-        Err(WordsFault::Memory) => Status::Memory,
-    }
-}
-
 /// Writes the line of a refusal.
 fn tell_refusal<E: Sink>(err: &mut E, words: &[Bytes], status: &Status)
     ensures quiet { is_done status.now ≡ true → err.new ≡ err.old }
@@ -145,7 +105,19 @@ pub fn run<R: Threads + Sync, F: Files, O: Sink, E: Sink, G: Gate + Sync>(
         → NoneRose request.names (F.faults files.old) (F.faults files.new) → ¬ Rose (O.faults out.old) (O.faults out.new)
         → (is_done result ≡ true) ⊎ (result ≡ Status.Memory) }
 {
-    let status = answered(rt, alloc, words, files, out, gate);
-    tell_refusal(err, words, &status);
-    status
+    match read_words(alloc, words) {
+        Ok(request) => {
+            let status = carry_out(rt, alloc, &request, files, out, gate);
+            tell_refusal(err, words, &status);
+            status
+        }
+        Err(WordsFault::Usage) => {
+            tell_refusal(err, words, &Status::Usage);
+            Status::Usage
+        }
+        Err(WordsFault::Memory) => {
+            tell_refusal(err, words, &Status::Memory);
+            Status::Memory
+        }
+    }
 }
