@@ -3,3 +3,4 @@ pub mod Bounding
 pub mod Checks
 pub mod Ties
 pub mod Looking
+pub mod Early

@@ -2,3 +2,4 @@ pub mod Bounds
 pub mod Units
 pub mod Laws
 pub mod Behind
+pub mod Early

@@ -118,6 +118,7 @@ fn passing(test: bool, mark: Mark) -> Option<Mark>
 }
 
 /// Whether a three was had where the other had one.
+#[inline(always)]
 fn has(a: bool, b: bool) -> bool
     ensures { result ≡ not b || a }
 {
@@ -125,6 +126,7 @@ fn has(a: bool, b: bool) -> bool
 }
 
 /// Whether two flags are the same.
+#[inline(always)]
 fn is_same(a: bool, b: bool) -> bool
     ensures { result ≡ cond b a (not a) }
 {
@@ -132,6 +134,7 @@ fn is_same(a: bool, b: bool) -> bool
 }
 
 /// Whether a mark is at least as good as another. All is compared before one jump: which comparison fails first is hard to foresee.
+#[inline(always)]
 fn is_better(a: &Mark, b: &Mark) -> bool
     ensures { result ≡ is_as_good a.now b.now }
 {
@@ -341,6 +344,7 @@ impl Labels for DutyLabels<'_, '_> {
         label.value
     }
 
+    #[inline(always)]
     fn is_as_good(&self, a: &Mark, b: &Mark) -> bool {
         is_better(a, b)
     }

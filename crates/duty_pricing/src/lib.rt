@@ -4,6 +4,7 @@
 #![tactic(auto)]
 
 mod bounds;
+mod counted;
 mod labels;
 mod pricer;
 mod reach;

@@ -5,6 +5,7 @@ ghost use Rattle.cover_core.specs.Best.{best_of, within};
 ghost use Rattle.cover_core.specs.FirstLeast.{AllWithin};
 ghost use Rattle.duty_network.specs.Duties.{duties};
 
+use crate::counted::best_counted;
 use crate::labels::DutyLabels;
 use cover_core::{Column, Columns, Pricer, Prices};
 use duty_network::DutyNet;
@@ -62,6 +63,9 @@ fn best_duty(
     let whole = DutyLabels::new(alloc, net, class, prices, first, end, false)?;
     if !begins_within(&whole, limit) {
         return best_column(alloc, net, &whole, class, &[], limit);
+    }
+    if net.counts() {
+        return best_counted(alloc, net, class, prices, group, limit);
     }
     let parted = DutyLabels::new(alloc, net, class, prices, first, end, true)?;
     let likely = likely(dive_from_each(&parted, limit), limit, [60, 80]);

@@ -17,4 +17,6 @@ mod mark_cover_tests;
 #[cfg(test)]
 mod singles;
 #[cfg(test)]
+mod tie_search_tests;
+#[cfg(test)]
 mod ways;
