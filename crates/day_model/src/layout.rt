@@ -1,16 +1,16 @@
 //! What is asked of a day's trips and pools, laid out flat.
 
 ghost use Rattle.std.specs.Prelude.{◌≡◌, ◌≤◌, ◌++◌, IfOk, OnOk, length, map};
-ghost use Rattle.deadheads.specs.DeadTimes.{dead_on};
 ghost use Rattle.plan_params.specs.LookUps.{admits_in, is_relief_in};
 ghost use Rattle.day_model.specs.Building.{most_trips};
 ghost use Rattle.day_model.specs.Layout.{AreLaidOut, admissions_of, reliefs_of};
 
+use crate::dead_times::DeadTimes;
 use crate::departures::{chains_of, minutes_of};
 use deadheads::Deadheads;
 use plan_core::{Memory, Point, Seq};
 use plan_params::{Params, Pool};
-use point_grid::{Grid, PointTimes, grid_of, numbering_of};
+use point_grid::{Grid, grid_of, numbering_of};
 use std::alloc::Global;
 use trip_times::Trip;
 
@@ -39,32 +39,21 @@ pub struct Layout {
     pub relieved: Seq<bool>,
 }
 
-/// How long deadheads take.
-#[derive(Drop)]
-struct DeadTimes<'d> {
-    deads: &'d Deadheads,
-}
-
-impl PointTimes for DeadTimes<'_> {
-    ghost times = { λ s from to. dead_on s.deads.now from to };
-
-    fn time(&self, from: Point, to: Point) -> Option<u32> {
-        self.deads.dead(from, to)
-    }
-}
-
+/// The first points of trips, in their order.
 fn first_points(alloc: Global, trips: &[Trip]) -> Result<Vec<Point>, Memory>
     ensures { IfOk result (λ points. points.items ≡ map (λ trip. trip.from) trips.now) }
 {
     Ok(trips.iter().map(|trip| trip.from).collect(alloc)?)
 }
 
+/// The last points of trips, in their order.
 fn last_points(alloc: Global, trips: &[Trip]) -> Result<Vec<Point>, Memory>
     ensures { IfOk result (λ points. points.items ≡ map (λ trip. trip.to) trips.now) }
 {
     Ok(trips.iter().map(|trip| trip.to).collect(alloc)?)
 }
 
+/// The points of the depots of pools, in their order.
 fn depots_of(alloc: Global, pools: &[Pool]) -> Result<Vec<Point>, Memory>
     ensures { IfOk result (λ depots. depots.items ≡ map (λ pool. pool.depot) pools.now) }
 {
@@ -86,6 +75,7 @@ fn add_pool(
     Ok(())
 }
 
+/// Whether pools admit trips, pool by pool.
 fn admissions(alloc: Global, params: &Params, trips: &[Trip]) -> Result<Seq<bool>, Memory>
     ensures { IfOk result (λ admitted. admitted ≡ admissions_of params.now params.now.pools trips.now) }
 {
@@ -96,6 +86,7 @@ fn admissions(alloc: Global, params: &Params, trips: &[Trip]) -> Result<Seq<bool
     Ok(admitted)
 }
 
+/// For each trip whether drivers are relieved at its first point.
 fn reliefs(alloc: Global, params: &Params, trips: &[Trip]) -> Result<Seq<bool>, Memory>
     ensures { IfOk result (λ relieved. relieved ≡ reliefs_of params.now trips.now) }
 {

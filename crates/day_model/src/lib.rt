@@ -8,6 +8,7 @@
 
 mod building;
 mod day;
+mod dead_times;
 mod departures;
 mod fault;
 mod going;

@@ -1,12 +1,12 @@
 //! What is asked of pieces and groups of drivers, laid out flat.
 
 ghost use Rattle.std.specs.Prelude.{◌≡◌, ◌≤◌, IfOk, length, map};
-ghost use Rattle.plan_params.specs.LookUps.{way_in};
 ghost use Rattle.duty_network.specs.Layout.{AreLaidOut};
 
+use crate::way_times::WayTimes;
 use plan_core::{Memory, Piece, Point, Seq};
 use plan_params::{Group, Params};
-use point_grid::{Grid, PointTimes, grid_of, numbering_of};
+use point_grid::{Grid, grid_of, numbering_of};
 use std::alloc::Global;
 
 /// The ways of drivers by the numbers of pieces and groups.
@@ -24,32 +24,21 @@ pub struct Layout {
     pub inward: Grid,
 }
 
-/// How long drivers are on their ways.
-#[derive(Drop)]
-struct WayTimes<'p> {
-    params: &'p Params,
-}
-
-impl PointTimes for WayTimes<'_> {
-    ghost times = { λ s from to. way_in s.params.now from to };
-
-    fn time(&self, from: Point, to: Point) -> Option<u32> {
-        self.params.way(from, to)
-    }
-}
-
+/// The first points of pieces, in their order.
 fn first_points(alloc: Global, pieces: &[Piece]) -> Result<Vec<Point>, Memory>
     ensures { IfOk result (λ points. points.items ≡ map (λ piece. piece.from) pieces.now) }
 {
     Ok(pieces.iter().map(|piece| piece.from).collect(alloc)?)
 }
 
+/// The last points of pieces, in their order.
 fn last_points(alloc: Global, pieces: &[Piece]) -> Result<Vec<Point>, Memory>
     ensures { IfOk result (λ points. points.items ≡ map (λ piece. piece.to) pieces.now) }
 {
     Ok(pieces.iter().map(|piece| piece.to).collect(alloc)?)
 }
 
+/// The homes of groups, in their order.
 fn homes_of(alloc: Global, groups: &[Group]) -> Result<Vec<Point>, Memory>
     ensures { IfOk result (λ homes. homes.items ≡ map (λ group. group.home) groups.now) }
 {

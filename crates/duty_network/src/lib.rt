@@ -10,6 +10,7 @@ mod layout;
 mod marks;
 mod net;
 mod numbering;
+mod way_times;
 
 pub use followers::{Follower, Followers};
 pub use laws::counted_duties;

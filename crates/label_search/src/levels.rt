@@ -205,13 +205,13 @@ fn follow<W: Labels>(
     limit: i64,
 ) -> Result<(), Memory>
     requires item { item < W.count labels.now }
+    requires reach { NoneReachesAbove (W.labelling labels.now) (W.sound labels.now) (W.value_at labels.now) (W.may_close labels.now limit) item reach }
+    requires level { AllSound (IsOfLevel (W.sound labels.now) (W.last labels.now) (W.value_at labels.now) level.now) (take (level.now.end - from) (drop from stock.old.kept)) }
     requires order { from ≤ level.now.end }
     requires there { level.now.end ≤ length stock.old.kept }
     requires few { length stock.old.kept < 4294967295 }
     requires sound { AllSound (W.sound labels.now) stock.old.kept }
     requires values { values.now ≡ values_of (W.value_at labels.now) stock.old.kept }
-    requires level { AllSound (IsOfLevel (W.sound labels.now) (W.last labels.now) (W.value_at labels.now) level.now) (take (level.now.end - from) (drop from stock.old.kept)) }
-    requires reach { NoneReachesAbove (W.labelling labels.now) (W.sound labels.now) (W.value_at labels.now) (W.may_close labels.now limit) item reach }
     requires so_far { stock.old.made ≡ level_so_far (limited (W.labelling labels.now) (W.may_close labels.now limit)) (W.good labels.now) (W.value_at labels.now) stock.old.kept item from }
     ensures kept { stock.new.kept ≡ stock.old.kept }
     ensures made { OnOk result (stock.new.made ≡ level_so_far (limited (W.labelling labels.now) (W.may_close labels.now limit)) (W.good labels.now) (W.value_at labels.now) stock.old.kept item level.now.end) }

@@ -74,10 +74,7 @@ fn keys_in_play<C: Columns>(
                 value: value_at(problem, &course.prices, column),
                 place: place as u32,
             };
-            match keys.push(key) {
-                Ok(()) => {}
-                Err(_) => return Err(Memory),
-            }
+            keys.push(key)?;
         }
     }
     Ok(keys)
@@ -96,14 +93,12 @@ fn sort(keys: &mut Vec<Key>) -> Result<(), Memory>
     ensures permutation { IsPermutation keys.old.items keys.new.items }
     ensures sorted { OnOk result (IsSortedBy is_before keys.new.items) }
 {
-    match keys.sort_by(
+    keys.sort_by(
         |x: &Key, y: &Key| -> Ordering
             ensures { result ≡ key_cmp x.now y.now }
         { compare(x, y) },
-    ) {
-        Ok(()) => Ok(()),
-        Err(_) => Err(Memory),
-    }
+    )?;
+    Ok(())
 }
 
 /// The count of the first column, the greatest one; 0 where there is none.

@@ -32,6 +32,8 @@ impl TableRow for Group {
     ghost of_row = { group_of };
 
     fn from_row(row: &[u32]) -> Group {
+        let ten = number_at(row, 8) == 1;
+        let reduced = number_at(row, 9) == 1;
         Group {
             number: number_at(row, 0),
             home: point_at(row, 1, 2),
@@ -40,8 +42,8 @@ impl TableRow for Group {
             rate: number_at(row, 5),
             sign_on: number_at(row, 6),
             sign_off: number_at(row, 7),
-            ten: number_at(row, 8) == 1,
-            reduced: number_at(row, 9) == 1,
+            ten,
+            reduced,
         }
     }
 }
