@@ -15,5 +15,5 @@ mod write;
 pub use begun::Begun;
 pub use laws::{bodies_stand_for_all, rest_is_kept};
 pub use member::is_rest_list;
-pub use stand::bodies;
+pub use stand::{bodies, body};
 pub use write::written_out;

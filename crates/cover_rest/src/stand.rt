@@ -76,3 +76,14 @@ pub fn bodies(alloc: Global, heads: &[Begun], items: u32) -> Result<Seq<Seq<u32>
     add_free(alloc, marks.as_slice(), &mut bodies)?;
     Ok(bodies)
 }
+
+/// What an item of the rest stands for, of what all its items stand for, as `bodies` finds it: the items of a head, or one item. An item
+/// past the end stands for nothing.
+pub fn body(bodies: &[Seq<u32>], item: u32) -> &[u32]
+    ensures { result.now ≡ spec.body_at bodies.now item }
+{
+    match bodies.get(item as usize) {
+        None => [].as_slice(),
+        Some(body) => body.as_slice(),
+    }
+}

@@ -3,19 +3,10 @@
 ghost use Rattle.std.specs.Prelude.{◌≡◌, ◌++◌, IfOk, OnOk};
 ghost use Rattle.cover_rest.specs.Rest as spec;
 
+use crate::stand::body;
 use cover_core::{Column, Items, Plan};
 use plan_core::{Memory, Seq};
 use std::alloc::Global;
-
-/// What an item of the rest stands for: nothing past the end.
-fn body(bodies: &[Seq<u32>], item: u32) -> &[u32]
-    ensures { result.now ≡ spec.body_at bodies.now item }
-{
-    match bodies.get(item as usize) {
-        None => [].as_slice(),
-        Some(body) => body.as_slice(),
-    }
-}
 
 /// Puts what the items of a list stand for last.
 fn write(bodies: &[Seq<u32>], list: &[u32], items: &mut Vec<u32>) -> Result<(), Memory>

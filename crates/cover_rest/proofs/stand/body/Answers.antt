@@ -1,6 +1,6 @@
 use Rattle.std.proofs.Common.{sym, ◌∙◌}
 use Rattle.cover_rest.proofs.Steps.{body-here, body-past}
-use Rattle.cover_rest.proofs.write.body.Goals as goal
+use Rattle.cover_rest.proofs.stand.body.Goals as goal
 
 pub returns-in-None : goal.returns-in-None
 returns-in-None c = let past = c.in-None.ensures.lookup.3 in c.as_slice.ensures ∙ sym (body-past c.args.bodies.now c.args.item past)
