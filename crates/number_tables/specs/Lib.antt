@@ -1,3 +1,4 @@
 pub mod Numbers
 pub mod Outlines
 pub mod Signed
+pub mod Single
