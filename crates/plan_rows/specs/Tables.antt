@@ -1,11 +1,11 @@
 -- The tables of a plan, read as rows, or the first place where they are none.
-use Rattle.std.specs.Prelude.{◌≡◌, ℕ, ◌+◌, ◌==◌, nat_lt, List, length, Option, Some, None, Result, Ok, Err, count_by, find, is_none, position, if◌then◌else◌, codes}
+use Rattle.std.specs.Prelude.{◌≡◌, ℕ, ◌+◌, nat_lt, List, length, Option, Some, None, Result, Ok, Err, is_none, position, if◌then◌else◌}
 use Rattle.std.specs.List.{filter_map}
 use Rattle.std.specs.Borrow.{Bor}
 use Rattle.vdv451_text.specs.declared.table.Field.{Field}
 use Rattle.vdv451_text.specs.declared.table.Head.{Head}
 use Rattle.vdv451_text.specs.declared.table.Table.{Table}
-use Rattle.vdv452_rows.specs.Rows.{has_name}
+use Rattle.number_tables.specs.Single.{single_in}
 use Rattle.plan_rows.specs.declared.fault.PlanTable.{PlanTable}
 use Rattle.plan_rows.specs.declared.fault.PlanTable.TheVariants as which
 use Rattle.plan_rows.specs.declared.fault.Place.{Place}
@@ -47,7 +47,7 @@ place table row = record { table = table; row = row }
 
 -- the table of a name, where it stands once
 abbrev pub table_in : PlanTable → List Table → Option Table
-table_in t tables = if count_by (has_name (name_of t)) tables == 1 then find (has_name (name_of t)) tables else None
+table_in t tables = single_in (name_of t) tables
 
 -- A table stands once, and has at most so many rows.
 abbrev pub few_rows : PlanTable → ℕ → Option Table → Result Table Place

@@ -1,7 +1,9 @@
 //! The rows of the tables of a plan, one by one: what each says, or none where it says nothing.
 
-ghost use Rattle.std.specs.Prelude.{◌≡◌, ◌≤◌, ◌==◌, IfSome, position};
+ghost use Rattle.std.specs.Prelude.{◌≡◌, ◌≤◌, ◌==◌, IfSome, List, Option, position};
 ghost use Rattle.number_tables.specs.Outlines.{up_to as up_to_spec, word as word_spec};
+ghost use Rattle.vdv451_text.specs.declared.table.Field.{Field as FieldOf};
+ghost use Rattle.vdv451_text.specs.declared.table.Head.{Head as HeadOf};
 ghost use Rattle.vdv452_rows.specs.Cells.{whole_number as whole_number_spec};
 ghost use Rattle.plan_rows.specs.Rows as spec;
 
@@ -18,6 +20,19 @@ const MOST_FID: u64 = 1_000_000_000_000_000_000;
 
 /// The greatest value, bound or cost that is drawn.
 const MOST_MONEY: u64 = 1_000_000_000_000_000;
+
+/// How the rows of one of the tables are read.
+pub(crate) trait Entries {
+    /// What a row says.
+    type Row: Drop;
+
+    /// What a row says, by the columns of its table.
+    ghost said: { Self → List HeadOf → List FieldOf → Option Self.Row };
+
+    /// What a row says, or none where it says nothing.
+    fn entry(&self, heads: &[Head], row: &[Field]) -> Option<Self::Row>
+        ensures { result ≡ said self.now heads.now row.now };
+}
 
 fn whole_number(field: &Field) -> Option<i64>
     ensures { result ≡ whole_number_spec field.now }
@@ -123,32 +138,53 @@ fn ends_in(heads: &[Head], row: &[Field]) -> Option<Ends>
     Some(Ends { from, to, span })
 }
 
-/// A row of REC_FRT.
-pub fn trip_of(heads: &[Head], row: &[Field]) -> Option<TripRow>
-    ensures { result ≡ spec.trip_of heads.now row.now }
-{
-    let fid = up_to(MOST_FID, number_in(heads, row, b"FRT_FID"))?;
-    let line = word_in(heads, row, b"LI_NR")?;
-    Some(TripRow { fid, line })
+/// The rows of REC_FRT.
+#[derive(Clone, Copy)]
+pub(crate) struct Trips;
+
+impl Entries for Trips {
+    type Row = TripRow;
+
+    ghost said = { λ _. spec.trip_of };
+
+    fn entry(&self, heads: &[Head], row: &[Field]) -> Option<TripRow> {
+        let fid = up_to(MOST_FID, number_in(heads, row, b"FRT_FID"))?;
+        let line = word_in(heads, row, b"LI_NR")?;
+        Some(TripRow { fid, line })
+    }
 }
 
-/// A row of REC_UMLAUF.
-pub fn vehicle_of(heads: &[Head], row: &[Field]) -> Option<VehicleRow>
-    ensures { result ≡ spec.vehicle_of heads.now row.now }
-{
-    let number = word_in(heads, row, b"UM_UID")?;
-    let typ = word_in(heads, row, b"FZG_TYP_NR")?;
-    Some(VehicleRow { number, typ })
+/// The rows of REC_UMLAUF.
+#[derive(Clone, Copy)]
+pub(crate) struct Vehicles;
+
+impl Entries for Vehicles {
+    type Row = VehicleRow;
+
+    ghost said = { λ _. spec.vehicle_of };
+
+    fn entry(&self, heads: &[Head], row: &[Field]) -> Option<VehicleRow> {
+        let number = word_in(heads, row, b"UM_UID")?;
+        let typ = word_in(heads, row, b"FZG_TYP_NR")?;
+        Some(VehicleRow { number, typ })
+    }
 }
 
-/// A row of X_UMLAUF.
-pub fn block_of(heads: &[Head], row: &[Field]) -> Option<BlockRow>
-    ensures { result ≡ spec.block_of heads.now row.now }
-{
-    let number = word_in(heads, row, b"UM_UID")?;
-    let pool = word_in(heads, row, b"HOF_NR")?;
-    let cost = money(number_in(heads, row, b"KOSTEN"))?;
-    Some(BlockRow { number, pool, cost })
+/// The rows of X_UMLAUF.
+#[derive(Clone, Copy)]
+pub(crate) struct Blocks;
+
+impl Entries for Blocks {
+    type Row = BlockRow;
+
+    ghost said = { λ _. spec.block_of };
+
+    fn entry(&self, heads: &[Head], row: &[Field]) -> Option<BlockRow> {
+        let number = word_in(heads, row, b"UM_UID")?;
+        let pool = word_in(heads, row, b"HOF_NR")?;
+        let cost = money(number_in(heads, row, b"KOSTEN"))?;
+        Some(BlockRow { number, pool, cost })
+    }
 }
 
 fn kind_of(number: u32) -> Option<LegKind>
@@ -219,25 +255,32 @@ fn block_in(blocks: &[BlockRow], heads: &[Head], row: &[Field]) -> Option<Named>
     Some(Named { place, number })
 }
 
-/// A row of X_UMLAUF_TEIL.
-pub fn leg_of(
-    trips: &[TripRow],
-    blocks: &[BlockRow],
-    heads: &[Head],
-    row: &[Field],
-) -> Option<LegRow>
-    ensures { result ≡ spec.leg_of trips.now blocks.now heads.now row.now }
-{
-    let block = block_in(blocks, heads, row)?;
-    let number = word_in(heads, row, b"TEIL_NR")?;
-    let work = work_in(trips, heads, row)?;
-    let ends = ends_in(heads, row)?;
-    Some(LegRow {
-        block,
-        number,
-        work,
-        ends,
-    })
+/// The rows of X_UMLAUF_TEIL.
+#[derive(Clone, Copy)]
+pub(crate) struct Legs<'p> {
+    /// The trips that they name.
+    pub trips: &'p [TripRow],
+    /// The blocks that they name.
+    pub blocks: &'p [BlockRow],
+}
+
+impl<'p> Entries for Legs<'p> {
+    type Row = LegRow;
+
+    ghost said = { λ legs. spec.leg_of legs.trips.now legs.blocks.now };
+
+    fn entry(&self, heads: &[Head], row: &[Field]) -> Option<LegRow> {
+        let block = block_in(self.blocks, heads, row)?;
+        let number = word_in(heads, row, b"TEIL_NR")?;
+        let work = work_in(self.trips, heads, row)?;
+        let ends = ends_in(heads, row)?;
+        Some(LegRow {
+            block,
+            number,
+            work,
+            ends,
+        })
+    }
 }
 
 fn duty_over(heads: &[Head], row: &[Field], span: Span) -> Option<DutyRow>
@@ -256,12 +299,19 @@ fn duty_over(heads: &[Head], row: &[Field], span: Span) -> Option<DutyRow>
     })
 }
 
-/// A row of X_DIENST.
-pub fn duty_of(heads: &[Head], row: &[Field]) -> Option<DutyRow>
-    ensures { result ≡ spec.duty_of heads.now row.now }
-{
-    let span = span_in(heads, row)?;
-    duty_over(heads, row, span)
+/// The rows of X_DIENST.
+#[derive(Clone, Copy)]
+pub(crate) struct Duties;
+
+impl Entries for Duties {
+    type Row = DutyRow;
+
+    ghost said = { λ _. spec.duty_of };
+
+    fn entry(&self, heads: &[Head], row: &[Field]) -> Option<DutyRow> {
+        let span = span_in(heads, row)?;
+        duty_over(heads, row, span)
+    }
 }
 
 fn duty_place(duties: &[DutyRow], number: u32) -> Option<usize>
@@ -291,18 +341,28 @@ fn piece_numbers(heads: &[Head], row: &[Field]) -> Option<PieceNumbers>
     })
 }
 
-/// A row of X_DIENST_STUECK.
-pub fn piece_of(duties: &[DutyRow], heads: &[Head], row: &[Field]) -> Option<PieceRow>
-    ensures { result ≡ spec.piece_of duties.now heads.now row.now }
-{
-    let duty = duty_in(duties, heads, row)?;
-    let numbers = piece_numbers(heads, row)?;
-    let ends = ends_in(heads, row)?;
-    Some(PieceRow {
-        duty,
-        numbers,
-        ends,
-    })
+/// The rows of X_DIENST_STUECK.
+#[derive(Clone, Copy)]
+pub(crate) struct Pieces<'p> {
+    /// The duties that they name.
+    pub duties: &'p [DutyRow],
+}
+
+impl<'p> Entries for Pieces<'p> {
+    type Row = PieceRow;
+
+    ghost said = { λ pieces. spec.piece_of pieces.duties.now };
+
+    fn entry(&self, heads: &[Head], row: &[Field]) -> Option<PieceRow> {
+        let duty = duty_in(self.duties, heads, row)?;
+        let numbers = piece_numbers(heads, row)?;
+        let ends = ends_in(heads, row)?;
+        Some(PieceRow {
+            duty,
+            numbers,
+            ends,
+        })
+    }
 }
 
 fn pass_of(number: u32) -> Option<Pass>
@@ -332,18 +392,25 @@ fn distance_of(value: u64, bound: u64) -> Option<u64>
     }
 }
 
-/// A row of X_SCHRANKE.
-pub fn bound_of(heads: &[Head], row: &[Field]) -> Option<BoundRow>
-    ensures { result ≡ spec.bound_of heads.now row.now }
-{
-    let number = word_in(heads, row, b"ART")?;
-    let pass = pass_of(number)?;
-    let value = money(number_in(heads, row, b"WERT"))?;
-    let bound = money(number_in(heads, row, b"SCHRANKE"))?;
-    Some(BoundRow {
-        pass,
-        value,
-        bound,
-        distance: distance_of(value, bound),
-    })
+/// The rows of X_SCHRANKE.
+#[derive(Clone, Copy)]
+pub(crate) struct Bounds;
+
+impl Entries for Bounds {
+    type Row = BoundRow;
+
+    ghost said = { λ _. spec.bound_of };
+
+    fn entry(&self, heads: &[Head], row: &[Field]) -> Option<BoundRow> {
+        let number = word_in(heads, row, b"ART")?;
+        let pass = pass_of(number)?;
+        let value = money(number_in(heads, row, b"WERT"))?;
+        let bound = money(number_in(heads, row, b"SCHRANKE"))?;
+        Some(BoundRow {
+            pass,
+            value,
+            bound,
+            distance: distance_of(value, bound),
+        })
+    }
 }

@@ -7,6 +7,41 @@ ghost use Rattle.plan_rows.specs.declared.fault.RowFault.TheVariants as faults;
 use plan_core::Memory;
 use std::alloc::AllocError;
 
+/// Why there is no picture.
+#[derive(Clone, Copy, Debug, PartialEq, Eq)]
+pub enum RowFault {
+    /// The first place that is not drawn: a table that is missing or stands twice, the first row that is one too many, or the first row
+    /// that says no trip, block, leg, duty, piece or bound.
+    Form(Place),
+    /// Want of memory.
+    Memory,
+}
+
+impl From<Memory> for RowFault {
+    ghost from_gives = { λ _ fault. fault ≡ faults.Memory };
+
+    fn from(_memory: Memory) -> RowFault {
+        RowFault::Memory
+    }
+}
+
+impl From<AllocError> for RowFault {
+    ghost from_gives = { λ _ fault. fault ≡ faults.Memory };
+
+    fn from(_error: AllocError) -> RowFault {
+        RowFault::Memory
+    }
+}
+
+/// A place in the tables of a plan.
+#[derive(Clone, Copy, Debug, PartialEq, Eq)]
+pub struct Place {
+    /// The table.
+    pub table: PlanTable,
+    /// The row, from 1, or 0 for the table as a whole.
+    pub row: usize,
+}
+
 /// The tables that are drawn.
 #[derive(Clone, Copy, Debug, PartialEq, Eq)]
 pub enum PlanTable {
@@ -40,40 +75,5 @@ impl PlanTable {
             PlanTable::Pieces => b"X_DIENST_STUECK",
             PlanTable::Bounds => b"X_SCHRANKE",
         }
-    }
-}
-
-/// A place in the tables of a plan.
-#[derive(Clone, Copy, Debug, PartialEq, Eq)]
-pub struct Place {
-    /// The table.
-    pub table: PlanTable,
-    /// The row, from 1, or 0 for the table as a whole.
-    pub row: usize,
-}
-
-/// Why there is no picture.
-#[derive(Clone, Copy, Debug, PartialEq, Eq)]
-pub enum RowFault {
-    /// The first place that is not drawn: a table that is missing or stands twice, the first row that is one too many, or the first row
-    /// that says no trip, block, leg, duty, piece or bound.
-    Form(Place),
-    /// Want of memory.
-    Memory,
-}
-
-impl From<Memory> for RowFault {
-    ghost from_gives = { λ _ fault. fault ≡ faults.Memory };
-
-    fn from(_memory: Memory) -> RowFault {
-        RowFault::Memory
-    }
-}
-
-impl From<AllocError> for RowFault {
-    ghost from_gives = { λ _ fault. fault ≡ faults.Memory };
-
-    fn from(_error: AllocError) -> RowFault {
-        RowFault::Memory
     }
 }

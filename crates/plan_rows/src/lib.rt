@@ -7,6 +7,7 @@ mod fault;
 mod laws;
 mod rows;
 mod sheet;
+mod tables;
 
 pub use fault::{Place, PlanTable, RowFault};
 pub use laws::rows_are_said;
@@ -14,4 +15,5 @@ pub use rows::{
     BlockRow, BoundRow, DutyRow, Ends, LegRow, Named, Pass, PieceNumbers, PieceRow, Span, TripRow,
     VehicleRow, Work,
 };
-pub use sheet::{BlockSheet, DutySheet, Sheet, read_sheet, table_of};
+pub use sheet::{BlockSheet, DutySheet, Sheet, read_sheet};
+pub use tables::table_of;
