@@ -1,5 +1,5 @@
 -- The rows of a network, and the version and the kind of a day.
-use Rattle.std.specs.Prelude.{◌≡◌, ◌≤◌, ℕ, All, Contains, ◌==◌, ◌&&◌, nat_le, nat_lt, List, [], ◌∷◌, Option, Some, None, if◌then◌else◌, filter}
+use Rattle.std.specs.Prelude.{◌≡◌, ◌≤◌, ℕ, All, Contains, ◌==◌, ◌&&◌, nat_le, nat_lt, List, [], ◌∷◌, ◌++◌, Option, Some, None, if◌then◌else◌, filter}
 use Rattle.std.specs.Option.{option_map}
 use Rattle.std.specs.List.{find}
 use Rattle.vdv451_text.specs.declared.table.Table.{Table}
@@ -15,12 +15,27 @@ use Rattle.vdv452_rows.specs.TypedRows.{version_row, calendar_row, trip_row, poi
 pub use Rattle.vdv452_rows.specs.TypedRows.{typed}
 pub use Rattle.vdv452_tables.specs.declared.net.Net.{Net}
 
+-- The parts of all tables, each in the order of its faults:
+-- the versions, the days, the points and the sections between them
+abbrev pub place_schemas : List Schema
+place_schemas = schema.versions ∷ schema.days ∷ schema.points ∷ schema.sections ∷ []
+
+-- the times of the sections and at the points
+abbrev pub time_schemas : List Schema
+time_schemas = schema.runs ∷ schema.group_dwells ∷ schema.trip_dwells ∷ []
+
+-- the lines, the trips, the moves without passengers and the types of vehicles
+abbrev pub trip_schemas : List Schema
+trip_schemas = schema.lines ∷ schema.stops ∷ schema.trips ∷ schema.deads ∷ schema.types ∷ []
+
+-- the tables of this project
+abbrev pub own_schemas : List Schema
+own_schemas = schema.plan ∷ schema.depots ∷ schema.line_types ∷ schema.reliefs ∷ schema.ways ∷ schema.drivers ∷ []
+
 -- the tables that are looked at, in the order of their faults
 abbrev pub schemas_of : Needs → List Schema
 schemas_of needs.Calendar = schema.versions ∷ schema.days ∷ schema.trips ∷ []
-schemas_of needs.All =
-    schema.versions ∷ schema.days ∷ schema.points ∷ schema.sections ∷ schema.runs ∷ schema.group_dwells ∷ schema.trip_dwells ∷ schema.lines ∷ schema.stops
-    ∷ schema.trips ∷ schema.deads ∷ schema.types ∷ schema.plan ∷ schema.depots ∷ schema.line_types ∷ schema.reliefs ∷ schema.ways ∷ schema.drivers ∷ []
+schemas_of needs.All = place_schemas ++ time_schemas ++ trip_schemas ++ own_schemas
 
 -- the typed rows of a table
 abbrev pub rows_as : {A : Type 0} → (List Cell → ℕ → A) → Schema → List Table → List A
@@ -49,23 +64,33 @@ empty = record {
   drivers = [];
 }
 
--- the rows of the tables, by their schemas; none of a table that is not looked at
-abbrev pub net_of : Needs → List Table → Net
-net_of needs.Calendar tables =
-    record empty { versions = rows_as version_row schema.versions tables; days = rows_as calendar_row schema.days tables; trips = rows_as trip_row schema.trips tables }
-net_of needs.All tables = record {
+-- A network with the rows of each part of the tables.
+abbrev pub with_places : Net → List Table → Net
+with_places net tables = record net {
   versions = rows_as version_row schema.versions tables;
   days = rows_as calendar_row schema.days tables;
   points = rows_as point_row schema.points tables;
   sections = rows_as section_row schema.sections tables;
+}
+
+abbrev pub with_times : Net → List Table → Net
+with_times net tables = record net {
   runs = rows_as run_row schema.runs tables;
   group_dwells = rows_as group_dwell_row schema.group_dwells tables;
   trip_dwells = rows_as trip_dwell_row schema.trip_dwells tables;
+}
+
+abbrev pub with_trips : Net → List Table → Net
+with_trips net tables = record net {
   lines = rows_as line_row schema.lines tables;
   stops = rows_as stop_row schema.stops tables;
   trips = rows_as trip_row schema.trips tables;
   deads = rows_as dead_row schema.deads tables;
   types = rows_as type_row schema.types tables;
+}
+
+abbrev pub with_own : Net → List Table → Net
+with_own net tables = record net {
   plan = rows_as number_row schema.plan tables;
   depots = rows_as number_row schema.depots tables;
   line_types = rows_as number_row schema.line_types tables;
@@ -73,6 +98,12 @@ net_of needs.All tables = record {
   ways = rows_as number_row schema.ways tables;
   drivers = rows_as number_row schema.drivers tables;
 }
+
+-- the rows of the tables, by their schemas; none of a table that is not looked at
+abbrev pub net_of : Needs → List Table → Net
+net_of needs.Calendar tables =
+    record empty { versions = rows_as version_row schema.versions tables; days = rows_as calendar_row schema.days tables; trips = rows_as trip_row schema.trips tables }
+net_of needs.All tables = with_own (with_trips (with_times (with_places empty tables) tables) tables) tables
 
 -- the row of the later day; of two with one day the first
 abbrev pub later : VersionRow → Option VersionRow → VersionRow

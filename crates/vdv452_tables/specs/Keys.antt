@@ -75,11 +75,14 @@ type_key_of row = record { version = row.version; typ = row.typ }
 abbrev pub section_key_of : SectionRow → SectionKey
 section_key_of row = record { version = row.version; area = row.area; from = row.from; to = row.to }
 
+abbrev pub move_key : ℕ → ℕ → ℕ → Point → Point → MoveKey
+move_key version area group from to = record { version = version; area = area; group = group; from = from; to = to }
+
 abbrev pub run_key_of : RunRow → MoveKey
-run_key_of row = record { version = row.version; area = row.area; group = row.group; from = row.from; to = row.to }
+run_key_of row = move_key row.version row.area row.group row.from row.to
 
 abbrev pub dead_key_of : DeadRow → MoveKey
-dead_key_of row = record { version = row.version; area = row.area; group = row.group; from = row.from; to = row.to }
+dead_key_of row = move_key row.version row.area row.group row.from row.to
 
 abbrev pub group_dwell_key_of : GroupDwellRow → GroupDwellKey
 group_dwell_key_of row = record { version = row.version; group = row.group; at = row.at }

@@ -5,7 +5,7 @@ use Rattle.plan_core.specs.declared.types.Point.{Point}
 use Rattle.vdv452_tables.specs.declared.keys.LineKey.{LineKey}
 use Rattle.vdv452_tables.specs.declared.net.Net.{Net}
 use Rattle.vdv452_rows.specs.declared.rows.lines.StopRow.{StopRow}
-use Rattle.vdv452_tables.specs.Keys.{value_at, point_key_eq, point_key_of, type_key_eq, type_key_of, section_key_eq, section_key_of, move_key_eq, run_key_of, dead_key_of, group_dwell_key_eq, group_dwell_key_of, trip_dwell_key_eq, trip_dwell_key_of, line_key_eq, line_key_of, stop_key_of, named}
+use Rattle.vdv452_tables.specs.Keys.{value_at, point_key_eq, point_key_of, type_key_eq, type_key_of, section_key_eq, section_key_of, move_key_eq, run_key_of, dead_key_of, group_dwell_key_eq, group_dwell_key_of, trip_dwell_key_eq, trip_dwell_key_of, line_key_eq, line_key_of, stop_key_of, move_key, named}
 
 -- REC_ORT has the point
 abbrev pub has_point_on : Net → ℕ → Point → Bool
@@ -21,13 +21,11 @@ area_on net version line variant = value_at line_key_eq line_key_of (λ row. row
 
 -- SEL_FZT of SEL_FZT_FELD
 abbrev pub run_time_on : Net → ℕ → ℕ → ℕ → Point → Point → Option ℕ
-run_time_on net version area group from to =
-    value_at move_key_eq run_key_of (λ row. row.time) net.runs (record { version = version; area = area; group = group; from = from; to = to })
+run_time_on net version area group from to = value_at move_key_eq run_key_of (λ row. row.time) net.runs (move_key version area group from to)
 
 -- UEB_FAHRZEIT of UEB_FZT
 abbrev pub dead_time_on : Net → ℕ → ℕ → ℕ → Point → Point → Option ℕ
-dead_time_on net version area group from to =
-    value_at move_key_eq dead_key_of (λ row. row.time) net.deads (record { version = version; area = area; group = group; from = from; to = to })
+dead_time_on net version area group from to = value_at move_key_eq dead_key_of (λ row. row.time) net.deads (move_key version area group from to)
 
 -- FRT_HZT_ZEIT of REC_FRT_HZT
 abbrev pub trip_dwell_on : Net → ℕ → ℕ → Point → Option ℕ

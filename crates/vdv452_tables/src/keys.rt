@@ -54,6 +54,21 @@ pub(crate) struct MoveKey {
     pub to: Point,
 }
 
+impl MoveKey {
+    /// The key of a time between two points, of an area and a group of run times.
+    pub fn new(version: u32, area: u32, group: u32, from: Point, to: Point) -> MoveKey
+        ensures { result ≡ keys.move_key version area group from to }
+    {
+        MoveKey {
+            version,
+            area,
+            group,
+            from,
+            to,
+        }
+    }
+}
+
 /// The key of the dwell of a group of run times in ORT_HZTF.
 #[derive(Clone, Copy, PartialEq, Eq, Hash)]
 pub(crate) struct GroupDwellKey {
@@ -162,13 +177,7 @@ impl KeyedRow<MoveKey, u32> for RunRow {
     ghost value_of = { λ row. row.time };
 
     fn entry(&self, _alloc: Global) -> Result<(MoveKey, u32), Memory> {
-        let key = MoveKey {
-            version: self.version,
-            area: self.area,
-            group: self.group,
-            from: self.from,
-            to: self.to,
-        };
+        let key = MoveKey::new(self.version, self.area, self.group, self.from, self.to);
         Ok((key, self.time))
     }
 }
@@ -179,13 +188,7 @@ impl KeyedRow<MoveKey, u32> for DeadRow {
     ghost value_of = { λ row. row.time };
 
     fn entry(&self, _alloc: Global) -> Result<(MoveKey, u32), Memory> {
-        let key = MoveKey {
-            version: self.version,
-            area: self.area,
-            group: self.group,
-            from: self.from,
-            to: self.to,
-        };
+        let key = MoveKey::new(self.version, self.area, self.group, self.from, self.to);
         Ok((key, self.time))
     }
 }

@@ -181,13 +181,7 @@ impl Network {
         ensures value { result ≡ run_time_on self.now version area group from to }
         ensures range { IfSome result IsTime }
     {
-        let key = MoveKey {
-            version,
-            area,
-            group,
-            from,
-            to,
-        };
+        let key = MoveKey::new(version, area, group, from, to);
         self.indexes.moves.runs.get(&key).copied()
     }
 
@@ -240,13 +234,7 @@ impl Network {
         ensures value { result ≡ dead_time_on self.now version area group from to }
         ensures range { IfSome result IsTime }
     {
-        let key = MoveKey {
-            version,
-            area,
-            group,
-            from,
-            to,
-        };
+        let key = MoveKey::new(version, area, group, from, to);
         self.indexes.moves.deads.get(&key).copied()
     }
 
