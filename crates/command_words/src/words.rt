@@ -304,37 +304,50 @@ fn day_request(
     })
 }
 
-/// A day, a plan, its certificate, and files.
+/// A day, two words between it and the files, and the files.
 #[derive(Clone, Copy)]
-struct CheckWords<'w> {
+struct ThreeWords<'w> {
     day: &'w [u8],
-    plan: &'w [u8],
-    certificate: &'w [u8],
+    second: &'w [u8],
+    third: &'w [u8],
     files: Parted<'w>,
 }
 
-/// What plain words say is to be checked, where they are right.
-fn check_words(words: Parted<'_>) -> Option<CheckWords<'_>>
-    ensures said { IfSome result (λ said. plain_of (said_by words.entry.before.now) ++ words.entry.behind.now ≡ said.day.now ∷ said.plan.now ∷ said.certificate.now ∷ (plain_of (said_by said.files.before.now) ++ said.files.behind.now)) }
-    ensures right { IfSome result (λ said. (spec.are_day_and_files (said.day.now ∷ (plain_of (said_by said.files.before.now) ++ said.files.behind.now)) && (spec.file_word said.plan.now && spec.file_word said.certificate.now)) ≡ true) }
-    ensures none { IfNone result ((effort : Effort) → spec.check_request effort (plain_of (said_by words.entry.before.now) ++ words.entry.behind.now) ≡ None) }
+/// The day, two words and the files that plain words say, where the day and the files are right.
+fn three_words(words: Parted<'_>) -> Option<ThreeWords<'_>>
+    ensures said { IfSome result (λ said. plain_of (said_by words.entry.before.now) ++ words.entry.behind.now ≡ said.day.now ∷ said.second.now ∷ said.third.now ∷ (plain_of (said_by said.files.before.now) ++ said.files.behind.now)) }
+    ensures files { IfSome result (λ said. spec.are_day_and_files (said.day.now ∷ (plain_of (said_by said.files.before.now) ++ said.files.behind.now)) ≡ true) }
+    ensures check { IfNone result ((effort : Effort) → spec.check_request effort (plain_of (said_by words.entry.before.now) ++ words.entry.behind.now) ≡ None) }
+    ensures replan { IfNone result ((effort : Effort) → spec.replan_request effort (plain_of (said_by words.entry.before.now) ++ words.entry.behind.now) ≡ None) }
 {
     let day = plain_words(words)?;
-    let plan = plain_words(day.others)?;
-    let certificate = plain_words(plan.others)?;
+    let second = plain_words(day.others)?;
+    let third = plain_words(second.others)?;
     let files = PlainWords {
         first: day.first,
-        others: certificate.others,
+        others: third.others,
     };
-    if is_day_and_files(files) && (is_file(plan.first) && is_file(certificate.first)) {
-        Some(CheckWords {
+    if is_day_and_files(files) {
+        Some(ThreeWords {
             day: day.first,
-            plan: plan.first,
-            certificate: certificate.first,
-            files: certificate.others,
+            second: second.first,
+            third: third.first,
+            files: third.others,
         })
     } else {
         None
+    }
+}
+
+/// What plain words say is to be checked, where they are right: a day, a plan, its certificate, and files.
+fn check_words(words: Parted<'_>) -> Option<ThreeWords<'_>>
+    ensures said { IfSome result (λ said. plain_of (said_by words.entry.before.now) ++ words.entry.behind.now ≡ said.day.now ∷ said.second.now ∷ said.third.now ∷ (plain_of (said_by said.files.before.now) ++ said.files.behind.now)) }
+    ensures right { IfSome result (λ said. (spec.are_day_and_files (said.day.now ∷ (plain_of (said_by said.files.before.now) ++ said.files.behind.now)) && (spec.file_word said.second.now && spec.file_word said.third.now)) ≡ true) }
+    ensures none { IfNone result ((effort : Effort) → spec.check_request effort (plain_of (said_by words.entry.before.now) ++ words.entry.behind.now) ≡ None) }
+{
+    match three_words(words) {
+        Some(said) if is_file(said.second) && is_file(said.third) => Some(said),
+        _ => None,
     }
 }
 
@@ -379,41 +392,19 @@ fn check_request(alloc: Global, effort: Effort, words: Parted<'_>) -> Result<Req
         effort,
         flow: false,
         day: digits_number(said.day),
-        names: names_with(alloc, said.files, said.plan, said.certificate)?,
+        names: names_with(alloc, said.files, said.second, said.third)?,
     })
 }
 
-/// A day, a moment, a plan, and files.
-#[derive(Clone, Copy)]
-struct ReplanWords<'w> {
-    day: &'w [u8],
-    moment: &'w [u8],
-    plan: &'w [u8],
-    files: Parted<'w>,
-}
-
-/// What plain words say is to be planned anew, where they are right.
-fn replan_words(words: Parted<'_>) -> Option<ReplanWords<'_>>
-    ensures said { IfSome result (λ said. plain_of (said_by words.entry.before.now) ++ words.entry.behind.now ≡ said.day.now ∷ said.moment.now ∷ said.plan.now ∷ (plain_of (said_by said.files.before.now) ++ said.files.behind.now)) }
-    ensures right { IfSome result (λ said. (spec.are_day_and_files (said.day.now ∷ (plain_of (said_by said.files.before.now) ++ said.files.behind.now)) && (spec.moment_word said.moment.now && spec.file_word said.plan.now)) ≡ true) }
+/// What plain words say is to be planned anew, where they are right: a day, a moment, a plan, and files.
+fn replan_words(words: Parted<'_>) -> Option<ThreeWords<'_>>
+    ensures said { IfSome result (λ said. plain_of (said_by words.entry.before.now) ++ words.entry.behind.now ≡ said.day.now ∷ said.second.now ∷ said.third.now ∷ (plain_of (said_by said.files.before.now) ++ said.files.behind.now)) }
+    ensures right { IfSome result (λ said. (spec.are_day_and_files (said.day.now ∷ (plain_of (said_by said.files.before.now) ++ said.files.behind.now)) && (spec.moment_word said.second.now && spec.file_word said.third.now)) ≡ true) }
     ensures none { IfNone result ((effort : Effort) → spec.replan_request effort (plain_of (said_by words.entry.before.now) ++ words.entry.behind.now) ≡ None) }
 {
-    let day = plain_words(words)?;
-    let moment = plain_words(day.others)?;
-    let plan = plain_words(moment.others)?;
-    let files = PlainWords {
-        first: day.first,
-        others: plan.others,
-    };
-    if is_day_and_files(files) && (is_moment(moment.first) && is_file(plan.first)) {
-        Some(ReplanWords {
-            day: day.first,
-            moment: moment.first,
-            plan: plan.first,
-            files: plan.others,
-        })
-    } else {
-        None
+    match three_words(words) {
+        Some(said) if is_moment(said.second) && is_file(said.third) => Some(said),
+        _ => None,
     }
 }
 
@@ -432,12 +423,12 @@ fn replan_request(alloc: Global, effort: Effort, words: Parted<'_>) -> Result<Re
     };
     Ok(Request {
         command: Command::Replan {
-            moment: digits_number(said.moment),
+            moment: digits_number(said.second),
         },
         effort,
         flow: false,
         day: digits_number(said.day),
-        names: names_and_plan(alloc, said.files, said.plan)?,
+        names: names_and_plan(alloc, said.files, said.third)?,
     })
 }
 
