@@ -1,5 +1,5 @@
 -- Numbers that a field can hold.
-use Rattle.std.specs.Prelude.{ℕ, ◌<◌, ◌^◌, List, [], ◌∷◌}
+use Rattle.std.specs.Prelude.{◌<◌, ◌^◌, List, [], ◌∷◌}
 use Rattle.day_maker.specs.declared.cells.Cell.{Cell}
 use Rattle.day_maker.specs.declared.cells.Cell.TheVariants.{Number, Variant, Nothing}
 

@@ -3,8 +3,10 @@
 
 mod cells;
 mod drawing;
+mod headings;
 mod making;
 mod parts;
+mod shares;
 mod tables;
 mod trips;
 

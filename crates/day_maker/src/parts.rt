@@ -1,14 +1,15 @@
-//! The rows of the network, line by line and point by point.
+//! The rows of the network, line by line and point by point, and of its pools and groups.
 
 ghost use Rattle.std.specs.Prelude.{◌≡◌, ◌≤◌, ◌++◌, ◌∷◌, [], true, false, All, IfOk, OnOk};
-ghost use Rattle.day_maker.specs.Made.{course_row, length_row, part_rows, position_of as position_of_spec, rows_for as rows_for_of, rows_of, time_row, type_of as type_of_spec, way_row, way_rows, way_seconds as way_seconds_of};
+ghost use Rattle.day_maker.specs.Made.{course_row, link_row, part_rows, position_of as position_of_spec, rows_for as rows_for_of, rows_of, type_of as type_of_spec, way_row, way_rows, way_seconds as way_seconds_of};
 
 use crate::cells::{Cell, add};
+use crate::shares::{add_group, add_pool};
 use plan_core::{Memory, Seq};
 use std::alloc::Global;
 use vdv451_text::Field;
 
-/// What the rows of a table tell of a line or a point.
+/// What the rows of a table tell of a line or a point, of a pool or a group.
 #[derive(Clone, Copy, Debug)]
 pub enum Part {
     /// REC_ORT, by points.
@@ -29,10 +30,14 @@ pub enum Part {
     Ways,
     /// X_ABLOESE, by points.
     Reliefs,
+    /// X_HOF, by pools, each of so many vehicles.
+    Pools(u32),
+    /// X_FAHRER, by groups, each of so many drivers.
+    Groups(u32),
 }
 
 /// Terminals and depots.
-const PLACES: [u64; 10] = [1, 2, 3, 4, 5, 6, 7, 8, 101, 102];
+pub(crate) const PLACES: [u64; 10] = [1, 2, 3, 4, 5, 6, 7, 8, 101, 102];
 
 /// The type of a point: a depot is of type 2.
 fn type_of(nr: u64) -> u64
@@ -155,10 +160,11 @@ fn add_ways(
     Ok(())
 }
 
-/// Puts behind others the row of a link of a line.
-fn add_length(
+/// Puts behind others the row of a link of a line, as the table of lengths or of times has it.
+fn add_link(
     alloc: Global,
     rows: &mut Seq<Seq<Field>>,
+    timed: bool,
     line: u64,
     from: u64,
     to: u64,
@@ -166,54 +172,18 @@ fn add_length(
     requires line { line ≤ 1000 }
     requires from { from ≤ 2000 }
     requires to { to ≤ 2000 }
-    ensures { OnOk result (rows.new ≡ rows.old ++ rows_of (length_row line from to ∷ [])) }
+    ensures { OnOk result (rows.new ≡ rows.old ++ rows_of (link_row timed line from to ∷ [])) }
 {
     let one = Cell::Number(1);
-    let metres = Cell::Number(30_000 + 500 * line);
-    add(
-        alloc,
-        rows,
-        &[
-            one,
-            one,
-            one,
-            Cell::Number(from),
-            Cell::Number(to),
-            one,
-            metres,
-        ],
-    )
-}
-
-/// Puts behind others the row of the time of a link of a line.
-fn add_time(
-    alloc: Global,
-    rows: &mut Seq<Seq<Field>>,
-    line: u64,
-    from: u64,
-    to: u64,
-) -> Result<(), Memory>
-    requires line { line ≤ 1000 }
-    requires from { from ≤ 2000 }
-    requires to { to ≤ 2000 }
-    ensures { OnOk result (rows.new ≡ rows.old ++ rows_of (time_row line from to ∷ [])) }
-{
-    let one = Cell::Number(1);
-    let seconds = Cell::Number(2_400 + 60 * line);
-    add(
-        alloc,
-        rows,
-        &[
-            one,
-            one,
-            one,
-            one,
-            Cell::Number(from),
-            Cell::Number(to),
-            one,
-            seconds,
-        ],
-    )
+    let from = Cell::Number(from);
+    let to = Cell::Number(to);
+    if timed {
+        let seconds = Cell::Number(2_400 + 60 * line);
+        add(alloc, rows, &[one, one, one, one, from, to, one, seconds])
+    } else {
+        let metres = Cell::Number(30_000 + 500 * line);
+        add(alloc, rows, &[one, one, one, from, to, one, metres])
+    }
 }
 
 /// Puts behind others the row of a point of a course.
@@ -247,9 +217,10 @@ fn add_stop(
 }
 
 /// Puts behind others the rows of the two links of a variant.
-fn add_lengths(
+fn add_links(
     alloc: Global,
     rows: &mut Seq<Seq<Field>>,
+    timed: bool,
     line: u64,
     from: u64,
     over: u64,
@@ -259,29 +230,10 @@ fn add_lengths(
     requires from { from ≤ 2000 }
     requires over { over ≤ 2000 }
     requires to { to ≤ 2000 }
-    ensures { OnOk result (rows.new ≡ rows.old ++ rows_of (length_row line from over ∷ length_row line over to ∷ [])) }
+    ensures { OnOk result (rows.new ≡ rows.old ++ rows_of (link_row timed line from over ∷ link_row timed line over to ∷ [])) }
 {
-    add_length(alloc, rows, line, from, over)?;
-    add_length(alloc, rows, line, over, to)
-}
-
-/// Puts behind others the rows of the times of the two links of a variant.
-fn add_times(
-    alloc: Global,
-    rows: &mut Seq<Seq<Field>>,
-    line: u64,
-    from: u64,
-    over: u64,
-    to: u64,
-) -> Result<(), Memory>
-    requires line { line ≤ 1000 }
-    requires from { from ≤ 2000 }
-    requires over { over ≤ 2000 }
-    requires to { to ≤ 2000 }
-    ensures { OnOk result (rows.new ≡ rows.old ++ rows_of (time_row line from over ∷ time_row line over to ∷ [])) }
-{
-    add_time(alloc, rows, line, from, over)?;
-    add_time(alloc, rows, line, over, to)
+    add_link(alloc, rows, timed, line, from, over)?;
+    add_link(alloc, rows, timed, line, over, to)
 }
 
 /// Puts behind others the rows of the course of a variant.
@@ -305,7 +257,7 @@ fn add_course(
     add_stop(alloc, rows, line, out, 3, to)
 }
 
-/// Puts behind others the rows that belong to a line or a point.
+/// Puts behind others the rows that belong to a line or a point, a pool or a group.
 fn add_part(alloc: Global, rows: &mut Seq<Seq<Field>>, part: Part, n: u64) -> Result<(), Memory>
     requires { n ≤ 1000 }
     ensures { OnOk result (rows.new ≡ rows.old ++ rows_of (part_rows part n)) }
@@ -315,12 +267,12 @@ fn add_part(alloc: Global, rows: &mut Seq<Seq<Field>>, part: Part, n: u64) -> Re
     match part {
         Part::Points => add(alloc, rows, &[one, Cell::Number(type_of(n)), number]),
         Part::Lengths => {
-            add_lengths(alloc, rows, n, n, 10 + n, n + 1)?;
-            add_lengths(alloc, rows, n, n + 1, 10 + n, n)
+            add_links(alloc, rows, false, n, n, 10 + n, n + 1)?;
+            add_links(alloc, rows, false, n, n + 1, 10 + n, n)
         }
         Part::Times => {
-            add_times(alloc, rows, n, n, 10 + n, n + 1)?;
-            add_times(alloc, rows, n, n + 1, 10 + n, n)
+            add_links(alloc, rows, true, n, n, 10 + n, n + 1)?;
+            add_links(alloc, rows, true, n, n + 1, 10 + n, n)
         }
         Part::Dwells => {
             let dwell = Cell::Number(60);
@@ -337,10 +289,12 @@ fn add_part(alloc: Global, rows: &mut Seq<Seq<Field>>, part: Part, n: u64) -> Re
         Part::Deadheads => add_ways(alloc, rows, true, n, &PLACES),
         Part::Ways => add_ways(alloc, rows, false, n, &PLACES),
         Part::Reliefs => add(alloc, rows, &[one, number]),
+        Part::Pools(trips) => add_pool(alloc, rows, n, trips),
+        Part::Groups(trips) => add_group(alloc, rows, n, trips),
     }
 }
 
-/// The rows of some lines or points, one after another.
+/// The rows of some lines or points, pools or groups, one after another.
 pub(crate) fn rows_for(
     alloc: Global,
     part: Part,

@@ -1,7 +1,6 @@
-use Rattle.std.proofs.Common.{◌≡◌, ◌+◌, ◌++◌, ◌∷◌, [], List, true, false, ap, refl, sym, ◌∙◌, rules}
+use Rattle.std.proofs.Common.{◌≡◌, ◌+◌, ◌++◌, ◌∷◌, [], List, true, false, ap, sym, rules}
 use Rattle.day_maker.specs.declared.cells.Cell.{Cell}
 use Rattle.day_maker.specs.declared.parts.Part.{Part}
-use Rattle.day_maker.specs.declared.parts.Part.TheVariants.{Courses}
 use Rattle.day_maker.specs.Made.{course_row, part_rows}
 use Rattle.day_maker.proofs.RowLemmas.{add_both}
 use Rattle.day_maker.proofs.parts.add_part.Goals as goal

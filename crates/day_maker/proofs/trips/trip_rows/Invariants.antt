@@ -1,4 +1,4 @@
-use Rattle.std.proofs.Common.{◌≡◌, ◌+◌, ◌-◌, ◌++◌, ◌<◌, ◌^◌}
+use Rattle.std.proofs.Common.{◌≡◌, ◌+◌, ◌-◌, ◌++◌}
 use Rattle.day_maker.specs.Made.{first_state, rows_of, trip_rows}
 use Rattle.day_maker.proofs.trips.trip_rows.Given as goal
 
