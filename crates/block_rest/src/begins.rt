@@ -6,8 +6,8 @@ ghost use Rattle.cover_rest.specs.Laws.{StandForAll};
 ghost use Rattle.cover_rest.specs.Rest.{written};
 ghost use Rattle.block_rest.specs.Rest.{may_begin};
 
-use crate::bodies::body;
 use crate::earlier::leaves_before;
+use cover_rest::body;
 use day_model::Day;
 use plan_core::Seq;
 

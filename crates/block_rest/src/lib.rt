@@ -7,7 +7,7 @@
 #![tactic(auto)]
 
 mod begins;
-mod bodies;
+mod begun;
 mod earlier;
 mod head;
 mod laws;

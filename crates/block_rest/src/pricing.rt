@@ -15,11 +15,10 @@ ghost use Rattle.rest_labels.specs.Labels.{is_set};
 ghost use Rattle.block_rest.specs.Rest.{IsMade, may_begin, rests};
 
 use crate::begins::leaves_later;
-use crate::bodies::body;
 use crate::rest::BlockRest;
 use crate::walk::pool_of;
 use cover_core::Column;
-use cover_rest::Begun;
+use cover_rest::{Begun, body};
 use day_model::Day;
 use depot_network::PoolNet;
 use label_dive::{dive_from_least, likely};

@@ -10,12 +10,12 @@ ghost use Rattle.depot_network.specs.Network.{blocks_of, is_count};
 ghost use Rattle.block_rest.specs.Rest.{begun_of, may_begin, rests};
 
 use crate::begins::begins;
-use crate::bodies::{begun, body};
+use crate::begun::begun;
 use crate::head::Head;
 use crate::pricing::best_list;
 use crate::walk::written_worth;
 use cover_core::{Column, Columns, Plan, Pricer, Prices, Worth};
-use cover_rest::{Begun, bodies, bodies_stand_for_all, is_rest_list, written_out};
+use cover_rest::{Begun, bodies, bodies_stand_for_all, body, is_rest_list, written_out};
 use day_model::Day;
 use depot_network::PoolNet;
 use plan_core::{Memory, Seq};

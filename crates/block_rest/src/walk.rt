@@ -12,7 +12,7 @@ ghost use Rattle.cover_rest.specs.Laws.{StandForAll};
 ghost use Rattle.cover_rest.specs.Rest.{written};
 ghost use Rattle.block_rest.specs.Low.{IsLow};
 
-use crate::bodies::body;
+use cover_rest::body;
 use day_model::Day;
 use depot_network::{OpenBlock, PoolNet};
 use plan_core::Seq;

@@ -1,11 +1,7 @@
 use Rattle.std.proofs.Common.{ℕ, List, length, sym, subst, rules, slice_index_or}
 use Rattle.cover_core.specs.Cover.{AllBelow}
-use Rattle.cover_core.proofs.Values.{AllBelow-get}
 use Rattle.block_rest.proofs.Stands.{body-below}
 use Rattle.block_rest.proofs.begins.begins.Goals as goal
-
-pub body-requires : goal.body-requires
-body-requires c = AllBelow-get (length c.args.bodies.now) c.args.list.now 0 c.requires.list (search rules)
 
 pub leaves_later-requires-clause-trips : goal.leaves_later-requires-clause-trips
 leaves_later-requires-clause-trips c =

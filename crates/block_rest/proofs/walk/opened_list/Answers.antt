@@ -8,9 +8,6 @@ use Rattle.block_rest.proofs.Stands.{body-below}
 use Rattle.block_rest.proofs.Walking.{after-none, first-walked, take-rest}
 use Rattle.block_rest.proofs.walk.opened_list.Goals as goal
 
-pub body-requires : goal.body-requires
-body-requires c = AllBelow-get (length c.args.bodies.now) c.args.list.now 0 c.requires.list (search rules)
-
 pub opened-requires-clause-list : goal.opened-requires-clause-list
 opened-requires-clause-list c =
     let P : List ℕ → Type 0 = AllBelow (length c.args.net.now.day.trips) in
