@@ -4,12 +4,6 @@ use Rattle.std.proofs.lemmas.List.{drop_more}
 use Rattle.cover_core.specs.Cover.{AllBelow}
 use Rattle.cover_rest.specs.Rest.{body_at, joined, written}
 
--- what an item stands for that is there
-pub body-here : (bs : List (List ℕ)) (x : ℕ) (d : List ℕ) → x < length bs → slice_index_or bs x d ≡ body_at bs x
-body-here [] x d within = absurd (omega (arith, within))
-body-here (b ∷ bs) zero d within = refl
-body-here (b ∷ bs) (suc x) d within = body-here bs x d (omega (arith, within))
-
 below-front : (n : ℕ) (xs ys : List ℕ) → AllBelow n (xs ++ ys) → AllBelow n xs
 below-front n [] ys below = tt
 below-front n (x ∷ xs) ys below = (below.0, below-front n xs ys below.1)

@@ -7,8 +7,8 @@
 //! has no begun piece of an earlier duty.
 #![tactic(auto)]
 
+mod begun;
 mod begun_parts;
-mod bodies;
 mod earlier;
 mod head;
 mod laws;

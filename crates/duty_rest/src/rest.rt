@@ -9,12 +9,12 @@ ghost use Rattle.cover_rest.specs.Rest.{bodies, body_at, rest_worth, written_pla
 ghost use Rattle.duty_network.specs.Duties.{duties};
 ghost use Rattle.duty_rest.specs.Rest.{begun_of, may_begin, rests};
 
-use crate::bodies::{begun, body};
+use crate::begun::begun;
 use crate::head::DutyHead;
 use crate::pricing::best_list;
 use crate::walk::written_worth;
 use cover_core::{Column, Columns, Plan, Pricer, Prices};
-use cover_rest::{Begun, bodies, bodies_stand_for_all, is_rest_list, written_out};
+use cover_rest::{Begun, bodies, bodies_stand_for_all, body, is_rest_list, written_out};
 use duty_network::DutyNet;
 use plan_core::{Memory, Seq};
 use std::alloc::Global;
@@ -104,6 +104,23 @@ impl<'n> DutyRest<'n> {
         })
     }
 
+    /// The pieces that an item stands for: those of a head, or one piece.
+    pub fn pieces_of(&self, item: u32) -> &[u32]
+        requires { item < (rests self.now).items }
+        ensures { result.now ≡ body_at (bodies (begun_of self.now.heads) (length self.now.net.pieces)) item }
+    {
+        body(self.bodies.as_slice(), item)
+    }
+
+    /// The columns of a plan of the rest, written out: each in its place, with its group, its worth, and the pieces that its items stand
+    /// for. Of a plan of the rest that is a plan of the day's duties, which keeps what has begun. `Memory` is the only error.
+    pub fn expand(&self, alloc: Global, plan: &Plan) -> Result<Plan, Memory>
+        requires { AreColumns (rests self.now) plan.now.columns }
+        ensures { IfOk result (λ written. written.columns ≡ written_plan (bodies (begun_of self.now.heads) (length self.now.net.pieces)) plan.now.columns) }
+    {
+        written_out(alloc, self.bodies.as_slice(), plan)
+    }
+
     /// The duties of the day.
     pub fn net(&self) -> &DutyNet<'n>
         ensures { result.now ≡ self.now.net }
@@ -123,23 +140,6 @@ impl<'n> DutyRest<'n> {
         ensures { result ≡ self.now.moment }
     {
         self.moment
-    }
-
-    /// The pieces that an item stands for: those of a head, or one piece.
-    pub fn pieces_of(&self, item: u32) -> &[u32]
-        requires { item < (rests self.now).items }
-        ensures { result.now ≡ body_at (bodies (begun_of self.now.heads) (length self.now.net.pieces)) item }
-    {
-        body(self.bodies.as_slice(), item)
-    }
-
-    /// The columns of a plan of the rest, written out: each in its place, with its group, its worth, and the pieces that its items stand
-    /// for. Of a plan of the rest that is a plan of the day's duties, which keeps what has begun. `Memory` is the only error.
-    pub fn expand(&self, alloc: Global, plan: &Plan) -> Result<Plan, Memory>
-        requires { AreColumns (rests self.now) plan.now.columns }
-        ensures { IfOk result (λ written. written.columns ≡ written_plan (bodies (begun_of self.now.heads) (length self.now.net.pieces)) plan.now.columns) }
-    {
-        written_out(alloc, self.bodies.as_slice(), plan)
     }
 }
 

@@ -12,8 +12,8 @@ ghost use Rattle.duty_network.specs.Ranges.{MarkFits};
 ghost use Rattle.cover_rest.specs.Laws.{StandForAll};
 ghost use Rattle.cover_rest.specs.Rest.{written};
 
-use crate::bodies::body;
 use cover_core::Mark;
+use cover_rest::body;
 use duty_network::DutyNet;
 use plan_core::Seq;
 use plan_params::Group;

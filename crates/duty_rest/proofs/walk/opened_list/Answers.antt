@@ -8,9 +8,6 @@ use Rattle.duty_rest.proofs.Stands.{body-below}
 use Rattle.duty_rest.proofs.Walking.{after-none, first-walked, take-rest}
 use Rattle.duty_rest.proofs.walk.opened_list.Goals as goal
 
-pub body-requires : goal.body-requires
-body-requires c = AllBelow-get (length c.args.bodies.now) c.args.list.now 0 c.requires.list (search rules)
-
 pub opened-requires-clause-list : goal.opened-requires-clause-list
 opened-requires-clause-list c =
     let n : ℕ = length c.args.net.now.pieces in

@@ -1,15 +1,11 @@
 use Rattle.std.proofs.Common.{[], ◌+◌, None, drop, ◌≡◌, ℕ, List, Some, length, sym, subst, ◌∙◌, ap, rules, slice_index_or}
 use Rattle.cover_core.specs.Cover.{AllBelow}
 use Rattle.cover_core.specs.Labels.{label_after}
-use Rattle.cover_core.proofs.Values.{AllBelow-get}
 use Rattle.duty_network.specs.Marks.{marking}
 use Rattle.cover_rest.specs.Rest.{written}
 use Rattle.duty_rest.proofs.Stands.{body-below}
 use Rattle.duty_rest.proofs.Walking.{after-body, after-none}
 use Rattle.duty_rest.proofs.walk.walked_on.Goals as goal
-
-pub body-requires : goal.body-requires
-body-requires c = AllBelow-get (length c.args.bodies.now) c.args.rest.now c.loop-item.item-index c.requires.rest (search rules)
 
 pub walked-requires-clause-rest : goal.walked-requires-clause-rest
 walked-requires-clause-rest c =

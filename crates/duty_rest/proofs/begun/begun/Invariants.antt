@@ -1,6 +1,6 @@
 use Rattle.std.proofs.Common.{◌≡◌, ◌++◌, drop}
 use Rattle.duty_rest.specs.Rest.{begun_of}
-use Rattle.duty_rest.proofs.bodies.begun.Given as goal
+use Rattle.duty_rest.proofs.begun.begun.Given as goal
 
 -- what is there and what is left are all
 abbrev pub invariant-loop-head : goal.invariant-loop-head

@@ -1,7 +1,6 @@
-//! What the items of a rest stand for.
+//! Heads as what the columns of a problem begin with.
 
-ghost use Rattle.std.specs.Prelude.{◌≡◌, ◌<◌, IfOk, length};
-ghost use Rattle.cover_rest.specs.Rest.{body_at};
+ghost use Rattle.std.specs.Prelude.{◌≡◌, IfOk};
 ghost use Rattle.duty_rest.specs.Rest.{begun_of};
 
 use crate::head::DutyHead;
@@ -9,7 +8,7 @@ use cover_rest::Begun;
 use plan_core::{Memory, Seq};
 use std::alloc::Global;
 
-/// Heads as what the columns of a problem begin with.
+/// The heads of duties as what columns begin with: pieces are the items.
 pub(crate) fn begun(alloc: Global, heads: &[DutyHead]) -> Result<Seq<Begun>, Memory>
     ensures { IfOk result (λ begun. begun ≡ begun_of heads.now) }
 {
@@ -22,12 +21,4 @@ pub(crate) fn begun(alloc: Global, heads: &[DutyHead]) -> Result<Seq<Begun>, Mem
         })?;
     }
     Ok(begun)
-}
-
-/// The pieces that an item of the rest stands for.
-pub(crate) fn body(bodies: &[Seq<u32>], item: u32) -> &[u32]
-    requires { item < length bodies.now }
-    ensures { result.now ≡ body_at bodies.now item }
-{
-    bodies[item as usize].as_slice()
 }
