@@ -8,6 +8,8 @@ use Rattle.plan_rows.specs.declared.fault.PlanTable.TheVariants as which
 use Rattle.plan_rows.specs.Tables.{sheet_of, table_of}
 use Rattle.chart_page.specs.declared.layout.Hours.{Hours}
 use Rattle.chart_page.specs.declared.layout.Lane.{Lane}
+use Rattle.chart_page.specs.declared.marks.Mark.{Mark}
+use Rattle.chart_page.specs.declared.marks.Mark.TheVariants as marks
 use Rattle.chart_page.specs.declared.parts.Bar.{Bar}
 use Rattle.chart_page.specs.declared.parts.Part.{Part}
 use Rattle.plan_rows.specs.declared.rows.TripRow.{TripRow}
@@ -76,9 +78,9 @@ scale_none : (hours : Hours) (starts : List ℕ) (rows : ℕ) → bars_in (frame
 scale_none hours starts rows =
     none_before (flat_map (frame.hour_name hours.first) starts) (frame.names_open rows) (none_of (frame.hour_name hours.first) (λ hour. refl) starts)
 
-pool_none : (block : BlockRow) (place : ℕ) (first : Bool) → bars_in (blocks.pool_by block place first) ≡ []
-pool_none block place true = refl
-pool_none block place false = refl
+share_none : (name : Mark) (number place : ℕ) (first : Bool) → bars_in (frame.share_by name number place first) ≡ []
+share_none name number place true = refl
+share_none name number place false = refl
 
 typ_none : (typ : Option ℕ) → bar_in (blocks.typ_part typ) ≡ None
 typ_none (Some typ) = refl
@@ -89,7 +91,7 @@ block_name_none vehicles block lane = rw (typ_none (blocks.vehicle_of vehicles b
 
 block_none : (vehicles : List VehicleRow) (lanes : List Lane) (e : ℕ × BlockRow) → bars_in (blocks.block_at vehicles lanes e) ≡ []
 block_none vehicles lanes e =
-    none_before (blocks.pool_parts e.1 (lane_at lanes e.0)) _ (pool_none e.1 (lane_at lanes e.0).place (lane_at lanes e.0).is_first)
+    none_before (blocks.pool_parts e.1 (lane_at lanes e.0)) _ (share_none marks.PoolBegin e.1.pool (lane_at lanes e.0).place (lane_at lanes e.0).is_first)
     ∙ block_name_none vehicles e.1 (lane_at lanes e.0)
 
 -- the chart of the blocks has one bar for each leg
@@ -120,12 +122,8 @@ all_pause_bars : (lanes : List Lane) (pieces : List PieceRow) → bars_in (dutie
 all_pause_bars lanes [] = refl
 all_pause_bars lanes (first ∷ pieces) = pauses_bars lanes first pieces
 
-group_none : (duty : DutyRow) (place : ℕ) (first : Bool) → bars_in (duties.group_by duty place first) ≡ []
-group_none duty place true = refl
-group_none duty place false = refl
-
 name_none : (lanes : List Lane) (e : ℕ × DutyRow) → bars_in (duties.name_at lanes e) ≡ []
-name_none lanes e = none_before (duties.group_parts e.1 (lane_at lanes e.0)) _ (group_none e.1 (lane_at lanes e.0).place (lane_at lanes e.0).is_first)
+name_none lanes e = none_before (duties.group_parts e.1 (lane_at lanes e.0)) _ (share_none marks.GroupBegin e.1.group (lane_at lanes e.0).place (lane_at lanes e.0).is_first)
 
 one_duty : (lanes : List Lane) (e : ℕ × DutyRow) → bars_in (duties.duty_at lanes e) ≡ duty_bar_at lanes e ∷ []
 unfolding duty_parts

@@ -1,5 +1,5 @@
 -- The chart of the blocks: their legs as bars, by pool.
-use Rattle.std.specs.Prelude.{ℕ, ◌==◌, Bool, true, false, List, [], ◌∷◌, ◌++◌, length, map, find, Option, Some, None, unwrap_or, slice_get}
+use Rattle.std.specs.Prelude.{ℕ, ◌==◌, List, [], ◌∷◌, ◌++◌, length, map, find, Option, Some, None, unwrap_or, slice_get}
 use Rattle.std.specs.List.{flat_map, enumerate_from}
 use Rattle.std.specs.Option.{option_map}
 use Rattle.plan_core.specs.declared.types.LegKind.{LegKind}
@@ -19,7 +19,7 @@ use Rattle.plan_rows.specs.declared.rows.VehicleRow.{VehicleRow}
 use Rattle.plan_rows.specs.declared.rows.BlockRow.{BlockRow}
 use Rattle.plan_rows.specs.declared.rows.LegRow.{LegRow}
 use Rattle.plan_rows.specs.declared.sheet.BlockSheet.{BlockSheet}
-use Rattle.chart_page.specs.Frame.{ends_parts, frame_parts, label_open, scale_parts}
+use Rattle.chart_page.specs.Frame.{ends_parts, frame_parts, label_open, scale_parts, share_parts}
 use Rattle.chart_page.specs.Layout.{lane_at, lanes_by}
 use Rattle.chart_page.specs.Parts.{written}
 
@@ -87,17 +87,9 @@ leg_parts trips lanes leg =
 abbrev pub legs_text : Table → List TripRow → List Lane → List LegRow → List ℕ
 legs_text table trips lanes legs = flat_map (λ leg. written table (leg_parts trips lanes leg)) legs
 
-abbrev pub pool_name : BlockRow → ℕ → List Part
-pool_name block place =
-    Own marks.ShareOpen ∷ Number place ∷ Own marks.PoolOpen ∷ Number place ∷ Own marks.PoolBegin ∷ Number block.pool ∷ Own marks.TextClose ∷ []
-
-abbrev pub pool_by : BlockRow → ℕ → Bool → List Part
-pool_by block place true = pool_name block place
-pool_by block place false = []
-
 -- the number of a pool stands at its first block
 abbrev pub pool_parts : BlockRow → Lane → List Part
-pool_parts block lane = pool_by block lane.place lane.is_first
+pool_parts block lane = share_parts marks.PoolBegin block.pool lane
 
 abbrev pub vehicle_of : List VehicleRow → ℕ → Option ℕ
 vehicle_of vehicles number = option_map (λ (vehicle : VehicleRow). vehicle.typ) (find (λ (vehicle : VehicleRow). vehicle.number == number) vehicles)

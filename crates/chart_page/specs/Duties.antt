@@ -1,5 +1,5 @@
 -- The chart of the duties: from sign-on to sign-off with their pieces and pauses as bars, by group.
-use Rattle.std.specs.Prelude.{ℕ, ◌==◌, ◌&&◌, nat_lt, Bool, true, false, List, [], ◌∷◌, ◌++◌, length, map, Option, Some, None, if◌then◌else◌}
+use Rattle.std.specs.Prelude.{ℕ, ◌==◌, ◌&&◌, nat_lt, List, [], ◌∷◌, ◌++◌, length, map, Option, Some, None, if◌then◌else◌}
 use Rattle.std.specs.List.{flat_map, enumerate_from}
 use Rattle.vdv451_text.specs.declared.table.Table.{Table}
 use Rattle.chart_page.specs.declared.layout.Hours.{Hours}
@@ -14,7 +14,7 @@ use Rattle.plan_rows.specs.declared.rows.Span.{Span}
 use Rattle.plan_rows.specs.declared.rows.DutyRow.{DutyRow}
 use Rattle.plan_rows.specs.declared.rows.PieceRow.{PieceRow}
 use Rattle.plan_rows.specs.declared.sheet.DutySheet.{DutySheet}
-use Rattle.chart_page.specs.Frame.{ends_parts, frame_parts, label_open, length_of, scale_parts}
+use Rattle.chart_page.specs.Frame.{ends_parts, frame_parts, label_open, length_of, scale_parts, share_parts}
 use Rattle.chart_page.specs.Layout.{lane_at, lanes_by}
 use Rattle.chart_page.specs.Parts.{written}
 
@@ -104,17 +104,9 @@ piece_parts lanes piece =
 abbrev pub pieces_text : Table → List Lane → List PieceRow → List ℕ
 pieces_text table lanes pieces = flat_map (λ piece. written table (piece_parts lanes piece)) pieces
 
-abbrev pub group_name : DutyRow → ℕ → List Part
-group_name duty place =
-    Own marks.ShareOpen ∷ Number place ∷ Own marks.PoolOpen ∷ Number place ∷ Own marks.GroupBegin ∷ Number duty.group ∷ Own marks.TextClose ∷ []
-
-abbrev pub group_by : DutyRow → ℕ → Bool → List Part
-group_by duty place true = group_name duty place
-group_by duty place false = []
-
 -- the number of a group stands at its first duty
 abbrev pub group_parts : DutyRow → Lane → List Part
-group_parts duty lane = group_by duty lane.place lane.is_first
+group_parts duty lane = share_parts marks.GroupBegin duty.group lane
 
 abbrev pub duty_name : DutyRow → Lane → List Part
 duty_name duty lane =

@@ -1,8 +1,10 @@
--- What the two charts share: their frame, their hours, and the words for ends and labels.
-use Rattle.std.specs.Prelude.{ℕ, ◌+◌, ◌-◌, ◌*◌, min, List, [], ◌∷◌, ◌++◌}
+-- What the two charts share: their frame, their hours, and the words for ends, labels, pools and groups.
+use Rattle.std.specs.Prelude.{ℕ, ◌+◌, ◌-◌, ◌*◌, min, Bool, true, false, List, [], ◌∷◌, ◌++◌}
 use Rattle.std.specs.List.{flat_map, range_with_len}
 use Rattle.vdv451_text.specs.declared.table.Table.{Table}
 use Rattle.chart_page.specs.declared.layout.Hours.{Hours}
+use Rattle.chart_page.specs.declared.layout.Lane.{Lane}
+use Rattle.chart_page.specs.declared.marks.Mark.{Mark}
 use Rattle.chart_page.specs.declared.marks.Mark.TheVariants as marks
 use Rattle.chart_page.specs.declared.parts.Part.{Part}
 use Rattle.chart_page.specs.declared.parts.Part.TheVariants.{Own, Number, Clock, Lasting}
@@ -69,6 +71,19 @@ abbrev pub label_open : Span → ℕ → List Part
 label_open span lane =
     Own marks.LabelOpen ∷ Number span.begin ∷ Own marks.WidthIs ∷ Number (length_of span) ∷ Own marks.LabelTop ∷ Number lane ∷
     Own marks.LabelBegin ∷ []
+
+-- the line and the number of a pool or a group, whose name a constant of the page holds
+abbrev pub share_name : Mark → ℕ → ℕ → List Part
+share_name name number place =
+    Own marks.ShareOpen ∷ Number place ∷ Own marks.PoolOpen ∷ Number place ∷ Own name ∷ Number number ∷ Own marks.TextClose ∷ []
+
+abbrev pub share_by : Mark → ℕ → ℕ → Bool → List Part
+share_by name number place true = share_name name number place
+share_by name number place false = []
+
+-- they stand at the first lane of the pool or group
+abbrev pub share_parts : Mark → ℕ → Lane → List Part
+share_parts name number lane = share_by name number lane.place lane.is_first
 
 -- the frame of a chart before its bars, over the begins of its hours
 abbrev pub frame_parts : Hours → List ℕ → ℕ → List Part

@@ -7,7 +7,7 @@ ghost use Rattle.chart_page.specs.Blocks as spec;
 ghost use Rattle.chart_page.specs.Layout.{lanes_by};
 ghost use Rattle.chart_page.specs.Parts.{written};
 
-use crate::frame::{push_ends, push_frame, push_label_open, push_scale};
+use crate::frame::{push_ends, push_frame, push_label_open, push_scale, push_share};
 use crate::layout::{Hours, Lane, lane_at, lanes_of};
 use crate::marks::Mark;
 use crate::parts::{Bar, BarKind, Part, push_parts};
@@ -191,29 +191,6 @@ fn push_legs(
     Ok(())
 }
 
-/// The line and the number of a pool, at its first block.
-fn push_pool(out: &mut Vec<u8>, table: &Table, block: &BlockRow, lane: Lane) -> Result<(), Memory>
-    ensures { OnOk result (out.new.items ≡ out.old.items ++ written table.now (spec.pool_parts block.now lane)) }
-{
-    if lane.is_first {
-        push_parts(
-            out,
-            table,
-            &[
-                Part::Own(Mark::ShareOpen),
-                Part::Number(lane.place as u64),
-                Part::Own(Mark::PoolOpen),
-                Part::Number(lane.place as u64),
-                Part::Own(Mark::PoolBegin),
-                Part::Number(block.pool as u64),
-                Part::Own(Mark::TextClose),
-            ],
-        )
-    } else {
-        push_parts(out, table, &[])
-    }
-}
-
 /// The first vehicle row of a block.
 fn vehicle_of(vehicles: &[VehicleRow], number: u32) -> Option<u32>
     ensures { result ≡ spec.vehicle_of vehicles.now number }
@@ -274,7 +251,7 @@ fn push_block(
 ) -> Result<(), Memory>
     ensures { OnOk result (out.new.items ≡ out.old.items ++ written table.now (spec.block_parts vehicles.now block.now lane)) }
 {
-    push_pool(out, table, block, lane)?;
+    push_share(out, table, Mark::PoolBegin, block.pool, lane)?;
     push_block_name(out, table, vehicles, block, lane)
 }
 

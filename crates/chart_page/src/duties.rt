@@ -7,7 +7,7 @@ ghost use Rattle.chart_page.specs.Duties as spec;
 ghost use Rattle.chart_page.specs.Layout.{lanes_by};
 ghost use Rattle.chart_page.specs.Parts.{written};
 
-use crate::frame::{length_of, push_ends, push_frame, push_label_open, push_scale};
+use crate::frame::{length_of, push_ends, push_frame, push_label_open, push_scale, push_share};
 use crate::layout::{Hours, Lane, lane_at, lanes_of};
 use crate::marks::Mark;
 use crate::parts::{Bar, BarKind, Part, push_parts};
@@ -280,29 +280,6 @@ fn push_pieces(
     Ok(())
 }
 
-/// The line and the number of a group, at its first duty.
-fn push_group(out: &mut Vec<u8>, table: &Table, duty: &DutyRow, lane: Lane) -> Result<(), Memory>
-    ensures { OnOk result (out.new.items ≡ out.old.items ++ written table.now (spec.group_parts duty.now lane)) }
-{
-    if lane.is_first {
-        push_parts(
-            out,
-            table,
-            &[
-                Part::Own(Mark::ShareOpen),
-                Part::Number(lane.place as u64),
-                Part::Own(Mark::PoolOpen),
-                Part::Number(lane.place as u64),
-                Part::Own(Mark::GroupBegin),
-                Part::Number(duty.group as u64),
-                Part::Own(Mark::TextClose),
-            ],
-        )
-    } else {
-        push_parts(out, table, &[])
-    }
-}
-
 /// The name of a duty beside its lane, with its spread and driving.
 fn push_duty_name(
     out: &mut Vec<u8>,
@@ -340,7 +317,7 @@ fn push_lane_name(
 ) -> Result<(), Memory>
     ensures { OnOk result (out.new.items ≡ out.old.items ++ written table.now (spec.lane_name duty.now lane)) }
 {
-    push_group(out, table, duty, lane)?;
+    push_share(out, table, Mark::GroupBegin, duty.group, lane)?;
     push_duty_name(out, table, duty, lane)
 }
 

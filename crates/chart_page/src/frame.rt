@@ -1,4 +1,4 @@
-//! What the two charts share: their frame, their hours, and the words for ends and labels.
+//! What the two charts share: their frame, their hours, and the words for ends, labels, pools and groups.
 #![tactic(auto, using(crate::proofs::PageLemmas::page_steps))]
 
 ghost use Rattle.std.specs.Prelude.{◌≡◌, ◌≤◌, ◌++◌, OnOk};
@@ -6,7 +6,7 @@ ghost use Rattle.std.specs.List.{range_with_len};
 ghost use Rattle.chart_page.specs.Frame as spec;
 ghost use Rattle.chart_page.specs.Parts.{written};
 
-use crate::layout::Hours;
+use crate::layout::{Hours, Lane};
 use crate::marks::Mark;
 use crate::parts::{Part, push_parts};
 use plan_core::Memory;
@@ -218,6 +218,35 @@ pub(crate) fn push_label_open(
             Part::Own(Mark::LabelBegin),
         ],
     )
+}
+
+/// The line and the number of a pool or a group, at its first lane: `name` is the constant with the word for it.
+pub(crate) fn push_share(
+    out: &mut Vec<u8>,
+    table: &Table,
+    name: Mark,
+    number: u32,
+    lane: Lane,
+) -> Result<(), Memory>
+    ensures { OnOk result (out.new.items ≡ out.old.items ++ written table.now (spec.share_parts name number lane)) }
+{
+    if lane.is_first {
+        push_parts(
+            out,
+            table,
+            &[
+                Part::Own(Mark::ShareOpen),
+                Part::Number(lane.place as u64),
+                Part::Own(Mark::PoolOpen),
+                Part::Number(lane.place as u64),
+                Part::Own(name),
+                Part::Number(number as u64),
+                Part::Own(Mark::TextClose),
+            ],
+        )
+    } else {
+        push_parts(out, table, &[])
+    }
 }
 
 /// The frame of a chart before its bars.
