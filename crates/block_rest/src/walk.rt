@@ -86,17 +86,17 @@ fn walked_on(
 }
 
 /// What an open block is worth that is driven in, if it may end.
-fn driven_in(net: &PoolNet<'_>, class: u32, pool: &Pool, open: &OpenBlock) -> Option<u64>
+fn driven_in(net: &PoolNet<'_>, class: u32, pool: &Pool, block: &OpenBlock) -> Option<u64>
     requires pool { slice_get net.now.day.params.pools class ≡ Some pool.now }
     requires ranges { IsPool pool.now }
-    requires fits { OpenFits (length net.now.day.trips) open.now }
-    requires low { IsLow net.now.day open.now }
-    ensures value { result ≡ option_map (λ v. unsigned_abs v / 1000) (closed_open net.now.day net.now.counts pool.now open.now) }
+    requires fits { OpenFits (length net.now.day.trips) block.now }
+    requires low { IsLow net.now.day block.now }
+    ensures value { result ≡ option_map (λ v. unsigned_abs v / 1000) (closed_open net.now.day net.now.counts pool.now block.now) }
     ensures bound { IfSome result (λ worth. worth ≤ 4000000000) }
 {
     // A pull-in is short: the day says so.
-    let _ = net.day().pull_in(class, open.trip);
-    let value = net.close_open(class, pool, open)?;
+    let _ = net.day().pull_in(class, block.trip);
+    let value = net.close_open(class, pool, block)?;
     Some(value.unsigned_abs() / 1000)
 }
 
