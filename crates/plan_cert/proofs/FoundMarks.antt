@@ -4,7 +4,6 @@ use Rattle.std.specs.List.{cons_option, filter_map}
 use Rattle.std.specs.Prelude.{Some, None, if◌then◌else◌}
 use Rattle.vdv451_text.specs.declared.table.Field.{Field}
 use Rattle.number_tables.specs.Outlines.{word}
-use Rattle.plan_cert.specs.declared.blocks.BlockEntry.{BlockEntry}
 use Rattle.plan_cert.specs.declared.cert.Pass.{Pass}
 use Rattle.plan_cert.specs.declared.cert.Pass.TheVariants.{BlockNumber, BlockCost, DutyNumber, DutyCost}
 use Rattle.plan_cert.specs.declared.columns.BlockColumns.{BlockColumns}
@@ -12,12 +11,11 @@ use Rattle.plan_cert.specs.declared.columns.DrivingColumns.{DrivingColumns}
 use Rattle.plan_cert.specs.declared.columns.DutyColumns.{DutyColumns}
 use Rattle.plan_cert.specs.declared.columns.PlaceColumns.{PlaceColumns}
 use Rattle.plan_cert.specs.declared.duties.Driven.{Driven}
-use Rattle.plan_cert.specs.declared.duties.DutyEntry.{DutyEntry}
 use Rattle.plan_cert.specs.declared.entries.MarkPlace.{MarkPlace}
 use Rattle.plan_cert.specs.declared.shape.Shape.{Shape}
-use Rattle.plan_cert.specs.Entries.{block_entry, block_place, driven_at, duty_entry, duty_place, pass_from, place_at}
+use Rattle.plan_cert.specs.Entries.{block_entry, BlockEntry, block_place, driven_at, duty_entry, DutyEntry, duty_place, pass_from, place_at}
 use Rattle.plan_cert.specs.Laws.{IsBlockMarkOf, IsMarkOf}
-use Rattle.plan_cert.specs.Marks.{block_marks_in_pass, duty_marks_in_pass}
+use Rattle.plan_cert.specs.Marks.{marks_in_pass}
 use Rattle.plan_cert.specs.Numbers.{class_among, counted, number_at, same_pass, truth}
 use Rattle.plan_cert.specs.Shapes.{items_of, numbers_in}
 use Rattle.plan_cert.proofs.Found.{Each, bound, class-below, counted-below, said-each, some-same, up_to-most}
@@ -79,22 +77,22 @@ block-is s columns row e is =
 
 -- the marks of a pass over duties
 pub duties-each : (s : Shape) (pass : Pass) (es : List DutyEntry) → ((e : DutyEntry) → same_pass e.pass pass ≡ true → IsDutyEntry s e → IsMarkOf (items_of s pass) (length (numbers_in s.classes pass)) e.mark) →
-    Each (IsDutyEntry s) es → Each (IsMarkOf (items_of s pass) (length (numbers_in s.classes pass))) (duty_marks_in_pass pass es)
+    Each (IsDutyEntry s) es → Each (IsMarkOf (items_of s pass) (length (numbers_in s.classes pass))) (marks_in_pass pass es)
 duties-each s pass [] own each = tt
 duties-each s pass (e ∷ es) own each = one (same_pass e.pass pass) refl (duties-each s pass es own each.1)
   where
-    one : (t : Bool) → same_pass e.pass pass ≡ t → Each (IsMarkOf (items_of s pass) (length (numbers_in s.classes pass))) (duty_marks_in_pass pass es) →
-        Each (IsMarkOf (items_of s pass) (length (numbers_in s.classes pass))) (cons_option (if t then Some e.mark else None) (duty_marks_in_pass pass es))
+    one : (t : Bool) → same_pass e.pass pass ≡ t → Each (IsMarkOf (items_of s pass) (length (numbers_in s.classes pass))) (marks_in_pass pass es) →
+        Each (IsMarkOf (items_of s pass) (length (numbers_in s.classes pass))) (cons_option (if t then Some e.mark else None) (marks_in_pass pass es))
     one true is rest = (own e is each.0, rest)
     one false is rest = rest
 
 pub blocks-each : (s : Shape) (pass : Pass) (es : List BlockEntry) → ((e : BlockEntry) → same_pass e.pass pass ≡ true → IsBlockEntry s e → IsBlockMarkOf (items_of s pass) (length (numbers_in s.classes pass)) e.mark) →
-    Each (IsBlockEntry s) es → Each (IsBlockMarkOf (items_of s pass) (length (numbers_in s.classes pass))) (block_marks_in_pass pass es)
+    Each (IsBlockEntry s) es → Each (IsBlockMarkOf (items_of s pass) (length (numbers_in s.classes pass))) (marks_in_pass pass es)
 blocks-each s pass [] own each = tt
 blocks-each s pass (e ∷ es) own each = one (same_pass e.pass pass) refl (blocks-each s pass es own each.1)
   where
-    one : (t : Bool) → same_pass e.pass pass ≡ t → Each (IsBlockMarkOf (items_of s pass) (length (numbers_in s.classes pass))) (block_marks_in_pass pass es) →
-        Each (IsBlockMarkOf (items_of s pass) (length (numbers_in s.classes pass))) (cons_option (if t then Some e.mark else None) (block_marks_in_pass pass es))
+    one : (t : Bool) → same_pass e.pass pass ≡ t → Each (IsBlockMarkOf (items_of s pass) (length (numbers_in s.classes pass))) (marks_in_pass pass es) →
+        Each (IsBlockMarkOf (items_of s pass) (length (numbers_in s.classes pass))) (cons_option (if t then Some e.mark else None) (marks_in_pass pass es))
     one true is rest = (own e is each.0, rest)
     one false is rest = rest
 
@@ -117,13 +115,13 @@ one-pass DutyCost BlockCost e = absurd (cc)
 one-pass DutyCost DutyNumber e = absurd (cc)
 one-pass DutyCost DutyCost e = refl
 
-pub all-duties : (s : Shape) (columns : DutyColumns) (pass : Pass) (rows : List (List Field)) → Each (IsMarkOf (items_of s pass) (length (numbers_in s.classes pass))) (duty_marks_in_pass pass (filter_map (duty_entry s columns) rows))
+pub all-duties : (s : Shape) (columns : DutyColumns) (pass : Pass) (rows : List (List Field)) → Each (IsMarkOf (items_of s pass) (length (numbers_in s.classes pass))) (marks_in_pass pass (filter_map (duty_entry s columns) rows))
 all-duties s columns pass rows =
     duties-each s pass (filter_map (duty_entry s columns) rows)
     (λ e same is. let P : Pass → Type 0 = λ p. IsMarkOf (items_of s p) (length (numbers_in s.classes p)) e.mark in subst P (one-pass e.pass pass same) is)
     (said-each (IsDutyEntry s) (duty_entry s columns) rows (duty-is s columns))
 
-pub all-blocks : (s : Shape) (columns : BlockColumns) (pass : Pass) (rows : List (List Field)) → Each (IsBlockMarkOf (items_of s pass) (length (numbers_in s.classes pass))) (block_marks_in_pass pass (filter_map (block_entry s columns) rows))
+pub all-blocks : (s : Shape) (columns : BlockColumns) (pass : Pass) (rows : List (List Field)) → Each (IsBlockMarkOf (items_of s pass) (length (numbers_in s.classes pass))) (marks_in_pass pass (filter_map (block_entry s columns) rows))
 all-blocks s columns pass rows =
     blocks-each s pass (filter_map (block_entry s columns) rows)
     (λ e same is. let P : Pass → Type 0 = λ p. IsBlockMarkOf (items_of s p) (length (numbers_in s.classes p)) e.mark in subst P (one-pass e.pass pass same) is)

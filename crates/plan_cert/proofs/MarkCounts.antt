@@ -5,10 +5,8 @@ use Rattle.std.specs.List.{cons_option, filter_map}
 use Rattle.std.specs.Prelude.{Option, Some, None, Result, Ok, Err, IfOk, count_by, find, ◌==◌, if◌then◌else◌}
 use Rattle.vdv451_text.specs.declared.table.Table.{Table}
 use Rattle.vdv452_rows.specs.Rows.{has_name}
-use Rattle.plan_cert.specs.declared.blocks.BlockMarks.{BlockMarks}
 use Rattle.plan_cert.specs.declared.cert.Cert.{Cert}
 use Rattle.plan_cert.specs.declared.cert.Pass.TheVariants.{BlockNumber, BlockCost, DutyNumber, DutyCost}
-use Rattle.plan_cert.specs.declared.duties.DutyMarks.{DutyMarks}
 use Rattle.plan_cert.specs.declared.fault.CertFault.{CertFault}
 use Rattle.plan_cert.specs.declared.fault.CertTable.{CertTable}
 use Rattle.plan_cert.specs.declared.fault.CertTable.TheVariants as which
@@ -18,7 +16,7 @@ use Rattle.plan_cert.specs.Certificates.{read_of}
 use Rattle.plan_cert.specs.Columns.{block_columns, duty_columns}
 use Rattle.plan_cert.specs.Entries.{block_entry, duty_entry}
 use Rattle.plan_cert.specs.Laws.{HaveMarksBelow}
-use Rattle.plan_cert.specs.Marks.{block_mark_in, block_marks_of, duty_mark_in, duty_marks_of}
+use Rattle.plan_cert.specs.Marks.{BlockMarks, block_marks_of, DutyMarks, duty_marks_of, mark_in}
 use Rattle.plan_cert.specs.Names.{name_of}
 use Rattle.plan_cert.specs.Places.{Gives, first_wrong, needed, no_wrong, table_in, table_of}
 use Rattle.plan_cert.specs.PriceTables.{prices_of}
@@ -66,7 +64,7 @@ few-duties s bound tables marks all e =
     let z = next (no_wrong which.DutyMarks (first_wrong (duty_entry s y.value) x.value.rows)) _ marks y.made in
     let rows = table-rows bound which.DutyMarks tables x.value all x.is in
     subst (AreFewDuties bound) (ok-same _ marks z.made)
-    (record { of_number = twice-kept (duty_entry s y.value) (duty_mark_in DutyNumber) x.value.rows bound rows; of_cost = twice-kept (duty_entry s y.value) (duty_mark_in DutyCost) x.value.rows bound rows })
+    (record { of_number = twice-kept (duty_entry s y.value) (mark_in DutyNumber) x.value.rows bound rows; of_cost = twice-kept (duty_entry s y.value) (mark_in DutyCost) x.value.rows bound rows })
 
 record AreFewBlocks (bound : ℕ) (marks : BlockMarks) : Type 0 where
   pub of_number : length marks.of_number < bound
@@ -79,7 +77,7 @@ few-blocks s bound tables marks all e =
     let z = next (no_wrong which.BlockMarks (first_wrong (block_entry s y.value) x.value.rows)) _ marks y.made in
     let rows = table-rows bound which.BlockMarks tables x.value all x.is in
     subst (AreFewBlocks bound) (ok-same _ marks z.made)
-    (record { of_number = twice-kept (block_entry s y.value) (block_mark_in BlockNumber) x.value.rows bound rows; of_cost = twice-kept (block_entry s y.value) (block_mark_in BlockCost) x.value.rows bound rows })
+    (record { of_number = twice-kept (block_entry s y.value) (mark_in BlockNumber) x.value.rows bound rows; of_cost = twice-kept (block_entry s y.value) (mark_in BlockCost) x.value.rows bound rows })
 
 -- What is read. A part over duties has no marks of blocks, and the other way round; so the bound is above 0, as the rows of a table are below it.
 pub few-marks : (s : Shape) (bound : ℕ) (tables : List Table) (r : Result Cert CertFault) → All (λ (t : Table). length t.rows < bound) tables → Gives r (read_of s tables) → IfOk r (λ cert. HaveMarksBelow bound cert.parts)

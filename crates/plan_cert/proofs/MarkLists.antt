@@ -5,6 +5,10 @@ use Rattle.std.proofs.lemmas.List.{drop_all}
 use Rattle.std.specs.List.{cons_option, filter_map, position_from}
 use Rattle.std.specs.Prelude.{Option, Some, None, is_none}
 use Rattle.vdv451_text.specs.declared.table.Field.{Field}
+use Rattle.plan_cert.specs.declared.marks.MarkTable.{MarkTable}
+use Rattle.plan_cert.specs.declared.marks.PassMark.{PassMark}
+use Rattle.plan_cert.specs.declared.marks.PassMarks.{PassMarks}
+use Rattle.plan_cert.specs.Marks.{kept_marks, marks_in_pass}
 use Rattle.plan_cert.specs.Places.{first_wrong}
 
 -- a mark more, if there is one
@@ -15,6 +19,15 @@ put marks (Some m) = marks ++ m ∷ []
 put-moved : {M : Type 0} (marks : List M) (o : Option M) (rest : List M) → put marks o ++ rest ≡ marks ++ cons_option o rest
 put-moved marks None rest = refl
 put-moved marks (Some m) rest = append_assoc marks (m ∷ []) rest
+
+-- where there are no marks so far, those of the rows are all marks
+pub number-start : {M : Type 0} (kept : MarkTable) (say : List Field → Option (PassMark M)) (rows : List (List Field)) (none : PassMarks M) → none ≡ kept_marks kept [] →
+    none.of_number ++ marks_in_pass kept.by_number (filter_map say rows) ≡ marks_in_pass kept.by_number (filter_map say rows)
+number-start {M} kept say rows none is = ap (λ (marks : PassMarks M). marks.of_number ++ marks_in_pass kept.by_number (filter_map say rows)) is
+
+pub cost-start : {M : Type 0} (kept : MarkTable) (say : List Field → Option (PassMark M)) (rows : List (List Field)) (none : PassMarks M) → none ≡ kept_marks kept [] →
+    none.of_cost ++ marks_in_pass kept.by_cost (filter_map say rows) ≡ marks_in_pass kept.by_cost (filter_map say rows)
+cost-start {M} kept say rows none is = ap (λ (marks : PassMarks M). marks.of_cost ++ marks_in_pass kept.by_cost (filter_map say rows)) is
 
 -- the marks so far and those of the other rows are all marks
 pub mark-step : {A M : Type 0} (pick : A → Option M) (say : List Field → Option A) (rows : List (List Field)) (marks now all : List M) (place : ℕ) (row : List Field) (e : A) →

@@ -8,20 +8,16 @@ use Rattle.number_tables.specs.Outlines.{word}
 use Rattle.number_tables.specs.Signed.{signed_field, signed_row, signed_rows}
 use Rattle.cover_core.specs.declared.marks.Mark.{Mark}
 use Rattle.cover_core.specs.declared.marks.BlockMark.{BlockMark}
-use Rattle.plan_cert.specs.declared.blocks.BlockEntry.{BlockEntry}
-use Rattle.plan_cert.specs.declared.blocks.BlockMarks.{BlockMarks}
 use Rattle.plan_cert.specs.declared.cert.Pass.{Pass}
 use Rattle.plan_cert.specs.declared.cert.Pass.TheVariants.{BlockNumber, BlockCost, DutyNumber, DutyCost}
 use Rattle.plan_cert.specs.declared.columns.BlockColumns.{BlockColumns}
 use Rattle.plan_cert.specs.declared.columns.DutyColumns.{DutyColumns}
 use Rattle.plan_cert.specs.declared.duties.Driven.{Driven}
-use Rattle.plan_cert.specs.declared.duties.DutyEntry.{DutyEntry}
-use Rattle.plan_cert.specs.declared.duties.DutyMarks.{DutyMarks}
 use Rattle.plan_cert.specs.declared.entries.MarkPlace.{MarkPlace}
 use Rattle.plan_cert.specs.declared.shape.Shape.{Shape}
-use Rattle.plan_cert.specs.Entries.{block_entry, block_place, driven_at, duty_entry, duty_place, mark_of, pass_from}
+use Rattle.plan_cert.specs.Entries.{block_entry, BlockEntry, block_place, driven_at, duty_entry, DutyEntry, duty_place, mark_of, pass_from}
 use Rattle.plan_cert.specs.Laws.{IsBlockMarkOf, IsMarkOf}
-use Rattle.plan_cert.specs.Marks.{block_marks, block_marks_in_pass, duty_marks, duty_marks_in_pass}
+use Rattle.plan_cert.specs.Marks.{block_marks, BlockMarks, duty_marks, DutyMarks, marks_in_pass}
 use Rattle.plan_cert.specs.Numbers.{◌>>=◌, class_among, counted, truth}
 use Rattle.plan_cert.specs.Shapes.{items_of, numbers_in}
 use Rattle.plan_cert.specs.Writing.{bit, block_row, block_rows, duty_row, duty_rows, pass_field, whole}
@@ -128,29 +124,29 @@ pub duties-kept : (three four : List Mark) → duty_marks (map (duty_tag DutyNum
 duties-kept three four =
     let tagged3 = map (duty_tag DutyNumber) three in
     let tagged4 = map (duty_tag DutyCost) four in
-    let number : duty_marks_in_pass DutyNumber (tagged3 ++ tagged4) ≡ three =
+    let number : marks_in_pass DutyNumber (tagged3 ++ tagged4) ≡ three =
     filter-both _ tagged3 tagged4
-    ∙ (ap (λ (l : List Mark). l ++ duty_marks_in_pass DutyNumber tagged4) (picked _ (duty_tag DutyNumber) three (λ m. refl))
+    ∙ (ap (λ (l : List Mark). l ++ marks_in_pass DutyNumber tagged4) (picked _ (duty_tag DutyNumber) three (λ m. refl))
     ∙ (ap (λ (l : List Mark). three ++ l) (unpicked _ (duty_tag DutyCost) four (λ m. refl)) ∙ append-nil three)) in
-    let cost : duty_marks_in_pass DutyCost (tagged3 ++ tagged4) ≡ four =
+    let cost : marks_in_pass DutyCost (tagged3 ++ tagged4) ≡ four =
     filter-both _ tagged3 tagged4
-    ∙ (ap (λ (l : List Mark). l ++ duty_marks_in_pass DutyCost tagged4) (unpicked _ (duty_tag DutyNumber) three (λ m. refl)) ∙ picked _ (duty_tag DutyCost) four (λ m. refl)) in
+    ∙ (ap (λ (l : List Mark). l ++ marks_in_pass DutyCost tagged4) (unpicked _ (duty_tag DutyNumber) three (λ m. refl)) ∙ picked _ (duty_tag DutyCost) four (λ m. refl)) in
     let make : List Mark → List Mark → DutyMarks = λ a b. record { of_number = a; of_cost = b } in
-    ap (λ (b : List Mark). make (duty_marks_in_pass DutyNumber (tagged3 ++ tagged4)) b) cost ∙ ap (λ (a : List Mark). make a four) number
+    ap (λ (b : List Mark). make (marks_in_pass DutyNumber (tagged3 ++ tagged4)) b) cost ∙ ap (λ (a : List Mark). make a four) number
 
 pub blocks-kept : (one two : List BlockMark) → block_marks (map (block_tag BlockNumber) one ++ map (block_tag BlockCost) two) ≡ record { of_number = one; of_cost = two }
 blocks-kept one two =
     let tagged1 = map (block_tag BlockNumber) one in
     let tagged2 = map (block_tag BlockCost) two in
-    let number : block_marks_in_pass BlockNumber (tagged1 ++ tagged2) ≡ one =
+    let number : marks_in_pass BlockNumber (tagged1 ++ tagged2) ≡ one =
     filter-both _ tagged1 tagged2
-    ∙ (ap (λ (l : List BlockMark). l ++ block_marks_in_pass BlockNumber tagged2) (picked _ (block_tag BlockNumber) one (λ m. refl))
+    ∙ (ap (λ (l : List BlockMark). l ++ marks_in_pass BlockNumber tagged2) (picked _ (block_tag BlockNumber) one (λ m. refl))
     ∙ (ap (λ (l : List BlockMark). one ++ l) (unpicked _ (block_tag BlockCost) two (λ m. refl)) ∙ append-nil one)) in
-    let cost : block_marks_in_pass BlockCost (tagged1 ++ tagged2) ≡ two =
+    let cost : marks_in_pass BlockCost (tagged1 ++ tagged2) ≡ two =
     filter-both _ tagged1 tagged2
-    ∙ (ap (λ (l : List BlockMark). l ++ block_marks_in_pass BlockCost tagged2) (unpicked _ (block_tag BlockNumber) one (λ m. refl)) ∙ picked _ (block_tag BlockCost) two (λ m. refl)) in
+    ∙ (ap (λ (l : List BlockMark). l ++ marks_in_pass BlockCost tagged2) (unpicked _ (block_tag BlockNumber) one (λ m. refl)) ∙ picked _ (block_tag BlockCost) two (λ m. refl)) in
     let make : List BlockMark → List BlockMark → BlockMarks = λ a b. record { of_number = a; of_cost = b } in
-    ap (λ (b : List BlockMark). make (block_marks_in_pass BlockNumber (tagged1 ++ tagged2)) b) cost ∙ ap (λ (a : List BlockMark). make a two) number
+    ap (λ (b : List BlockMark). make (marks_in_pass BlockNumber (tagged1 ++ tagged2)) b) cost ∙ ap (λ (a : List BlockMark). make a two) number
 
 pub duties-say-both : (s : Shape) (three four : List Mark) → AllPairs (λ (earlier later : ℕ). earlier < later) s.classes.groups → All (IsMarkOf s.pieces (length s.classes.groups)) three →
     All (IsMarkOf s.pieces (length s.classes.groups)) four → Says (duty_entry s nine_columns) (signed_rows (duty_rows DutyNumber s.classes.groups three) ++ signed_rows (duty_rows DutyCost s.classes.groups four))

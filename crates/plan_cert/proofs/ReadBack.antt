@@ -8,18 +8,16 @@ use Rattle.vdv451_text.specs.declared.table.Field.{Field}
 use Rattle.number_tables.specs.Signed.{signed_rows}
 use Rattle.cover_core.specs.declared.marks.Mark.{Mark}
 use Rattle.cover_core.specs.declared.marks.BlockMark.{BlockMark}
-use Rattle.plan_cert.specs.declared.blocks.BlockMarks.{BlockMarks}
 use Rattle.plan_cert.specs.declared.cert.Cert.{Cert}
 use Rattle.plan_cert.specs.declared.cert.CertPart.{CertPart}
 use Rattle.plan_cert.specs.declared.cert.Pass.TheVariants.{BlockNumber, BlockCost, DutyNumber, DutyCost}
-use Rattle.plan_cert.specs.declared.duties.DutyMarks.{DutyMarks}
 use Rattle.plan_cert.specs.declared.fault.Place.{Place}
 use Rattle.plan_cert.specs.declared.prices.FourLists.{FourLists}
 use Rattle.plan_cert.specs.declared.prices.Priced.TheVariants.{Items, Classes}
 use Rattle.plan_cert.specs.declared.shape.Shape.{Shape}
 use Rattle.plan_cert.specs.Certificates.{block_part, cert_from, duty_part, price, read_of}
 use Rattle.plan_cert.specs.Laws.{AreParts, HaveOwnNumbers, IsBlockPart, IsDutyPart, IsModerate, IsPart, ReadsBack}
-use Rattle.plan_cert.specs.Marks.{block_marks_in, block_marks_of, duty_marks_in, duty_marks_of}
+use Rattle.plan_cert.specs.Marks.{BlockMarks, block_marks_in, block_marks_of, DutyMarks, duty_marks_in, duty_marks_of}
 use Rattle.plan_cert.specs.Numbers.{moderate}
 use Rattle.plan_cert.specs.Places.{◌>>=◌}
 use Rattle.plan_cert.specs.Prices.{entry_of}

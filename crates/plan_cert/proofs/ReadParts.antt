@@ -6,12 +6,10 @@ use Rattle.std.specs.List.{filter_map}
 use Rattle.std.specs.Prelude.{Option, Some, None, Result, Ok, Err}
 use Rattle.vdv451_text.specs.declared.table.Field.{Field}
 use Rattle.vdv451_text.specs.declared.table.Table.{Table}
-use Rattle.plan_cert.specs.declared.blocks.BlockMarks.{BlockMarks}
 use Rattle.plan_cert.specs.declared.cert.Cert.{Cert}
 use Rattle.plan_cert.specs.declared.cert.Pass.{Pass}
 use Rattle.plan_cert.specs.declared.cert.Pass.TheVariants.{BlockNumber, BlockCost, DutyNumber, DutyCost}
 use Rattle.plan_cert.specs.declared.columns.PriceColumns.{PriceColumns}
-use Rattle.plan_cert.specs.declared.duties.DutyMarks.{DutyMarks}
 use Rattle.plan_cert.specs.declared.fault.CertTable.{CertTable}
 use Rattle.plan_cert.specs.declared.fault.CertTable.TheVariants as which
 use Rattle.plan_cert.specs.declared.fault.Place.{Place}
@@ -24,7 +22,7 @@ use Rattle.plan_cert.specs.Certificates.{cert_from, price, read_of}
 use Rattle.plan_cert.specs.Columns.{block_columns, duty_columns, price_columns}
 use Rattle.plan_cert.specs.Entries.{block_entry, duty_entry}
 use Rattle.plan_cert.specs.Laws.{AreParts, IsBlockMarkOf, IsMarkOf, IsModerate}
-use Rattle.plan_cert.specs.Marks.{block_marks_of, duty_marks_of}
+use Rattle.plan_cert.specs.Marks.{BlockMarks, block_marks_of, DutyMarks, duty_marks_of}
 use Rattle.plan_cert.specs.Places.{◌>>=◌, first_wrong, needed, no_wrong, table_of}
 use Rattle.plan_cert.specs.Prices.{all_there, count_for, entry_of, found_prices, found_slots, number_column, table_for, wrong_price}
 use Rattle.plan_cert.specs.PriceTables.{four_of, prices_of}

@@ -6,20 +6,16 @@ use Rattle.std.specs.Prelude.{Option, None, Result, Ok, is_none}
 use Rattle.vdv451_text.specs.declared.table.Field.{Field}
 use Rattle.cover_core.specs.declared.marks.Mark.{Mark}
 use Rattle.cover_core.specs.declared.marks.BlockMark.{BlockMark}
-use Rattle.plan_cert.specs.declared.blocks.BlockEntry.{BlockEntry}
-use Rattle.plan_cert.specs.declared.blocks.BlockMarks.{BlockMarks}
 use Rattle.plan_cert.specs.declared.cert.Pass.TheVariants.{BlockNumber, BlockCost, DutyNumber, DutyCost}
 use Rattle.plan_cert.specs.declared.columns.PriceColumns.{PriceColumns}
-use Rattle.plan_cert.specs.declared.duties.DutyEntry.{DutyEntry}
-use Rattle.plan_cert.specs.declared.duties.DutyMarks.{DutyMarks}
 use Rattle.plan_cert.specs.declared.fault.CertTable.TheVariants as which
 use Rattle.plan_cert.specs.declared.fault.Place.{Place}
 use Rattle.plan_cert.specs.declared.prices.FourLists.{FourLists}
 use Rattle.plan_cert.specs.declared.prices.Priced.{Priced}
 use Rattle.plan_cert.specs.declared.shape.Shape.{Shape}
 use Rattle.plan_cert.specs.declared.slots.Entry.{Entry}
-use Rattle.plan_cert.specs.Entries.{block_entry, duty_entry}
-use Rattle.plan_cert.specs.Marks.{block_marks, block_marks_in, duty_marks, duty_marks_in}
+use Rattle.plan_cert.specs.Entries.{block_entry, BlockEntry, duty_entry, DutyEntry}
+use Rattle.plan_cert.specs.Marks.{block_marks, BlockMarks, block_marks_in, duty_marks, DutyMarks, duty_marks_in}
 use Rattle.plan_cert.specs.Places.{◌>>=◌, first_wrong, no_wrong}
 use Rattle.plan_cert.specs.Prices.{count_for, entry_of, found_slots, table_for}
 use Rattle.plan_cert.specs.PriceTables.{four_of, prices_in}

@@ -5,15 +5,13 @@ use Rattle.vdv451_text.specs.declared.table.Table.{Table}
 use Rattle.cover_core.specs.declared.Prices.{Prices}
 use Rattle.cover_core.specs.declared.marks.Mark.{Mark}
 use Rattle.cover_core.specs.declared.marks.BlockMark.{BlockMark}
-use Rattle.plan_cert.specs.declared.blocks.BlockMarks.{BlockMarks}
 use Rattle.plan_cert.specs.declared.cert.Cert.{Cert}
 use Rattle.plan_cert.specs.declared.cert.CertPart.{CertPart}
-use Rattle.plan_cert.specs.declared.duties.DutyMarks.{DutyMarks}
 use Rattle.plan_cert.specs.declared.fault.Place.{Place}
 use Rattle.plan_cert.specs.declared.prices.FourLists.{FourLists}
 use Rattle.plan_cert.specs.declared.prices.Priced.TheVariants.{Items, Classes}
 use Rattle.plan_cert.specs.declared.shape.Shape.{Shape}
-use Rattle.plan_cert.specs.Marks.{duty_marks_of, block_marks_of}
+use Rattle.plan_cert.specs.Marks.{BlockMarks, block_marks_of, DutyMarks, duty_marks_of}
 use Rattle.plan_cert.specs.Places.{◌>>=◌}
 use Rattle.plan_cert.specs.PriceTables.{prices_of}
 

@@ -3,16 +3,16 @@ use Rattle.std.specs.Prelude.{ℕ, ℤ, ◌+◌, ◌==◌, List, Option, Some, N
 use Rattle.vdv451_text.specs.declared.table.Field.{Field}
 use Rattle.number_tables.specs.Outlines.{word}
 use Rattle.cover_core.specs.declared.marks.Mark.{Mark}
+use Rattle.cover_core.specs.declared.marks.BlockMark.{BlockMark}
 use Rattle.plan_cert.specs.declared.cert.Pass.{Pass}
 use Rattle.plan_cert.specs.declared.cert.Pass.TheVariants.{BlockNumber, BlockCost, DutyNumber, DutyCost}
-use Rattle.plan_cert.specs.declared.blocks.BlockEntry.{BlockEntry}
 use Rattle.plan_cert.specs.declared.columns.PlaceColumns.{PlaceColumns}
 use Rattle.plan_cert.specs.declared.columns.DrivingColumns.{DrivingColumns}
 use Rattle.plan_cert.specs.declared.columns.DutyColumns.{DutyColumns}
 use Rattle.plan_cert.specs.declared.columns.BlockColumns.{BlockColumns}
 use Rattle.plan_cert.specs.declared.duties.Driven.{Driven}
-use Rattle.plan_cert.specs.declared.duties.DutyEntry.{DutyEntry}
 use Rattle.plan_cert.specs.declared.entries.MarkPlace.{MarkPlace}
+use Rattle.plan_cert.specs.declared.marks.PassMark.{PassMark}
 use Rattle.plan_cert.specs.declared.shape.Shape.{Shape}
 use Rattle.plan_cert.specs.Numbers.{◌>>=◌, class_among, counted, number_at, truth}
 use Rattle.plan_cert.specs.Shapes.{items_of, numbers_in}
@@ -62,6 +62,12 @@ mark_of place begin d worth = record {
   three = d.three;
   value = worth;
 }
+
+abbrev pub DutyEntry : Type 0
+DutyEntry = PassMark Mark
+
+abbrev pub BlockEntry : Type 0
+BlockEntry = PassMark BlockMark
 
 -- X_MARKE
 abbrev pub duty_entry : Shape → DutyColumns → List Field → Option DutyEntry

@@ -1,9 +1,9 @@
 -- The first place where tables are no certificate.
-use Rattle.std.specs.Prelude.{◌≡◌, ℕ, ◌+◌, ◌==◌, List, Option, Some, None, Result, Ok, Err, count_by, find, is_none, position, if◌then◌else◌}
+use Rattle.std.specs.Prelude.{◌≡◌, ℕ, ◌+◌, List, Option, Some, None, Result, Ok, Err, is_none, position}
 use Rattle.std.specs.Borrow.{Bor}
 use Rattle.vdv451_text.specs.declared.table.Field.{Field}
 use Rattle.vdv451_text.specs.declared.table.Table.{Table}
-use Rattle.vdv452_rows.specs.Rows.{has_name}
+use Rattle.number_tables.specs.Single.{single_in}
 use Rattle.plan_cert.specs.declared.fault.CertTable.{CertTable}
 use Rattle.plan_cert.specs.declared.fault.Place.{Place}
 use Rattle.plan_cert.specs.declared.fault.CertFault.{CertFault}
@@ -36,7 +36,7 @@ form table row = Form (place table row)
 
 -- the table of a name, where it stands once
 abbrev pub table_in : CertTable → List Table → Option Table
-table_in t tables = if count_by (has_name (name_of t)) tables == 1 then find (has_name (name_of t)) tables else None
+table_in t tables = single_in (name_of t) tables
 
 -- what is there, or else the table is wrong as a whole
 abbrev pub needed : {A : Type 0} → CertTable → Option A → Result A Place

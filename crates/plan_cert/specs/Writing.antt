@@ -62,6 +62,13 @@ block_row pass number m = pass_field pass ∷ whole number ∷ whole (m.trip + 1
 abbrev pub block_rows : Pass → List ℕ → List BlockMark → List Row
 block_rows pass numbers marks = map (λ (m : BlockMark). block_row pass (slice_index numbers m.class) m) marks
 
+-- the marks of a part, of blocks or of duties as its pass is
+abbrev pub mark_rows : ClassNumbers → Pass → CertPart → List Row
+mark_rows c BlockNumber part = block_rows BlockNumber c.pools part.blocks.marks
+mark_rows c BlockCost part = block_rows BlockCost c.pools part.blocks.marks
+mark_rows c DutyNumber part = duty_rows DutyNumber c.groups part.cover.marks
+mark_rows c DutyCost part = duty_rows DutyCost c.groups part.cover.marks
+
 abbrev pub cert_table : CertTable → List Row → Table
 cert_table t rows = signed_table (name_of t) (columns_of t) rows
 

@@ -10,6 +10,7 @@ mod duties;
 mod entries;
 mod fault;
 mod laws;
+mod marks;
 mod numbers;
 mod prices;
 mod reading;

@@ -7,10 +7,9 @@ ghost use Rattle.plan_cert.specs.Places.{Gives};
 ghost use Rattle.plan_cert.specs.Shapes.{HaveFew, class_numbers_of, shape_of as shape_of_spec};
 ghost use Rattle.plan_cert.specs.Writing.{HaveClasses};
 
-use crate::blocks::{BlockMarks, read_block_marks};
 use crate::cert::{Cert, CertPart};
-use crate::duties::{DutyMarks, read_duty_marks};
 use crate::fault::CertFault;
+use crate::marks::{PassMarks, read_marks};
 use crate::prices::{FourLists, Priced, read_prices};
 use crate::shape::{Shape, shape_of};
 use cover_core::{BlockCover, BlockMark, Cover, Mark, Prices};
@@ -107,11 +106,11 @@ fn add_block_parts(
     prices: &FourLists,
     number: Seq<i64>,
     cost: Seq<i64>,
-    marks: BlockMarks,
+    marks: PassMarks<BlockMark>,
 ) -> Result<(), Memory>
     ensures { OnOk result (parts.new ≡ (parts.old ++ spec.block_part prices.now.block_number number marks.of_number ∷ []) ++ spec.block_part prices.now.block_cost cost marks.of_cost ∷ []) }
 {
-    let BlockMarks { of_number, of_cost } = marks;
+    let PassMarks { of_number, of_cost } = marks;
     add_block_part(alloc, parts, &prices.block_number, number, of_number)?;
     add_block_part(alloc, parts, &prices.block_cost, cost, of_cost)
 }
@@ -123,11 +122,11 @@ fn add_duty_parts(
     prices: &FourLists,
     number: Seq<i64>,
     cost: Seq<i64>,
-    marks: DutyMarks,
+    marks: PassMarks<Mark>,
 ) -> Result<(), Memory>
     ensures { OnOk result (parts.new ≡ (parts.old ++ spec.duty_part prices.now.duty_number number marks.of_number ∷ []) ++ spec.duty_part prices.now.duty_cost cost marks.of_cost ∷ []) }
 {
-    let DutyMarks { of_number, of_cost } = marks;
+    let PassMarks { of_number, of_cost } = marks;
     add_duty_part(alloc, parts, &prices.duty_number, number, of_number)?;
     add_duty_part(alloc, parts, &prices.duty_cost, cost, of_cost)
 }
@@ -137,8 +136,8 @@ fn cert_from(
     alloc: Global,
     prices: &FourLists,
     class_prices: FourLists,
-    duties: DutyMarks,
-    blocks: BlockMarks,
+    duties: PassMarks<Mark>,
+    blocks: PassMarks<BlockMark>,
 ) -> Result<Cert, Memory>
     ensures { IfOk result (λ cert. cert ≡ spec.cert_from prices.now class_prices duties blocks) }
 {
@@ -161,8 +160,8 @@ fn read_shaped(alloc: Global, shape: &Shape, tables: &[Table]) -> Result<Cert, C
 {
     let prices = read_prices(alloc, Priced::Items, shape, tables)?;
     let class_prices = read_prices(alloc, Priced::Classes, shape, tables)?;
-    let duties = read_duty_marks(alloc, shape, tables)?;
-    let blocks = read_block_marks(alloc, shape, tables)?;
+    let duties = read_marks::<Mark>(alloc, shape, tables)?;
+    let blocks = read_marks::<BlockMark>(alloc, shape, tables)?;
     Ok(cert_from(alloc, &prices, class_prices, duties, blocks)?)
 }
 

@@ -134,23 +134,45 @@ fn class_table(
     number_table(alloc, "X_KLASSENPREIS", &["ART", "KLASSE", "PREIS"], rows)
 }
 
-/// The rows of X_MARKE.
-fn all_duty_marks(
+/// Puts the rows of the marks of a part behind others.
+fn add_marks(
+    alloc: Global,
+    rows: &mut Seq<Seq<Field>>,
+    classes: &ClassNumbers,
+    pass: Pass,
+    part: &CertPart,
+) -> Result<(), Memory>
+    requires { HasClasses classes.now pass part.now }
+    ensures { OnOk result (rows.new ≡ rows.old ++ signed_rows (spec.mark_rows classes.now pass part.now)) }
+{
+    let pools = classes.pools.as_slice();
+    let groups = classes.groups.as_slice();
+    let blocks = part.blocks.marks.as_slice();
+    let duties = part.cover.marks.as_slice();
+    match pass {
+        Pass::BlockNumber => add_block_marks(alloc, rows, pass, pools, blocks),
+        Pass::BlockCost => add_block_marks(alloc, rows, pass, pools, blocks),
+        Pass::DutyNumber => add_duty_marks(alloc, rows, pass, groups, duties),
+        Pass::DutyCost => add_duty_marks(alloc, rows, pass, groups, duties),
+    }
+}
+
+/// The rows of the marks of two parts.
+fn all_marks(
     alloc: Global,
     classes: &ClassNumbers,
-    three: &CertPart,
-    four: &CertPart,
+    first: Pass,
+    one: &CertPart,
+    second: Pass,
+    two: &CertPart,
 ) -> Result<Seq<Seq<Field>>, Memory>
-    requires three { HasClasses classes.now passes.DutyNumber three.now }
-    requires four { HasClasses classes.now passes.DutyCost four.now }
-    ensures { IfOk result (λ rows. rows ≡ signed_rows (spec.all_duty_rows classes.now three.now four.now)) }
+    requires one { HasClasses classes.now first one.now }
+    requires two { HasClasses classes.now second two.now }
+    ensures { IfOk result (λ rows. rows ≡ signed_rows (spec.mark_rows classes.now first one.now ++ spec.mark_rows classes.now second two.now)) }
 {
-    let groups = classes.groups.as_slice();
-    let first = three.cover.marks.as_slice();
-    let second = four.cover.marks.as_slice();
     let mut rows = Seq::new(alloc);
-    add_duty_marks(alloc, &mut rows, Pass::DutyNumber, groups, first)?;
-    add_duty_marks(alloc, &mut rows, Pass::DutyCost, groups, second)?;
+    add_marks(alloc, &mut rows, classes, first, one)?;
+    add_marks(alloc, &mut rows, classes, second, two)?;
     Ok(rows)
 }
 
@@ -166,43 +188,26 @@ fn duty_table(
     ensures table { IfOk result (λ table. table ≡ spec.cert_table which.DutyMarks (spec.all_duty_rows classes.now three.now four.now)) }
     ensures plain { IfOk result (λ table. is_plain_table table ≡ true) }
 {
-    let rows = all_duty_marks(alloc, classes, three, four)?;
-    number_table(
+    let columns = [
+        "ART",
+        "GRUPPE_NR",
+        "STUECK",
+        "BEGINN",
+        "LENK",
+        "VIERTEL",
+        "GESAMT",
+        "DREI",
+        "WERT",
+    ];
+    let rows = all_marks(
         alloc,
-        "X_MARKE",
-        &[
-            "ART",
-            "GRUPPE_NR",
-            "STUECK",
-            "BEGINN",
-            "LENK",
-            "VIERTEL",
-            "GESAMT",
-            "DREI",
-            "WERT",
-        ],
-        rows,
-    )
-}
-
-/// The rows of X_UMARKE.
-fn all_block_marks(
-    alloc: Global,
-    classes: &ClassNumbers,
-    one: &CertPart,
-    two: &CertPart,
-) -> Result<Seq<Seq<Field>>, Memory>
-    requires one { HasClasses classes.now passes.BlockNumber one.now }
-    requires two { HasClasses classes.now passes.BlockCost two.now }
-    ensures { IfOk result (λ rows. rows ≡ signed_rows (spec.all_block_rows classes.now one.now two.now)) }
-{
-    let pools = classes.pools.as_slice();
-    let first = one.blocks.marks.as_slice();
-    let second = two.blocks.marks.as_slice();
-    let mut rows = Seq::new(alloc);
-    add_block_marks(alloc, &mut rows, Pass::BlockNumber, pools, first)?;
-    add_block_marks(alloc, &mut rows, Pass::BlockCost, pools, second)?;
-    Ok(rows)
+        classes,
+        Pass::DutyNumber,
+        three,
+        Pass::DutyCost,
+        four,
+    )?;
+    number_table(alloc, "X_MARKE", &columns, rows)
 }
 
 /// The table X_UMARKE of the parts of passes 1 and 2.
@@ -217,13 +222,9 @@ fn block_table(
     ensures table { IfOk result (λ table. table ≡ spec.cert_table which.BlockMarks (spec.all_block_rows classes.now one.now two.now)) }
     ensures plain { IfOk result (λ table. is_plain_table table ≡ true) }
 {
-    let rows = all_block_marks(alloc, classes, one, two)?;
-    number_table(
-        alloc,
-        "X_UMARKE",
-        &["ART", "HOF_NR", "LFD_NR", "LENK", "WERT"],
-        rows,
-    )
+    let columns = ["ART", "HOF_NR", "LFD_NR", "LENK", "WERT"];
+    let rows = all_marks(alloc, classes, Pass::BlockNumber, one, Pass::BlockCost, two)?;
+    number_table(alloc, "X_UMARKE", &columns, rows)
 }
 
 /// The tables of four parts.
