@@ -7,7 +7,10 @@ use Rattle.day_model.specs.Facts.{DayFacts}
 use Rattle.number_tables.specs.Outlines.{counted, word}
 use Rattle.umlauf_write.specs.Reading.{Part, not_below, part, two}
 use Rattle.plan_read.specs.declared.fault.PlanTable.{PlanTable}
+use Rattle.plan_read.specs.declared.fault.PlanTable.TheVariants as tables
 use Rattle.plan_read.specs.declared.fault.ReadFault.{ReadFault}
+use Rattle.plan_read.specs.declared.own.Own.{Own}
+use Rattle.plan_read.specs.declared.own.Own.TheVariants.{Blocks, Duties}
 use Rattle.plan_read.specs.declared.rows.Counts.{Counts}
 use Rattle.plan_read.specs.declared.told.Told.{Told}
 use Rattle.plan_read.specs.Numbers.{is_own}
@@ -38,21 +41,33 @@ pool_class pools number = do
   n ← not_below number
   position (λ (pool : Pool). pool.number == n) pools
 
--- UM_UID, HOF_NR: the class of the block's pool
-abbrev pub block_entry : DayFacts → ℕ → List (Option ℤ) → Option ℕ
-block_entry day row (uid ∷ pool ∷ []) = if is_own row uid then pool_class day.params.pools pool else None
-block_entry day row _ = None
-
 -- a number of 32 bits that is one of a group
 abbrev pub group_number : List Group → Option ℤ → Option ℕ
 group_number groups number = do
   n ← word number
   if list_any (λ (group : Group). group.number == n) groups then Some n else None
 
+-- the table of the rows that stand each at the place of its number
+abbrev pub table_for : Own → PlanTable
+table_for Blocks = tables.Blocks
+table_for Duties = tables.Duties
+
+-- what such a row names: the class of a block's pool, or the number of a duty's group
+abbrev pub own_value : Own → DayFacts → Option ℤ → Option ℕ
+own_value Blocks day number = pool_class day.params.pools number
+own_value Duties day number = group_number day.params.groups number
+
+abbrev pub own_entry : Own → DayFacts → ℕ → List (Option ℤ) → Option ℕ
+own_entry own day row (number ∷ value ∷ []) = if is_own row number then own_value own day value else None
+own_entry own day row _ = None
+
+-- UM_UID, HOF_NR: the class of the block's pool
+abbrev pub block_entry : DayFacts → ℕ → List (Option ℤ) → Option ℕ
+block_entry = own_entry Blocks
+
 -- DIENST_NR, GRUPPE_NR: the number of the duty's group
 abbrev pub duty_entry : DayFacts → ℕ → List (Option ℤ) → Option ℕ
-duty_entry day row (duty ∷ group ∷ []) = if is_own row duty then group_number day.params.groups group else None
-duty_entry day row _ = None
+duty_entry = own_entry Duties
 
 -- DIENST_NR, UM_UID, STUECK_NR: the duty from 0, the block from 1 and the index
 abbrev pub part_entry : Counts → List (Option ℤ) → Option Part

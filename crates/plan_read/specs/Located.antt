@@ -1,10 +1,11 @@
 -- The tables of a plan among others, and where their columns stand.
-use Rattle.std.specs.Prelude.{◌≡◌, ◌<◌, ◌^◌, ℕ, ℤ, ◌==◌, List, [], ◌∷◌, length, map, Option, Some, None, Result, Ok, Err, count_by, find, if◌then◌else◌}
+use Rattle.std.specs.Prelude.{◌≡◌, ◌<◌, ◌^◌, ℕ, ℤ, List, [], ◌∷◌, length, map, Option, Some, Result, Ok, Err}
 use Rattle.vdv451_text.specs.declared.table.Field.{Field}
 use Rattle.vdv451_text.specs.declared.table.Head.{Head}
 use Rattle.vdv451_text.specs.declared.table.Table.{Table}
-use Rattle.vdv452_rows.specs.Rows.{has_name, place_of}
+use Rattle.vdv452_rows.specs.Rows.{place_of}
 use Rattle.number_tables.specs.Outlines.{Outline, rows_of, whole_faults}
+use Rattle.number_tables.specs.Single.{single_in}
 use Rattle.plan_read.specs.declared.fault.PlanTable.{PlanTable}
 use Rattle.plan_read.specs.declared.fault.ReadFault.{ReadFault}
 use Rattle.plan_read.specs.declared.fault.ReadFault.TheVariants.{Form, Memory}
@@ -18,7 +19,7 @@ use Rattle.plan_read.specs.Told.{◌>>=◌}
 
 -- the table of a name, where it stands once
 abbrev pub table_of : PlanTable → List Table → Option Table
-table_of t tables = if count_by (has_name (name_of t)) tables == 1 then find (has_name (name_of t)) tables else None
+table_of t tables = single_in (name_of t) tables
 
 -- of two columns with one name the first counts
 abbrev pub pair_of : List Head → List ℕ → List ℕ → Option Pair

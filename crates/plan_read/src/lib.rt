@@ -7,6 +7,7 @@ mod fault;
 mod gathering;
 mod laws;
 mod numbers;
+mod own;
 mod parts;
 mod reading;
 mod rows;

@@ -1,6 +1,6 @@
-//! The rows of REC_FRT and X_UMLAUF: the trips with their blocks, and the blocks with their pools.
+//! The rows of REC_FRT: the trips with their blocks.
 
-ghost use Rattle.std.specs.Prelude.{◌≡◌, ◌==◌, ◌+◌, ◌<◌, ◌≤◌, ◌^◌, IfSome, length, map, position};
+ghost use Rattle.std.specs.Prelude.{◌≡◌, ◌+◌, ◌<◌, ◌^◌, length, map};
 ghost use Rattle.plan_read.specs.Entries as spec;
 ghost use Rattle.plan_read.specs.Numbers.{pair_at};
 ghost use Rattle.plan_read.specs.Places.{Gives, said};
@@ -8,12 +8,10 @@ ghost use Rattle.plan_read.specs.Told as told_spec;
 ghost use Rattle.plan_read.specs.declared.fault.PlanTable.TheVariants as tables;
 
 use crate::fault::{Place, PlanTable, ReadFault};
-use crate::numbers::{counted, is_own, not_below, number_at};
+use crate::numbers::{counted, not_below, number_at};
 use crate::table::{Pair, PairRows};
 use crate::told::{Told, trip_of};
-use day_model::Day;
 use plan_core::Seq;
-use plan_params::Pool;
 use std::alloc::Global;
 use vdv451_text::Field;
 
@@ -73,56 +71,6 @@ pub(crate) fn trip_entries(
         match trip_entry(told, counts, &table.columns, row.as_slice()) {
             None => return Err(at_row(PlanTable::Trips, place)),
             Some(entry) => entries.push(entry)?,
-        }
-    }
-    Ok(entries)
-}
-
-/// The place of the first pool of a number.
-fn pool_place(pools: &[Pool], number: u64) -> Option<usize>
-    ensures place { result ≡ position (λ pool. pool.number == number) pools.now }
-    ensures within { IfSome result (λ place. place < length pools.now) }
-{
-    pools.iter().position(|pool| pool.number as u64 == number)
-}
-
-/// The class of the first pool of a number.
-fn pool_class(pools: &[Pool], number: Option<i64>) -> Option<u32>
-    requires { length pools.now ≤ 32 }
-    ensures { result ≡ spec.pool_class pools.now number }
-{
-    let number = not_below(number)?;
-    let place = pool_place(pools, number)?;
-    Some(place as u32)
-}
-
-/// The class of the pool of a row of X_UMLAUF, which stands at the place of its number.
-fn block_entry(day: &Day, columns: &Pair, place: usize, row: &[Field]) -> Option<u32>
-    requires { place < 2 ^ 32 }
-    ensures { result ≡ spec.block_entry day.now place (pair_at columns.now row.now) }
-{
-    if is_own(place, number_at(row, columns.first)) {
-        pool_class(day.params().pools(), number_at(row, columns.second))
-    } else {
-        None
-    }
-}
-
-/// The classes of the blocks.
-pub(crate) fn block_entries(
-    alloc: Global,
-    day: &Day,
-    table: &PairRows,
-) -> Result<Seq<u32>, ReadFault>
-    requires { length table.now.rows.now < 2 ^ 32 }
-    ensures { Gives result (said (spec.block_entry day.now) tables.Blocks (map (pair_at table.now.columns) table.now.rows.now)) }
-{
-    let mut entries = Seq::new(alloc);
-    let rows = table.rows;
-    for (place, row) in rows.iter().enumerate() {
-        match block_entry(day, &table.columns, place, row.as_slice()) {
-            None => return Err(at_row(PlanTable::Blocks, place)),
-            Some(class) => entries.push(class)?,
         }
     }
     Ok(entries)

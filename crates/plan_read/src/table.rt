@@ -1,13 +1,13 @@
 //! The tables of a plan among others, and where their columns stand.
 
-ghost use Rattle.std.specs.Prelude.{◌≡◌, ◌<◌, ◌^◌, All, IfSome, count_by, find, length};
+ghost use Rattle.std.specs.Prelude.{◌≡◌, ◌<◌, ◌^◌, All, IfSome, length};
 ghost use Rattle.std.specs.Option.{option_copied};
-ghost use Rattle.vdv452_rows.specs.Rows.{has_name as has_name_spec};
 ghost use Rattle.plan_read.specs.Located as spec;
 ghost use Rattle.plan_read.specs.Located.{FindsPair, FindsTriple};
 ghost use Rattle.plan_read.specs.Places.{name_of};
 
 use crate::fault::{PlanTable, ReadFault, whole};
+use number_tables::single_table;
 use plan_core::Seq;
 use vdv451_text::{Field, Head, Table};
 use vdv452_tables::column_place;
@@ -50,41 +50,13 @@ pub struct TripleRows<'t> {
     pub rows: &'t [Seq<Field>],
 }
 
-/// Whether a table has a name.
-fn has_name(table: &Table, name: &[u8]) -> bool
-    ensures { result ≡ has_name_spec name.now table.now }
-{
-    table.name.as_slice() == name
-}
-
-/// How many tables of a name there are.
-fn count_of(tables: &[Table], name: &[u8]) -> usize
-    ensures { result ≡ count_by (has_name_spec name.now) tables.now }
-{
-    tables.iter().filter(|table| has_name(table, name)).count()
-}
-
-/// The first table of a name.
-fn first_of<'t>(tables: &'t [Table], name: &[u8]) -> Option<&'t Table>
-    requires { All (λ table. length table.rows < 2 ^ 32) tables.now }
-    ensures first { option_copied result ≡ find (has_name_spec name.now) tables.now }
-    ensures sized { IfSome result (λ table. length table.now.rows < 2 ^ 32) }
-{
-    tables.iter().find(|table| has_name(table, name))
-}
-
 /// The table of a name, where it stands once.
 fn table_of(tables: &[Table], table: PlanTable) -> Option<&Table>
     requires { All (λ table. length table.rows < 2 ^ 32) tables.now }
     ensures once { option_copied result ≡ spec.table_of table tables.now }
     ensures sized { IfSome result (λ table. length table.now.rows < 2 ^ 32) }
 {
-    let name = table.name();
-    if count_of(tables, name) == 1 {
-        first_of(tables, name)
-    } else {
-        None
-    }
+    single_table(tables, table.name())
 }
 
 /// Where two columns stand, if both are there.
