@@ -2,25 +2,21 @@
 
 ghost use Rattle.std.specs.Prelude.{◌≡◌, ◌<◌, Some, IfOk, IfErr, length};
 ghost use Rattle.cover_core.specs.FirstLeast.{AreCheap};
-ghost use Rattle.cover_core.specs.Laws.{IsCountOf};
-ghost use Rattle.cover_core.specs.Plans.{AreColumns};
 ghost use Rattle.price_rounds.specs.Efforts.{IsEffort};
 ghost use Rattle.cover_plan.specs.Endings.{numbers_of};
-ghost use Rattle.day_method.specs.declared.side.Side.{Side as SideOf};
 ghost use Rattle.depot_network.specs.Network.{is_count};
 ghost use Rattle.cover_rest.specs.Laws.{StandForAll};
-ghost use Rattle.cover_rest.specs.Rest.{written_plan};
-ghost use Rattle.umlauf_write.specs.Printed.{printed};
 ghost use Rattle.block_rest.specs.Heads.{AreOfDay, heads_of};
 ghost use Rattle.block_rest.specs.Laws.{IsEachOnce};
 ghost use Rattle.block_rest.specs.Rest.{rests};
 ghost use Rattle.plan_command.specs.Planning.{side_of};
 ghost use Rattle.replan_command.specs.Replanning.{IsRestCause, replan_of, trip_name as trip_name_of};
-ghost use Rattle.replan_command.specs.Steps.{AreNewBlocks, IsEarlierPlan, IsFaultIn, IsMadeSide, IsWrittenCause, IsWrittenFault, items_of_blocks};
+ghost use Rattle.replan_command.specs.Steps.{AreNewBlocks, IsEarlierPlan, items_of_blocks};
 
+use crate::rest::{Rest, new_side};
 use block_rest::{BlockRest, heads, heads_are_heads};
 use cover_core::{Plan, Worth};
-use cover_plan::{Counting, PlanFault as CoverFault, Planned, plan_of};
+use cover_plan::{Counting, Planned};
 use cover_rest::bodies_stand_for_all;
 use day_method::Side;
 use day_model::Day;
@@ -30,7 +26,7 @@ use plan_core::{Gate, Memory};
 use price_rounds::Effort;
 use std::alloc::Global;
 use std::thread::Threads;
-use umlauf_write::{PlanText, in_printed_order};
+use umlauf_write::PlanText;
 
 /// What is left of the blocks of a day from a moment on, each worth its cost or 1.
 fn blocks_left<'d>(
@@ -49,16 +45,6 @@ fn blocks_left<'d>(
     BlockRest::new(alloc, model, heads, moment, worth)
 }
 
-/// A plan of a rest, written out and in printed order.
-fn written_blocks(alloc: Global, rest: &BlockRest<'_>, plan: &Plan) -> Result<Plan, Memory>
-    requires columns { AreColumns (rests rest.now) plan.now.columns }
-    requires cheap { AreCheap plan.now.columns }
-    ensures order { IfOk result (λ written. written.columns ≡ printed (written_plan (items_of_blocks rest.now) plan.now.columns)) }
-    ensures cheap { IfOk result (λ written. AreCheap written.columns) }
-{
-    in_printed_order(rest.expand(alloc, plan)?)
-}
-
 /// The name of an item of a rest: that of its first trip.
 fn trip_name(rest: &BlockRest<'_>, item: u32) -> ItemName
     requires item { item < (rests rest.now).items }
@@ -71,54 +57,19 @@ fn trip_name(rest: &BlockRest<'_>, item: u32) -> ItemName
     }
 }
 
-/// Why there are no new blocks.
-fn blocks_fault(alloc: Global, rest: &BlockRest<'_>, fault: CoverFault) -> PlanFault
-    requires fault { IsFaultIn (rests rest.now) fault }
-    requires stand { StandForAll (length rest.now.day.trips) (items_of_blocks rest.now) }
-    ensures { IsWrittenFault SideOf.Vehicles (trip_name_of rest.now.day.trips (items_of_blocks rest.now)) (items_of_blocks rest.now) fault result }
-{
-    let side = Side::Vehicles;
-    match fault {
-        CoverFault::NoPlan { bound, places } => PlanFault::NoPlan {
-            side,
-            bound,
-            places,
-        },
-        CoverFault::NotPlaced { item, partial } => match rest.expand(alloc, &partial) {
-            Ok(partial) => PlanFault::NotPlaced {
-                side,
-                item,
-                name: trip_name(rest, item),
-                partial,
-            },
-            Err(Memory) => PlanFault::Memory,
-        },
-        CoverFault::Memory => PlanFault::Memory,
-    }
-}
+impl Rest for BlockRest<'_> {
+    ghost items_of = { items_of_blocks };
 
-/// The new blocks over a rest that is counted and the same rest with costs.
-fn blocks_of_rests<R: Threads + Sync, G: Gate + Sync>(
-    rt: &R,
-    alloc: Global,
-    counted: &BlockRest<'_>,
-    costed: &BlockRest<'_>,
-    effort: &Effort,
-    gate: &G,
-) -> Result<Planned, PlanFault>
-    requires effort { IsEffort effort.now }
-    requires counts { IsCountOf (rests costed.now) (rests counted.now) }
-    requires stand { StandForAll (length costed.now.day.trips) (items_of_blocks costed.now) }
-    ensures side { IfOk result (λ blocks. IsMadeSide (rests counted.now) (rests costed.now) (items_of_blocks costed.now) (numbers_of effort.now) (side_of blocks)) }
-    ensures cheap { IfOk result (λ blocks. AreCheap blocks.plan.columns) }
-    ensures cause { IfErr result (IsWrittenCause SideOf.Vehicles (rests counted.now) (rests costed.now) (trip_name_of costed.now.day.trips (items_of_blocks costed.now)) (items_of_blocks costed.now) (numbers_of effort.now)) }
-{
-    match plan_of(rt, alloc, counted, costed, effort, Counting::Whole, gate) {
-        Err(fault) => Err(blocks_fault(alloc, costed, fault)),
-        Ok(Planned { plan, count, cost }) => match written_blocks(alloc, costed, &plan) {
-            Err(Memory) => Err(PlanFault::Memory),
-            Ok(plan) => Ok(Planned { plan, count, cost }),
-        },
+    ghost stand_for_all = { λ rest. StandForAll (length rest.day.trips) (items_of_blocks rest) };
+
+    ghost name_of = { λ rest. trip_name_of rest.day.trips (items_of_blocks rest) };
+
+    fn name(&self, item: u32) -> ItemName {
+        trip_name(self, item)
+    }
+
+    fn written_out(&self, alloc: Global, plan: &Plan) -> Result<Plan, Memory> {
+        self.expand(alloc, plan)
     }
 }
 
@@ -150,5 +101,14 @@ pub(crate) fn new_blocks<R: Threads + Sync, G: Gate + Sync>(
         Ok(rest) => rest,
         Err(Memory) => return Err(PlanFault::Memory),
     };
-    blocks_of_rests(rt, alloc, &counted, &costed, effort, gate)
+    new_side(
+        rt,
+        alloc,
+        Side::Vehicles,
+        &counted,
+        &costed,
+        effort,
+        Counting::Whole,
+        gate,
+    )
 }

@@ -2,25 +2,21 @@
 
 ghost use Rattle.std.specs.Prelude.{◌≡◌, ◌<◌, ◌≤◌, Some, All, IfOk, IfErr, length, false};
 ghost use Rattle.cover_core.specs.FirstLeast.{AreCheap};
-ghost use Rattle.cover_core.specs.Laws.{IsCountOf};
-ghost use Rattle.cover_core.specs.Plans.{AreColumns};
 ghost use Rattle.price_rounds.specs.Efforts.{IsEffort};
 ghost use Rattle.cover_plan.specs.Endings.{numbers_of};
-ghost use Rattle.day_method.specs.declared.side.Side.{Side as SideOf};
 ghost use Rattle.block_cut.specs.Cuts.{IsShift, pieces_of_plan};
 ghost use Rattle.duty_network.specs.Duties.{duties as duties_of, is_count};
 ghost use Rattle.cover_rest.specs.Keeping.{AreHeads};
 ghost use Rattle.cover_rest.specs.Laws.{StandForAll};
-ghost use Rattle.cover_rest.specs.Rest.{written_plan};
-ghost use Rattle.umlauf_write.specs.Printed.{printed};
 ghost use Rattle.duty_rest.specs.Heads.{duty_heads_of};
 ghost use Rattle.duty_rest.specs.Rest.{begun_of, rests};
 ghost use Rattle.plan_command.specs.Planning.{side_of};
 ghost use Rattle.replan_command.specs.Replanning.{IsRestCause, piece_name as piece_name_of, replan_of};
-ghost use Rattle.replan_command.specs.Steps.{AreNewBlocks, AreNewDuties, IsEarlierPlan, IsFaultIn, IsMadeSide, IsWrittenCause, IsWrittenFault, items_of_duties};
+ghost use Rattle.replan_command.specs.Steps.{AreNewBlocks, AreNewDuties, IsEarlierPlan, items_of_duties};
 
+use crate::rest::{Rest, new_side};
 use cover_core::{Plan, Worth};
-use cover_plan::{Counting, PlanFault as CoverFault, Planned, plan_of};
+use cover_plan::{Counting, Planned};
 use cover_rest::bodies_stand_for_all;
 use day_method::Side;
 use day_model::Day;
@@ -31,7 +27,7 @@ use plan_core::{Gate, Memory, Piece, Seq};
 use price_rounds::Effort;
 use std::alloc::Global;
 use std::thread::Threads;
-use umlauf_write::{PlanText, in_printed_order};
+use umlauf_write::PlanText;
 
 /// What is left of the duties over the pieces of new blocks.
 fn duties_left<'n>(
@@ -48,16 +44,6 @@ fn duties_left<'n>(
     DutyRest::new(alloc, net, heads, moment)
 }
 
-/// A plan of a rest, written out and in printed order.
-fn written_duties(alloc: Global, rest: &DutyRest<'_>, plan: &Plan) -> Result<Plan, Memory>
-    requires columns { AreColumns (rests rest.now) plan.now.columns }
-    requires cheap { AreCheap plan.now.columns }
-    ensures order { IfOk result (λ written. written.columns ≡ printed (written_plan (items_of_duties rest.now) plan.now.columns)) }
-    ensures cheap { IfOk result (λ written. AreCheap written.columns) }
-{
-    in_printed_order(rest.expand(alloc, plan)?)
-}
-
 /// The name of an item of a rest: that of its first piece.
 fn piece_name(rest: &DutyRest<'_>, item: u32) -> ItemName
     requires item { item < (rests rest.now).items }
@@ -72,54 +58,19 @@ fn piece_name(rest: &DutyRest<'_>, item: u32) -> ItemName
     }
 }
 
-/// Why there are no new duties.
-fn duties_fault(alloc: Global, rest: &DutyRest<'_>, fault: CoverFault) -> PlanFault
-    requires fault { IsFaultIn (rests rest.now) fault }
-    requires stand { StandForAll (length rest.now.net.pieces) (items_of_duties rest.now) }
-    ensures { IsWrittenFault SideOf.Drivers (piece_name_of rest.now.net.pieces (items_of_duties rest.now)) (items_of_duties rest.now) fault result }
-{
-    let side = Side::Drivers;
-    match fault {
-        CoverFault::NoPlan { bound, places } => PlanFault::NoPlan {
-            side,
-            bound,
-            places,
-        },
-        CoverFault::NotPlaced { item, partial } => match rest.expand(alloc, &partial) {
-            Ok(partial) => PlanFault::NotPlaced {
-                side,
-                item,
-                name: piece_name(rest, item),
-                partial,
-            },
-            Err(Memory) => PlanFault::Memory,
-        },
-        CoverFault::Memory => PlanFault::Memory,
-    }
-}
+impl Rest for DutyRest<'_> {
+    ghost items_of = { items_of_duties };
 
-/// The new duties over a rest that is counted and the same rest with costs.
-fn duties_of_rests<R: Threads + Sync, G: Gate + Sync>(
-    rt: &R,
-    alloc: Global,
-    counted: &DutyRest<'_>,
-    costed: &DutyRest<'_>,
-    effort: &Effort,
-    gate: &G,
-) -> Result<Planned, PlanFault>
-    requires effort { IsEffort effort.now }
-    requires counts { IsCountOf (rests costed.now) (rests counted.now) }
-    requires stand { StandForAll (length costed.now.net.pieces) (items_of_duties costed.now) }
-    ensures side { IfOk result (λ duties. IsMadeSide (rests counted.now) (rests costed.now) (items_of_duties costed.now) (numbers_of effort.now) (side_of duties)) }
-    ensures cheap { IfOk result (λ duties. AreCheap duties.plan.columns) }
-    ensures cause { IfErr result (IsWrittenCause SideOf.Drivers (rests counted.now) (rests costed.now) (piece_name_of costed.now.net.pieces (items_of_duties costed.now)) (items_of_duties costed.now) (numbers_of effort.now)) }
-{
-    match plan_of(rt, alloc, counted, costed, effort, Counting::Half, gate) {
-        Err(fault) => Err(duties_fault(alloc, costed, fault)),
-        Ok(Planned { plan, count, cost }) => match written_duties(alloc, costed, &plan) {
-            Err(Memory) => Err(PlanFault::Memory),
-            Ok(plan) => Ok(Planned { plan, count, cost }),
-        },
+    ghost stand_for_all = { λ rest. StandForAll (length rest.net.pieces) (items_of_duties rest) };
+
+    ghost name_of = { λ rest. piece_name_of rest.net.pieces (items_of_duties rest) };
+
+    fn name(&self, item: u32) -> ItemName {
+        piece_name(self, item)
+    }
+
+    fn written_out(&self, alloc: Global, plan: &Plan) -> Result<Plan, Memory> {
+        self.expand(alloc, plan)
     }
 }
 
@@ -167,5 +118,14 @@ pub(crate) fn new_duties<R: Threads + Sync, G: Gate + Sync>(
         Ok(rest) => rest,
         Err(Memory) => return Err(PlanFault::Memory),
     };
-    duties_of_rests(rt, alloc, &counted, &costed, effort, gate)
+    new_side(
+        rt,
+        alloc,
+        Side::Drivers,
+        &counted,
+        &costed,
+        effort,
+        Counting::Half,
+        gate,
+    )
 }

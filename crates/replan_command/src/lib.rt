@@ -12,6 +12,7 @@ mod duties;
 mod fault;
 mod laws;
 mod replanning;
+mod rest;
 mod writing;
 
 pub use fault::ReplanFault;

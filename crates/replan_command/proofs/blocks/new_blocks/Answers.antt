@@ -8,8 +8,8 @@ use Rattle.replan_command.proofs.NewSides.{blocks-cause, new-blocks}
 use Rattle.replan_command.proofs.Problems.{blocks-count, blocks-fault, blocks-side, err-onto, ok-onto}
 use Rattle.replan_command.proofs.blocks.new_blocks.Goals as goal
 
-pub blocks_of_rests-requires-clause-counts : goal.blocks_of_rests-requires-clause-counts
-blocks_of_rests-requires-clause-counts g c κs within =
+pub new_side-requires-clause-counts : goal.new_side-requires-clause-counts
+new_side-requires-clause-counts g c κs within =
     let r = replan_of c.args.model.now c.args.earlier.now c.args.moment in
     blocks-count r c.in-Ok.rest c.in-Ok-blocks_left.rest c.in-Ok.ensures c.in-Ok-blocks_left.ensures (c.counted_blocks.ensures r.day)
 
@@ -19,9 +19,9 @@ returns-clause-blocks g c =
     let numbers = numbers_of c.args.effort.now in
     let counted = c.in-Ok.rest in
     let costed = c.in-Ok-blocks_left.rest in
-    ok-onto c.blocks_of_rests.result (λ blocks. IsMadeSide (rests counted) (rests costed) (items_of_blocks costed) numbers (side_of blocks)) (λ blocks. AreNewBlocks r numbers (side_of blocks))
+    ok-onto c.new_side.result (λ blocks. IsMadeSide (rests counted) (rests costed) (items_of_blocks costed) numbers (side_of blocks)) (λ blocks. AreNewBlocks r numbers (side_of blocks))
     (λ blocks made. new-blocks r numbers (side_of blocks) c.requires.earlier (blocks-side r numbers counted costed c.in-Ok.ensures c.in-Ok-blocks_left.ensures (side_of blocks) made))
-    c.blocks_of_rests.ensures.side
+    c.new_side.ensures.side
 
 pub returns-clause-cause : goal.returns-clause-cause
 returns-clause-cause g c =
@@ -29,6 +29,6 @@ returns-clause-cause g c =
     let numbers = numbers_of c.args.effort.now in
     let counted = c.in-Ok.rest in
     let costed = c.in-Ok-blocks_left.rest in
-    err-onto c.blocks_of_rests.result (IsWrittenCause Vehicles (rests counted) (rests costed) (trip_name costed.day.trips (items_of_blocks costed)) (items_of_blocks costed) numbers) (IsRestCause r numbers)
+    err-onto c.new_side.result (IsWrittenCause Vehicles (rests counted) (rests costed) (trip_name costed.day.trips (items_of_blocks costed)) (items_of_blocks costed) numbers) (IsRestCause r numbers)
     (λ fault cause. blocks-cause r numbers fault c.requires.earlier (blocks-fault r numbers counted costed c.in-Ok.ensures c.in-Ok-blocks_left.ensures fault cause))
-    c.blocks_of_rests.ensures.cause
+    c.new_side.ensures.cause

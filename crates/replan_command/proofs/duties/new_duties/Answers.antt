@@ -29,8 +29,8 @@ duties_left-requires-2 g c =
     heads-over r blocks c.in-Ok-duty_net.net false (have r (daily-trips c.trips.result.now r.day.trips c.trips.ensures.trips c.trips.ensures.daily) c.requires.earlier blocks c.requires.blocks.kept.keeps)
     (net-is r.day blocks c.args.pieces.now c.params-params.result.now false c.in-Ok-duty_net.net c.in-Ok-duty_net.ensures c.requires.pieces c.params-params.ensures.settings)
 
-pub duties_of_rests-requires-clause-counts : goal.duties_of_rests-requires-clause-counts
-duties_of_rests-requires-clause-counts g c κs within =
+pub new_side-requires-clause-counts : goal.new_side-requires-clause-counts
+new_side-requires-clause-counts g c κs within =
     let r = replan_of c.args.model.now c.args.earlier.now c.args.moment in
     let blocks = c.args.blocks.now.plan.columns in
     let counts = net-is r.day blocks c.args.pieces.now c.params-params.result.now true c.in-Ok.net c.in-Ok.ensures c.requires.pieces c.params-params.ensures.settings in
@@ -48,9 +48,9 @@ returns-clause-duties g c =
     let costed = c.in-Ok-duties_left-2.rest in
     let counts = facts-are r blocks counted c.in-Ok.net true c.in-Ok-duties_left.ensures (net-is r.day blocks c.args.pieces.now c.params-params.result.now true c.in-Ok.net c.in-Ok.ensures c.requires.pieces c.params-params.ensures.settings) in
     let costs = facts-are r blocks costed c.in-Ok-duty_net.net false c.in-Ok-duties_left-2.ensures (net-is r.day blocks c.args.pieces.now c.params-params.result.now false c.in-Ok-duty_net.net c.in-Ok-duty_net.ensures c.requires.pieces c.params-params.ensures.settings) in
-    ok-onto c.duties_of_rests.result (λ duties. IsMadeSide (rests counted) (rests costed) (items_of_duties costed) numbers (side_of duties)) (λ duties. AreNewDuties r numbers blocks (side_of duties))
+    ok-onto c.new_side.result (λ duties. IsMadeSide (rests counted) (rests costed) (items_of_duties costed) numbers (side_of duties)) (λ duties. AreNewDuties r numbers blocks (side_of duties))
     (λ duties made. new-duties r blocks (have r (daily-trips c.trips.result.now r.day.trips c.trips.ensures.trips c.trips.ensures.daily) c.requires.earlier blocks c.requires.blocks.kept.keeps) numbers (side_of duties) (duties-side r blocks numbers counted costed counts costs (side_of duties) made))
-    c.duties_of_rests.ensures.side
+    c.new_side.ensures.side
 
 pub returns-clause-cause : goal.returns-clause-cause
 returns-clause-cause g c =
@@ -61,8 +61,8 @@ returns-clause-cause g c =
     let costed = c.in-Ok-duties_left-2.rest in
     let counts = facts-are r blocks counted c.in-Ok.net true c.in-Ok-duties_left.ensures (net-is r.day blocks c.args.pieces.now c.params-params.result.now true c.in-Ok.net c.in-Ok.ensures c.requires.pieces c.params-params.ensures.settings) in
     let costs = facts-are r blocks costed c.in-Ok-duty_net.net false c.in-Ok-duties_left-2.ensures (net-is r.day blocks c.args.pieces.now c.params-params.result.now false c.in-Ok-duty_net.net c.in-Ok-duty_net.ensures c.requires.pieces c.params-params.ensures.settings) in
-    err-onto c.duties_of_rests.result (IsWrittenCause Drivers (rests counted) (rests costed) (piece_name costed.net.pieces (items_of_duties costed)) (items_of_duties costed) numbers) (IsRestCause r numbers)
+    err-onto c.new_side.result (IsWrittenCause Drivers (rests counted) (rests costed) (piece_name costed.net.pieces (items_of_duties costed)) (items_of_duties costed) numbers) (IsRestCause r numbers)
     (λ fault cause.
     duties-cause r numbers (side_of c.args.blocks.now) c.requires.blocks (have r (daily-trips c.trips.result.now r.day.trips c.trips.ensures.trips c.trips.ensures.daily) c.requires.earlier blocks c.requires.blocks.kept.keeps) fault
     (duties-fault r blocks numbers counted costed counts costs fault cause))
-    c.duties_of_rests.ensures.cause
+    c.new_side.ensures.cause
