@@ -1,16 +1,14 @@
 -- A day has one certificate, or one cause why it has none, unless it is planned by climbing.
-use Rattle.std.proofs.Common.{◌≡◌, ℕ, inl, inr, false, ◌&&◌, List, Result, Ok, Err, IfOk, IfErr}
+use Rattle.std.proofs.Common.{◌≡◌, ℕ, inl, inr, false, ◌&&◌, List}
 use Rattle.vdv451_text.specs.declared.table.Table.{Table}
 use Rattle.day_model.specs.Facts.{DayFacts}
 use Rattle.plan_command.specs.Planning.{Asked}
 use Rattle.plan_command.proofs.Ends.{planning_ends_once}
-use Rattle.plan_certify.specs.Certificate.{IsCertTextOver}
 use Rattle.plan_certify.specs.Once.{HasCertOrCause, HasOneCertText}
 use Rattle.plan_certify.proofs.OneCert.{cert-or-cause, one-cert-text}
 use Rattle.plan_certify.proofs.AlikeCertificates.{same_certificates}
 use Rattle.planner_run.specs.declared.status.Status.{Status}
 use Rattle.planner_run.specs.CertText.{IsCertText}
-use Rattle.planner_run.specs.Model.{IsModelOf}
 use Rattle.planner_run.specs.PlanText.{IsPlanCause}
 use Rattle.planner_run.specs.Run.{is_of_planning}
 use Rattle.planner_run.proofs.ModelOutcomes.{days_alike, model_no_cause}
@@ -34,9 +32,3 @@ cert_text_no_cause asked tables day bytes s settled p (inr q) =
 pub one_certificate : (asked : Asked) → asked.numbers.climb ≡ false → (tables : List Table) (day : ℕ) (xs ys : List ℕ) → IsCertText asked tables day xs → IsCertText asked tables day ys → xs ≡ ys
 one_certificate asked fixed tables day xs ys p q =
     days_certificate q.facts asked fixed xs ys (same_certificates p.facts q.facts (days_alike tables day p.facts q.facts p.model q.model) asked xs p.cert) q.cert
-
--- the text of a certificate, of the day that the tables tell
-pub cert_written : (asked : Asked) (tables : List Table) (day : ℕ) (facts : DayFacts) (r : Result (List ℕ) Status) → IsModelOf tables day facts → IfOk r (IsCertTextOver facts asked)
-    → IfOk r (IsCertText asked tables day)
-cert_written asked tables day facts (Ok bytes) model written = record { facts = facts; model = model; cert = written }
-cert_written asked tables day facts (Err status) model written = tt

@@ -14,13 +14,11 @@ use Rattle.day_tables.specs.DayTables.{day_tables_of}
 use Rattle.plan_command.specs.declared.fault.PlanFault.{PlanFault}
 use Rattle.plan_command.specs.declared.fault.PlanFault.TheVariants as faults
 use Rattle.plan_command.specs.Planning.{Asked, IsPlanCauseOver}
-use Rattle.plan_command.specs.PlanText.{HasTripRows, IsPlanTextOver}
+use Rattle.plan_command.specs.PlanText.{HasTripRows}
 use Rattle.planner_run.specs.declared.status.Status.{Status}
-use Rattle.plan_command.specs.ShortText.{IsShortTextOver}
 use Rattle.planner_run.specs.DayText.{IsDayText, IsDayTextIn}
-use Rattle.planner_run.specs.MadeText.{IsShortText}
 use Rattle.planner_run.specs.Model.{IsModelIn, IsModelOf, IsModelRefusalIn, IsModelRefused}
-use Rattle.planner_run.specs.PlanText.{IsPlanRefused, IsPlanStatus, IsPlanText, plan_status_of}
+use Rattle.planner_run.specs.PlanText.{IsPlanRefused, plan_status_of}
 use Rattle.planner_run.proofs.ModelLemmas.{day_refused}
 use Rattle.planner_run.proofs.TripRows.{trip_fids, trip_rows_once}
 
@@ -29,7 +27,7 @@ pub model_to_plan : (asked : Asked) (tables : List Table) (day : ℕ) (status : 
 model_to_plan asked tables day status (inl memory) = inl memory
 model_to_plan asked tables day status (inr cause) = inr (inl cause)
 
-unplanned : (asked : Asked) (tables : List Table) (day : ℕ) (facts : DayFacts) (status : Status) → IsModelOf tables day facts → (fault : PlanFault) → IsPlanCauseOver facts asked fault → status ≡ plan_status_of fault → IsPlanRefused asked tables day status
+pub unplanned : (asked : Asked) (tables : List Table) (day : ℕ) (facts : DayFacts) (status : Status) → IsModelOf tables day facts → (fault : PlanFault) → IsPlanCauseOver facts asked fault → status ≡ plan_status_of fault → IsPlanRefused asked tables day status
 unplanned asked tables day facts status model faults.Memory cause is = inl is
 unplanned asked tables day facts status model (faults.NoPlan side bound places) cause is =
     inr (inr (record { facts = facts; model = model; fault = faults.NoPlan side bound places; cause = cause; told = λ e. cc; is = is }))
@@ -40,19 +38,6 @@ unplanned asked tables day facts status model (faults.NotPlaced side item name p
 pub text_of_tables : {E : Type 0} (r : Result (List ℕ) E) (tables meant : List Table) → IfOk r (λ bytes. bytes ≡ text tables) → tables ≡ meant → IfOk r (λ bytes. bytes ≡ text meant)
 text_of_tables (Ok bytes) tables meant spelled same = spelled ∙ ap text same
 text_of_tables (Err e) tables meant spelled same = tt
-
--- the text of a plan, of the day that the tables tell
-pub plan_written : (asked : Asked) (tables : List Table) (day : ℕ) (facts : DayFacts) (table : Table) (r : Result (List ℕ) Status) → IsModelOf tables day facts → table_of schema.trips tables ≡ Some table → IfOk r (IsPlanTextOver facts asked table) → IfOk r (IsPlanText asked tables day)
-plan_written asked tables day facts table (Ok bytes) model found written = record { facts = facts; model = model; table = table; found = found; plan = written }
-plan_written asked tables day facts table (Err status) model found written = tt
-
-pub short_written : (asked : Asked) (tables : List Table) (day : ℕ) (facts : DayFacts) (r : Result (List ℕ) Status) → IsModelOf tables day facts → IfOk r (IsShortTextOver facts asked) → IfOk r (IsShortText asked tables day)
-short_written asked tables day facts (Ok bytes) model written = record { facts = facts; model = model; plan = written }
-short_written asked tables day facts (Err status) model written = tt
-
-pub plan_left : (asked : Asked) (tables : List Table) (day : ℕ) (facts : DayFacts) (r : Result (List ℕ) Status) → IsModelOf tables day facts → IfErr r (IsPlanStatus facts asked) → IfErr r (IsPlanRefused asked tables day)
-plan_left asked tables day facts (Ok bytes) model cause = tt
-plan_left asked tables day facts (Err status) model cause = unplanned asked tables day facts status model cause.fault cause.cause cause.is
 
 -- the text of a day, of the tables that tell it
 pub day_written : (tables : List Table) (net : Net) (day : ℕ) (r : Result (List ℕ) Status) → first_fault (schemas_of needs.All) tables ≡ None → net ≡ net_of needs.All tables → IfOk r (IsDayTextIn net day) → IfOk r (IsDayText tables day)

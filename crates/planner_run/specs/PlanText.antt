@@ -45,9 +45,3 @@ IsPlanCause asked tables day status = IsModelCause tables day status ⊎ IsUnpla
 -- memory ran out, or there is no text
 abbrev pub IsPlanRefused : Asked → List Table → ℕ → Status → Type 0
 IsPlanRefused asked tables day status = (status ≡ statuses.Memory) ⊎ IsPlanCause asked tables day status
-
--- the status for a day without a plan, with its cause; want of memory needs none
-pub record IsPlanStatus (facts : DayFacts) (asked : Asked) (status : Status) : Type 0 where
-  pub fault : PlanFault
-  pub cause : IsPlanCauseOver facts asked fault
-  pub is : status ≡ plan_status_of fault

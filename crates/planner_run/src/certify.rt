@@ -3,39 +3,18 @@
 ghost use Rattle.std.specs.Prelude.{◌<◌, ◌^◌, All, IsTrue, IfOk, IfErr, length};
 ghost use Rattle.vdv451_text.specs.Plain.{are_plain};
 ghost use Rattle.price_rounds.specs.Efforts.{IsEffort};
-ghost use Rattle.plan_certify.specs.Certificate.{IsCertTextOver};
 ghost use Rattle.plan_command.specs.Planning.{asked_of};
 ghost use Rattle.planner_run.specs.CertText.{IsCertText};
-ghost use Rattle.planner_run.specs.PlanText.{IsPlanRefused, IsPlanStatus};
+ghost use Rattle.planner_run.specs.PlanText.{IsPlanRefused};
 
-use crate::plan::plan_status;
 use crate::ready::ready_day;
 use crate::status::Status;
-use day_model::Day;
 use plan_certify::certificate_text as certificate_day_text;
 use plan_command::Method;
 use plan_core::{Bytes, Gate, Seq};
 use std::alloc::Global;
 use std::thread::Threads;
 use vdv451_text::Table;
-
-/// The text of the certificate of a day.
-fn text_over<R: Threads + Sync, G: Gate + Sync>(
-    rt: &R,
-    alloc: Global,
-    model: &Day,
-    method: &Method,
-    gate: &G,
-) -> Result<Bytes, Status>
-    requires effort { IsEffort method.now.effort }
-    ensures written { IfOk result (IsCertTextOver model.now (asked_of method.now)) }
-    ensures cause { IfErr result (IsPlanStatus model.now (asked_of method.now)) }
-{
-    match certificate_day_text(rt, alloc, model, method, gate) {
-        Ok(bytes) => Ok(bytes),
-        Err(fault) => Err(plan_status(fault)),
-    }
-}
 
 /// The text of the certificate of the plan of the day that the tables of all files tell, the plan that `plan` writes with the same words:
 /// X_PREIS, X_KLASSENPREIS, X_MARKE and X_UMARKE.
@@ -57,8 +36,6 @@ pub fn certificate_text<R: Threads + Sync, G: Gate + Sync>(
     ensures written { IfOk result (IsCertText (asked_of method.now) tables day) }
     ensures cause { IfErr result (IsPlanRefused (asked_of method.now) tables day) }
 {
-    match ready_day(alloc, tables, day) {
-        Ok(ready) => text_over(rt, alloc, &ready.model, method, gate),
-        Err(status) => Err(status),
-    }
+    let ready = ready_day(alloc, tables, day)?;
+    Ok(certificate_day_text(rt, alloc, &ready.model, method, gate)?)
 }

@@ -1,91 +1,48 @@
 //! The command `plan`: the vehicle blocks and driver duties of a day, and bounds on their numbers and costs.
 
 ghost use Rattle.std.specs.Prelude.{◌≡◌, ◌<◌, ◌^◌, All, IsTrue, IfOk, IfErr, length};
-ghost use Rattle.vdv451_text.specs.Plain.{are_plain, is_plain_table};
+ghost use Rattle.vdv451_text.specs.Plain.{are_plain};
 ghost use Rattle.price_rounds.specs.Efforts.{IsEffort};
-ghost use Rattle.plan_command.specs.PlanText.{HasTripRows, IsPlanTextOver};
-ghost use Rattle.plan_command.specs.ShortText.{IsShortTextOver};
 ghost use Rattle.plan_command.specs.Planning.{asked_of};
 ghost use Rattle.planner_run.specs.MadeText.{IsShortText};
-ghost use Rattle.planner_run.specs.PlanText.{IsPlanRefused, IsPlanStatus, IsPlanText, plan_status_of};
+ghost use Rattle.planner_run.specs.PlanText.{IsPlanRefused, IsPlanText, plan_status_of};
 
 use crate::ready::ready_day;
 use crate::status::Status;
-use day_model::Day;
 use plan_command::{Method, PlanFault, plan_text as plan_day_text, short_text as short_day_text};
 use plan_core::{Bytes, Gate, Seq};
 use std::alloc::Global;
 use std::thread::Threads;
 use vdv451_text::Table;
 
-/// The status for a day without a plan.
-pub(crate) fn plan_status(fault: PlanFault) -> Status
-    ensures { result ≡ plan_status_of fault }
-{
-    match fault {
-        PlanFault::NoPlan {
-            side,
-            bound,
-            places,
-        } => Status::NoPlan {
-            side,
-            bound,
-            places,
-        },
-        PlanFault::NotPlaced {
-            side,
-            item,
-            name,
-            partial,
-        } => Status::NotPlaced {
-            side,
-            item,
-            name,
-            partial,
-        },
-        PlanFault::Memory => Status::Memory,
-    }
-}
+impl From<PlanFault> for Status {
+    ghost from_gives = { λ fault status. status ≡ plan_status_of fault };
 
-/// The text of the plan of a day, from the table that its trips were read from.
-fn text_over<R: Threads + Sync, G: Gate + Sync>(
-    rt: &R,
-    alloc: Global,
-    model: &Day,
-    rec_frt: &Table,
-    method: &Method,
-    gate: &G,
-) -> Result<Bytes, Status>
-    requires plain { IsTrue (is_plain_table rec_frt.now) }
-    requires trips { HasTripRows model.now rec_frt.now }
-    requires effort { IsEffort method.now.effort }
-    ensures written { IfOk result (IsPlanTextOver model.now (asked_of method.now) rec_frt.now) }
-    ensures cause { IfErr result (IsPlanStatus model.now (asked_of method.now)) }
-{
-    match plan_day_text(rt, alloc, model, rec_frt, method, gate) {
-        Ok(bytes) => Ok(bytes),
-        Err(fault) => Err(plan_status(fault)),
-    }
-}
-
-/// The short text of the plan of a day, from the table that its trips were read from.
-fn short_over<R: Threads + Sync, G: Gate + Sync>(
-    rt: &R,
-    alloc: Global,
-    model: &Day,
-    rec_frt: &Table,
-    method: &Method,
-    gate: &G,
-) -> Result<Bytes, Status>
-    requires plain { IsTrue (is_plain_table rec_frt.now) }
-    requires trips { HasTripRows model.now rec_frt.now }
-    requires effort { IsEffort method.now.effort }
-    ensures written { IfOk result (IsShortTextOver model.now (asked_of method.now)) }
-    ensures cause { IfErr result (IsPlanStatus model.now (asked_of method.now)) }
-{
-    match short_day_text(rt, alloc, model, rec_frt, method, gate) {
-        Ok(bytes) => Ok(bytes),
-        Err(fault) => Err(plan_status(fault)),
+    /// The status for a day without a plan.
+    fn from(fault: PlanFault) -> Status {
+        match fault {
+            PlanFault::NoPlan {
+                side,
+                bound,
+                places,
+            } => Status::NoPlan {
+                side,
+                bound,
+                places,
+            },
+            PlanFault::NotPlaced {
+                side,
+                item,
+                name,
+                partial,
+            } => Status::NotPlaced {
+                side,
+                item,
+                name,
+                partial,
+            },
+            PlanFault::Memory => Status::Memory,
+        }
     }
 }
 
@@ -112,10 +69,8 @@ pub fn plan_text<R: Threads + Sync, G: Gate + Sync>(
     ensures written { IfOk result (IsPlanText (asked_of method.now) tables day) }
     ensures cause { IfErr result (IsPlanRefused (asked_of method.now) tables day) }
 {
-    match ready_day(alloc, tables, day) {
-        Ok(ready) => text_over(rt, alloc, &ready.model, &ready.rec_frt, method, gate),
-        Err(status) => Err(status),
-    }
+    let ready = ready_day(alloc, tables, day)?;
+    Ok(plan_day_text(rt, alloc, &ready.model, &ready.rec_frt, method, gate)?)
 }
 
 /// The short text of the plan of the day that tables tell: X_KURZ and X_SCHRANKE.
@@ -137,8 +92,6 @@ pub fn short_text<R: Threads + Sync, G: Gate + Sync>(
     ensures written { IfOk result (IsShortText (asked_of method.now) tables day) }
     ensures cause { IfErr result (IsPlanRefused (asked_of method.now) tables day) }
 {
-    match ready_day(alloc, tables, day) {
-        Ok(ready) => short_over(rt, alloc, &ready.model, &ready.rec_frt, method, gate),
-        Err(status) => Err(status),
-    }
+    let ready = ready_day(alloc, tables, day)?;
+    Ok(short_day_text(rt, alloc, &ready.model, &ready.rec_frt, method, gate)?)
 }

@@ -8,7 +8,6 @@ ghost use Rattle.plan_command.specs.PlanText.{HasTripRows};
 ghost use Rattle.replan_command.specs.ReplanText.{IsReplanTextOver};
 ghost use Rattle.planner_run.specs.ReplanText.{IsReplanRefused, IsReplanStatus, IsReplanText, replan_status_of};
 
-use crate::plan::plan_status;
 use crate::ready::{Ready, ready_day};
 use crate::status::Status;
 use plan_core::{Bytes, Gate, Seq};
@@ -24,7 +23,7 @@ fn replan_status(fault: ReplanFault) -> Status
 {
     match fault {
         ReplanFault::OldPlan(reason) => Status::OldPlan(reason),
-        ReplanFault::Plan(fault) => plan_status(fault),
+        ReplanFault::Plan(fault) => Status::from(fault),
     }
 }
 
