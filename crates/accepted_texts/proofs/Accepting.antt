@@ -99,8 +99,10 @@ yes_line (No reason) holds = absurd holds
 -- The planning tables, the day that they tell, and the two texts of this day. The tables of the texts are plain, and their numbers have 64
 -- bits: those of the day have 32, times lie within few days, costs and prices are bounded, and so are the values of marks. So the two texts
 -- are spelled by their tables alone, and the checker is handed these.
-module _ (checkable : ReadDaysAreCheckable) (plans : (facts : DayFacts) (table : Table) → DayPlansAreCheckable facts table) (texts : TextsAreAccepted)
-    (tables : List Table) (plain : IsTrue (are_plain tables)) (few : All (λ (t : Table). length t.rows < 2 ^ 32) tables) (words : HaveWords tables)
+module _ (checkable : ReadDaysAreCheckable) (plans : (facts : DayFacts) (table : Table) → DayPlansAreCheckable facts table)
+    (texts : TextsAreAccepted)
+    (tables : List Table) (plain : IsTrue (are_plain tables)) (few : All (λ (t : Table). length t.rows < 2 ^ 32) tables)
+    (words : HaveWords tables)
     (day : ℕ) (facts : DayFacts) (model : IsModelOf tables day facts) (table : Table) (found : table_of schema.trips tables ≡ Some table)
     (asked : Asked) (fixed : asked.numbers.climb ≡ false) where
   net : Net
@@ -123,7 +125,8 @@ module _ (checkable : ReadDaysAreCheckable) (plans : (facts : DayFacts) (table :
 
   trips : AllByRecursion IsFitTrip facts.trips
   trips =
-      trips_fit facts.trips (recursion_from_All HasPlaces facts.trips numbers.places) (recursion_from_All IsDaily facts.trips day_is.in_range.daily)
+      trips_fit facts.trips (recursion_from_All HasPlaces facts.trips numbers.places)
+      (recursion_from_All IsDaily facts.trips day_is.in_range.daily)
 
   pools : AllByRecursion IsPool facts.params.pools
   pools = recursion_from_All IsPool facts.params.pools day_is.in_range.params.pools
@@ -151,7 +154,8 @@ module _ (checkable : ReadDaysAreCheckable) (plans : (facts : DayFacts) (table :
 
     pieces_fit : All IsFitPiece pieces
     pieces_fit =
-        let ends = plan_ends facts trips day_is.short (depots_of facts.params.pools (recursion_from_All IsNumbered facts.params.pools numbers.pools)) blocks.columns in
+        let ends = plan_ends facts trips day_is.short
+        (depots_of facts.params.pools (recursion_from_All IsNumbered facts.params.pools numbers.pools)) blocks.columns in
         let of_blocks : All (IsPieceOf (length blocks.columns)) pieces = pieces-of-blocks facts blocks.columns few_are in
         let blocks_few = few_blocks facts blocks.columns day_is.in_range.few can_be_checked.blocks_are in
         λ k d within.
@@ -198,23 +202,30 @@ module _ (checkable : ReadDaysAreCheckable) (plans : (facts : DayFacts) (table :
     block_cost_middle : AllByRecursion IsMiddle blocks.cost.class_prices
     block_cost_middle =
         let side = made.blocks_are in
-        let found_known : IsFirstKept (blocks_of facts false) asked.numbers blocks.cost ⊎ ((known : KnownPlan) × (side.known ≡ Some known) × (blocks.cost ≡ known.cost)) =
-        cost_first (blocks_of facts true) (blocks_of facts false) asked.numbers fixed blocks.count blocks.cost side.columns side.known side.planned in
+        let found_known : IsFirstKept (blocks_of facts false) asked.numbers blocks.cost ⊎
+        ((known : KnownPlan) × (side.known ≡ Some known) × (blocks.cost ≡ known.cost)) =
+        cost_first (blocks_of facts true) (blocks_of facts false) asked.numbers fixed blocks.count blocks.cost
+        side.columns side.known side.planned in
         elim found_known [
-          | inl first ↦ first_middle (blocks_of facts false) (blocks_listed_all false) day_is.in_range.few asked.numbers blocks.cost first side.cost_paid.prices.1
+          | inl first ↦ first_middle (blocks_of facts false) (blocks_listed_all false) day_is.in_range.few asked.numbers blocks.cost
+              first side.cost_paid.prices.1
           | inr (known, is_known, same) ↦
               let Known : Option KnownPlan → Type 0 = λ o. AreKnownBlocks facts asked.flow o in
               let Middle : Kept → Type 0 = λ kept. AllByRecursion IsMiddle kept.class_prices in
-              subst Middle (sym same) (known_middle facts trips day_is.short pools day_is.in_range.few asked.flow known (subst Known is_known side.known_is))
+              subst Middle (sym same)
+              (known_middle facts trips day_is.short pools day_is.in_range.few asked.flow known (subst Known is_known side.known_is))
         ]
 
     duty_cost_middle : AllByRecursion IsMiddle duties.cost.class_prices
     duty_cost_middle =
         let side = made.duties_are in
-        let found_known : IsFirstKept (duties_over facts blocks.columns false) asked.numbers duties.cost ⊎ ((known : KnownPlan) × (side.known ≡ Some known) × (duties.cost ≡ known.cost)) =
-        cost_first (duties_over facts blocks.columns true) (duties_over facts blocks.columns false) asked.numbers fixed duties.count duties.cost side.columns side.known side.planned in
+        let found_known : IsFirstKept (duties_over facts blocks.columns false) asked.numbers duties.cost ⊎
+        ((known : KnownPlan) × (side.known ≡ Some known) × (duties.cost ≡ known.cost)) =
+        cost_first (duties_over facts blocks.columns true) (duties_over facts blocks.columns false) asked.numbers fixed duties.count
+        duties.cost side.columns side.known side.planned in
         elim found_known [
-          | inl first ↦ first_middle (duties_over facts blocks.columns false) (duties_listed_all false) few_are asked.numbers duties.cost first side.cost_paid.prices.1
+          | inl first ↦ first_middle (duties_over facts blocks.columns false) (duties_listed_all false) few_are asked.numbers duties.cost
+              first side.cost_paid.prices.1
           | inr (known, is_known, same) ↦ absurd (let bad : None ≡ Some known = sym side.known_is ∙ is_known in cc)
         ]
 
@@ -223,13 +234,15 @@ module _ (checkable : ReadDaysAreCheckable) (plans : (facts : DayFacts) (table :
       block_number =
           let side = made.blocks_are in
           first_middle (blocks_of facts true) (blocks_listed_all true) day_is.in_range.few asked.numbers blocks.count
-          (count_first (blocks_of facts true) (blocks_of facts false) asked.numbers fixed blocks.count blocks.cost side.columns side.known side.planned)
+          (count_first (blocks_of facts true) (blocks_of facts false) asked.numbers fixed blocks.count blocks.cost
+          side.columns side.known side.planned)
           side.count_paid.prices.1;
       block_cost = block_cost_middle;
       duty_number =
           let side = made.duties_are in
           first_middle (duties_over facts blocks.columns true) (duties_listed_all true) few_are asked.numbers duties.count
-          (count_first (duties_over facts blocks.columns true) (duties_over facts blocks.columns false) asked.numbers fixed duties.count duties.cost side.columns side.known side.planned)
+          (count_first (duties_over facts blocks.columns true) (duties_over facts blocks.columns false) asked.numbers fixed duties.count
+          duties.cost side.columns side.known side.planned)
           side.count_paid.prices.1;
       duty_cost = duty_cost_middle;
     }
@@ -272,21 +285,26 @@ module _ (checkable : ReadDaysAreCheckable) (plans : (facts : DayFacts) (table :
     plan_gives short =
         let P : List ℕ → Type 0 = λ bytes. Gives most_bytes bytes plan_of_text in
         let same : length one ≡ length (text plan_of_text) = ap length plan.written in
-        subst P (sym plan.written) (text_spells most_bytes plan_of_text (omega arith) (omega (arith, same, short)) is_plain_plan has_plan_words)
+        subst P (sym plan.written)
+        (text_spells most_bytes plan_of_text (omega arith) (omega (arith, same, short)) is_plain_plan has_plan_words)
 
     cert_gives : length other ≤ most_cert → Gives most_cert other cert_of_text
     cert_gives short =
         let P : List ℕ → Type 0 = λ bytes. Gives most_cert bytes cert_of_text in
         let same : length other ≡ length (text cert_of_text) = ap length cert.written in
-        subst P (sym cert.written) (text_spells most_cert cert_of_text (omega arith) (omega (arith, same, short)) is_plain_cert has_cert_words)
+        subst P (sym cert.written)
+        (text_spells most_cert cert_of_text (omega arith) (omega (arith, same, short)) is_plain_cert has_cert_words)
 
     -- So each answer over what they spell is a yes, and there is one.
-    answered_yes : (given given' : List Table) (ending : Status) (bytes : List ℕ) → Gives most_cert one given → Gives most_cert other given' →
+    answered_yes : (given given' : List Table) (ending : Status) (bytes : List ℕ) → Gives most_cert one given →
+        Gives most_cert other given' →
         IsCheckTextOver facts table given given' ending bytes → (bytes ≡ codes "yes\n") × (ending ≡ statuses.Ok)
     answered_yes given given' ending bytes of_plan of_cert check =
-        let P : List Table → List Table → Type 0 = λ p c. IsCheckerAnswer (record { day = facts; rec_frt = table; plan = p; cert = c }) check.answer in
+        let P : List Table → List Table → Type 0 =
+        λ p c. IsCheckerAnswer (record { day = facts; rec_frt = table; plan = p; cert = c }) check.answer in
         let judged : P plan_of_text cert_of_text =
-        subst (λ (c : List Table). P plan_of_text c) (cert_spelled given' of_cert) (subst (λ (p : List Table). P p given') (plan_spelled given of_plan) check.judged) in
+        subst (λ (c : List Table). P plan_of_text c) (cert_spelled given' of_cert)
+        (subst (λ (p : List Table). P p given') (plan_spelled given of_plan) check.judged) in
         let holds = (texts facts table asked day_is fixed one other plan cert).only check.answer judged in
         let line = yes_line check.answer holds in
         (check.written ∙ line.0, check.ends ∙ line.1)
@@ -309,117 +327,139 @@ some_tables tables faultless none =
 -- The same of files. `plan`, `certify` and `check` each find tables that the files spell; what planning files spell is one list of tables,
 -- whether they are read alone or before the two texts. Each finds a day of these tables, and two days of one list of tables differ in the
 -- order of their deadheads at most, so both texts are those of the day that the check finds. Over that day each answer is a yes.
-module _ (checkable : ReadDaysAreCheckable) (plans : (facts : DayFacts) (table : Table) → DayPlansAreCheckable facts table) (texts : TextsAreAccepted)
+module _ (checkable : ReadDaysAreCheckable) (plans : (facts : DayFacts) (table : Table) → DayPlansAreCheckable facts table)
+    (texts : TextsAreAccepted)
     (contents : List (List ℕ)) (day : ℕ) (asked : Asked) (fixed : asked.numbers.climb ≡ false) (one other : List ℕ)
-    (planned : IsAnswer (Plan asked) contents day statuses.Ok one) (certified : IsAnswer (Certify asked) contents day statuses.Ok other) where
-  abbrev parts : List (List Table)
-  parts = planned.parts
+    (planned : IsAnswer (Plan asked) contents day statuses.Ok one) (certified : IsAnswer (Certify asked) contents day statuses.Ok other)
+  where
+    abbrev parts : List (List Table)
+    parts = planned.parts
 
-  abbrev tables : List Table
-  tables = joined planned.parts
+    abbrev tables : List Table
+    tables = joined planned.parts
 
-  is_small : most_bytes ≤ most_cert
-  is_small = omega arith
+    is_small : most_bytes ≤ most_cert
+    is_small = omega arith
 
-  is_plain : IsTrue (are_plain tables)
-  is_plain = plain_tables (stages.Planning 63 most_bytes) contents planned.parts planned.spelled
+    is_plain : IsTrue (are_plain tables)
+    is_plain = plain_tables (stages.Planning 63 most_bytes) contents planned.parts planned.spelled
 
-  are_few : All (λ (t : Table). length t.rows < 2 ^ 32) tables
-  are_few = few_tables (stages.Planning 63 most_bytes) contents planned.parts is_small planned.spelled
+    are_few : All (λ (t : Table). length t.rows < 2 ^ 32) tables
+    are_few = few_tables (stages.Planning 63 most_bytes) contents planned.parts is_small planned.spelled
 
-  have_words : HaveWords tables
-  have_words = word_tables (stages.Planning 63 most_bytes) contents planned.parts planned.spelled
+    have_words : HaveWords tables
+    have_words = word_tables (stages.Planning 63 most_bytes) contents planned.parts planned.spelled
 
-  -- the certificate is one of the same tables
-  of_tables : IsCertText asked tables day other
-  of_tables =
-      let same : certified.parts ≡ planned.parts =
-      one_reading (stages.Planning 63 most_bytes) (stages.Planning 63 most_bytes) contents certified.parts planned.parts certified.spelled planned.spelled in
-      let P : List (List Table) → Type 0 = λ ps. IsCertText asked (joined ps) day other in
-      subst P same certified.written.0
+    -- the certificate is one of the same tables
+    of_tables : IsCertText asked tables day other
+    of_tables =
+        let same : certified.parts ≡ planned.parts =
+        one_reading (stages.Planning 63 most_bytes) (stages.Planning 63 most_bytes) contents certified.parts planned.parts
+        certified.spelled planned.spelled in
+        let P : List (List Table) → Type 0 = λ ps. IsCertText asked (joined ps) day other in
+        subst P same certified.written.0
 
-  -- the two texts over one day of the tables
-  plan_over : (facts : DayFacts) (table : Table) → IsModelOf tables day facts → table_of schema.trips tables ≡ Some table → IsPlanTextOver facts asked table one
-  plan_over facts table model found =
-      let p = planned.written.0 in
-      let same : p.table ≡ table = some_same (table_of schema.trips tables) p.table table p.found found in
-      let P : Table → Type 0 = λ t. IsPlanTextOver facts asked t one in
-      subst P same (same_texts p.facts facts (days_alike tables day p.facts facts p.model model) asked p.table one p.plan)
+    -- the two texts over one day of the tables
+    plan_over : (facts : DayFacts) (table : Table) → IsModelOf tables day facts → table_of schema.trips tables ≡ Some table →
+        IsPlanTextOver facts asked table one
+    plan_over facts table model found =
+        let p = planned.written.0 in
+        let same : p.table ≡ table = some_same (table_of schema.trips tables) p.table table p.found found in
+        let P : Table → Type 0 = λ t. IsPlanTextOver facts asked t one in
+        subst P same (same_texts p.facts facts (days_alike tables day p.facts facts p.model model) asked p.table one p.plan)
 
-  cert_over : (facts : DayFacts) → IsModelOf tables day facts → IsCertTextOver facts asked other
-  cert_over facts model =
-      same_certificates of_tables.facts facts (days_alike tables day of_tables.facts facts of_tables.model model) asked other of_tables.cert
+    cert_over : (facts : DayFacts) → IsModelOf tables day facts → IsCertTextOver facts asked other
+    cert_over facts model =
+        same_certificates of_tables.facts facts (days_alike tables day of_tables.facts facts of_tables.model model)
+        asked other of_tables.cert
 
-  checked_yes : (given given' : List Table) (ending : Status) (bytes : List ℕ) → Gives most_cert one given → Gives most_cert other given' →
-      IsCheckText tables given given' day ending bytes → (bytes ≡ codes "yes\n") × (ending ≡ statuses.Ok)
-  checked_yes given given' ending bytes of_plan of_cert check =
-      answered_yes checkable plans texts tables is_plain are_few have_words day check.facts check.model check.table check.found asked fixed one other
-      (plan_over check.facts check.table check.model check.found) (cert_over check.facts check.model) given given' ending bytes of_plan of_cert check.check
+    checked_yes : (given given' : List Table) (ending : Status) (bytes : List ℕ) → Gives most_cert one given →
+        Gives most_cert other given' →
+        IsCheckText tables given given' day ending bytes → (bytes ≡ codes "yes\n") × (ending ≡ statuses.Ok)
+    checked_yes given given' ending bytes of_plan of_cert check =
+        answered_yes checkable plans texts tables is_plain are_few have_words day check.facts check.model check.table
+        check.found asked fixed one other
+        (plan_over check.facts check.table check.model check.found) (cert_over check.facts check.model) given given' ending
+        bytes of_plan of_cert check.check
 
-  -- Each answer of a check is over the tables that the files spell: those of the planning files, and those of the two texts.
-  only_yes : (ending : Status) (bytes : List ℕ) → IsAnswer (Check (length contents)) (contents ++ one ∷ other ∷ []) day ending bytes →
-      (bytes ≡ codes "yes\n") × (ending ≡ statuses.Ok)
-  only_yes ending bytes check =
-      let stage = stages.Planning (length contents - 1) most_bytes in
-      let split = split_parts stage contents one other check.parts is_small check.spelled in
-      let front = split.front in
-      let same : front ≡ planned.parts = one_reading stage (stages.Planning 63 most_bytes) contents front planned.parts split.spelled planned.spelled in
-      let count : length contents ≡ length front = sym (as_many stage contents front split.spelled) in
-      let Of : ℕ → List (List Table) → Type 0 = λ n ps. IsWhole (Check n) ps day ending bytes in
-      let whole : Of (length front) (front ++ split.plan ∷ split.cert ∷ []) =
-      subst (λ (n : ℕ). Of n (front ++ split.plan ∷ split.cert ∷ [])) count (subst (λ (ps : List (List Table)). Of (length contents) ps) split.whole check.written) in
-      let all : List (List Table) = front ++ split.plan ∷ split.cert ∷ [] in
-      let text : IsCheckText (joined front) split.plan split.cert day ending bytes = text_at front split.plan split.cert ending bytes whole in
-      let P : List (List Table) → Type 0 = λ ps. IsCheckText (joined ps) split.plan split.cert day ending bytes in
-      checked_yes split.plan split.cert ending bytes split.of_plan split.of_cert (subst P same text)
-    where
-      text_at : (front : List (List Table)) (p c : List Table) (ending : Status) (bytes : List ℕ) →
-          IsWhole (Check (length front)) (front ++ p ∷ c ∷ []) day ending bytes → IsCheckText (joined front) p c day ending bytes
-      text_at front p c ending bytes whole =
-          let all : List (List Table) = front ++ p ∷ c ∷ [] in
-          let P : List (List Table) → List Table → List Table → Type 0 = λ fs x y. IsCheckText (joined fs) x y day ending bytes in
-          let a : P front (get_or all (length front) []) (get_or all (length front + 1) []) =
-          subst (λ (fs : List (List Table)). P fs (get_or all (length front) []) (get_or all (length front + 1) [])) (front_of front p c) whole in
-          let b : P front p (get_or all (length front + 1) []) = subst (λ (x : List Table). P front x (get_or all (length front + 1) [])) (plan_of front p c []) a in
-          subst (λ (y : List Table). P front p y) (cert_of front p c []) b
+    -- Each answer of a check is over the tables that the files spell: those of the planning files, and those of the two texts.
+    only_yes : (ending : Status) (bytes : List ℕ) → IsAnswer (Check (length contents)) (contents ++ one ∷ other ∷ []) day ending bytes →
+        (bytes ≡ codes "yes\n") × (ending ≡ statuses.Ok)
+    only_yes ending bytes check =
+        let stage = stages.Planning (length contents - 1) most_bytes in
+        let split = split_parts stage contents one other check.parts is_small check.spelled in
+        let front = split.front in
+        let same : front ≡ planned.parts =
+        one_reading stage (stages.Planning 63 most_bytes) contents front planned.parts split.spelled planned.spelled in
+        let count : length contents ≡ length front = sym (as_many stage contents front split.spelled) in
+        let Of : ℕ → List (List Table) → Type 0 = λ n ps. IsWhole (Check n) ps day ending bytes in
+        let whole : Of (length front) (front ++ split.plan ∷ split.cert ∷ []) =
+        subst (λ (n : ℕ). Of n (front ++ split.plan ∷ split.cert ∷ [])) count
+        (subst (λ (ps : List (List Table)). Of (length contents) ps) split.whole check.written) in
+        let all : List (List Table) = front ++ split.plan ∷ split.cert ∷ [] in
+        let text : IsCheckText (joined front) split.plan split.cert day ending bytes =
+        text_at front split.plan split.cert ending bytes whole in
+        let P : List (List Table) → Type 0 = λ ps. IsCheckText (joined ps) split.plan split.cert day ending bytes in
+        checked_yes split.plan split.cert ending bytes split.of_plan split.of_cert (subst P same text)
+      where
+        text_at : (front : List (List Table)) (p c : List Table) (ending : Status) (bytes : List ℕ) →
+            IsWhole (Check (length front)) (front ++ p ∷ c ∷ []) day ending bytes → IsCheckText (joined front) p c day ending bytes
+        text_at front p c ending bytes whole =
+            let all : List (List Table) = front ++ p ∷ c ∷ [] in
+            let P : List (List Table) → List Table → List Table → Type 0 = λ fs x y. IsCheckText (joined fs) x y day ending bytes in
+            let a : P front (get_or all (length front) []) (get_or all (length front + 1) []) =
+            subst (λ (fs : List (List Table)). P fs (get_or all (length front) []) (get_or all (length front + 1) []))
+            (front_of front p c) whole in
+            let b : P front p (get_or all (length front + 1) []) =
+            subst (λ (x : List Table). P front x (get_or all (length front + 1) [])) (plan_of front p c []) a in
+            subst (λ (y : List Table). P front p y) (cert_of front p c []) b
 
-  -- And there is one, over these tables.
-  is_answered : length contents ≤ 64 → length one ≤ most_bytes → length other ≤ most_cert →
-      IsAnswer (Check (length contents)) (contents ++ one ∷ other ∷ []) day statuses.Ok (codes "yes\n")
-  is_answered few short short' =
-      let p = planned.written.0 in
-      let plan : IsPlanTextOver p.facts asked p.table one = p.plan in
-      let cert : IsCertTextOver p.facts asked other = cert_over p.facts p.model in
-      let given = plan_of_text checkable plans texts tables is_plain are_few have_words day p.facts p.model p.table p.found asked fixed one other plan cert in
-      let given' = cert_of_text checkable plans texts tables is_plain are_few have_words day p.facts p.model p.table p.found asked fixed one other plan cert in
-      let text : IsCheckText tables given given' day statuses.Ok (codes "yes\n") = record {
-        facts = p.facts;
-        model = p.model;
-        table = p.table;
-        found = p.found;
-        check = yes_over checkable plans texts tables is_plain are_few have_words day p.facts p.model p.table p.found asked fixed one other plan cert;
-      } in
-      let gives = plan_gives checkable plans texts tables is_plain are_few have_words day p.facts p.model p.table p.found asked fixed one other plan cert short in
-      let gives' = cert_gives checkable plans texts tables is_plain are_few have_words day p.facts p.model p.table p.found asked fixed one other plan cert short' in
-      let many : length planned.parts ≡ length contents = as_many (stages.Planning 63 most_bytes) contents planned.parts planned.spelled in
-      let some : 1 ≤ length contents = some_files contents planned.parts planned.spelled (some_tables tables p.model.faultless) in
-      let stage = stages.Planning (length contents - 1) most_bytes in
-      let front : SpellTables stage contents planned.parts =
-      same_room 63 (length contents - 1) most_bytes contents planned.parts (omega (arith, few)) (omega (arith, some)) planned.spelled in
-      let W : ℕ → Type 0 = λ n. IsWhole (Check n) (planned.parts ++ given ∷ given' ∷ []) day statuses.Ok (codes "yes\n") in
-      record {
-        parts = planned.parts ++ given ∷ given' ∷ [];
-        spelled = with_both (length contents - 1) most_bytes contents planned.parts one other given given' (omega (arith, some)) front gives gives';
-        written = subst W many (whole_at planned.parts given given' day statuses.Ok (codes "yes\n") text);
-      }
-    where
-      some_files : (files : List (List ℕ)) (ps : List (List Table)) → SpellTables (stages.Planning 63 most_bytes) files ps → (joined ps ≡ [] → ⊥) → 1 ≤ length files
-      some_files [] ps spelled some = absurd (some (ap joined spelled))
-      some_files (bytes ∷ files) ps spelled some = omega arith
+    -- And there is one, over these tables.
+    is_answered : length contents ≤ 64 → length one ≤ most_bytes → length other ≤ most_cert →
+        IsAnswer (Check (length contents)) (contents ++ one ∷ other ∷ []) day statuses.Ok (codes "yes\n")
+    is_answered few short short' =
+        let p = planned.written.0 in
+        let plan : IsPlanTextOver p.facts asked p.table one = p.plan in
+        let cert : IsCertTextOver p.facts asked other = cert_over p.facts p.model in
+        let given = plan_of_text checkable plans texts tables is_plain are_few have_words day p.facts p.model p.table p.found
+        asked fixed one other plan cert in
+        let given' = cert_of_text checkable plans texts tables is_plain are_few have_words day p.facts p.model p.table p.found
+        asked fixed one other plan cert in
+        let text : IsCheckText tables given given' day statuses.Ok (codes "yes\n") = record {
+          facts = p.facts;
+          model = p.model;
+          table = p.table;
+          found = p.found;
+          check = yes_over checkable plans texts tables is_plain are_few have_words day p.facts p.model p.table p.found
+              asked fixed one other plan cert;
+        } in
+        let gives = plan_gives checkable plans texts tables is_plain are_few have_words day p.facts p.model p.table p.found asked
+        fixed one other plan cert short in
+        let gives' = cert_gives checkable plans texts tables is_plain are_few have_words day p.facts p.model p.table p.found asked fixed
+        one other plan cert short' in
+        let many : length planned.parts ≡ length contents =
+        as_many (stages.Planning 63 most_bytes) contents planned.parts planned.spelled in
+        let some : 1 ≤ length contents = some_files contents planned.parts planned.spelled (some_tables tables p.model.faultless) in
+        let stage = stages.Planning (length contents - 1) most_bytes in
+        let front : SpellTables stage contents planned.parts =
+        same_room 63 (length contents - 1) most_bytes contents planned.parts (omega (arith, few)) (omega (arith, some)) planned.spelled in
+        let W : ℕ → Type 0 = λ n. IsWhole (Check n) (planned.parts ++ given ∷ given' ∷ []) day statuses.Ok (codes "yes\n") in
+        record {
+          parts = planned.parts ++ given ∷ given' ∷ [];
+          spelled = with_both (length contents - 1) most_bytes contents planned.parts one other given given'
+              (omega (arith, some)) front gives gives';
+          written = subst W many (whole_at planned.parts given given' day statuses.Ok (codes "yes\n") text);
+        }
+      where
+        some_files : (files : List (List ℕ)) (ps : List (List Table)) → SpellTables (stages.Planning 63 most_bytes) files ps →
+            (joined ps ≡ [] → ⊥) → 1 ≤ length files
+        some_files [] ps spelled some = absurd (some (ap joined spelled))
+        some_files (bytes ∷ files) ps spelled some = omega arith
 
-  accepted : AreAccepted contents day one other
-  accepted = record { answers = is_answered; only = only_yes }
+    accepted : AreAccepted contents day one other
+    accepted = record { answers = is_answered; only = only_yes }
 
-pub written_accepted : ReadDaysAreCheckable → ((facts : DayFacts) (table : Table) → DayPlansAreCheckable facts table) → TextsAreAccepted → WrittenTextsAreAccepted
+pub written_accepted : ReadDaysAreCheckable → ((facts : DayFacts) (table : Table) → DayPlansAreCheckable facts table) →
+    TextsAreAccepted → WrittenTextsAreAccepted
 written_accepted checkable plans texts contents day asked fixed one other planned certified =
     accepted checkable plans texts contents day asked fixed one other planned certified

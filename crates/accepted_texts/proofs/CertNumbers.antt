@@ -66,7 +66,8 @@ module _ {L : Type 0} (m : Marking L) (sound : L → Type 0) (safe : AreSafe m s
 
   least_sound : (order : L → L → Ordering) (marks : List L) → AreMinimal m order marks → AllByRecursion sound marks
   least_sound order marks least =
-      recursion_from_All sound marks (λ k d there. open_sound (get_or marks k d) (least.only (get_or marks k d) (k, slice_get-get_or marks k d there)).0)
+      recursion_from_All sound marks
+      (λ k d there. open_sound (get_or marks k d) (least.only (get_or marks k d) (k, slice_get-get_or marks k d there)).0)
 
 few_pass : (pass : Pass) → pass_number pass ≤ 4
 few_pass BlockNumber = omega arith
@@ -100,7 +101,8 @@ price_rows_middle pass place (p ∷ ps) few within =
       price_rows_middle pass (place + 1) ps (omega (arith, few)) within.2,
     )
 
-class_rows_middle : (pass : Pass) (numbers : List ℕ) (class : ℕ) (prices : List ℤ) → AllByRecursion IsNumber numbers → AllByRecursion IsMiddle prices →
+class_rows_middle : (pass : Pass) (numbers : List ℕ) (class : ℕ) (prices : List ℤ) → AllByRecursion IsNumber numbers →
+    AllByRecursion IsMiddle prices →
     AllByRecursion AreMiddle (class_rows pass numbers class prices)
 class_rows_middle pass numbers class [] all middle = tt
 class_rows_middle pass numbers class (z ∷ zs) all middle =
@@ -128,7 +130,8 @@ duty_rows_middle pass numbers count (m ∷ ms) all marks =
               (omega (arith, ints, early), omega (arith, ints, late)),
               (
                 natural m.driving (omega (arith, driving)),
-                bit_row m.quarter (Some (pos m.total) ∷ bit m.three ∷ Some m.value ∷ []) (natural m.total (omega (arith, total)), bit_row m.three (Some m.value ∷ []) value),
+                bit_row m.quarter (Some (pos m.total) ∷ bit m.three ∷ Some m.value ∷ [])
+                    (natural m.total (omega (arith, total)), bit_row m.three (Some m.value ∷ []) value),
               ),
             ),
           ),
@@ -157,9 +160,9 @@ block_rows_middle pass numbers count (m ∷ ms) few all marks =
       block_rows_middle pass numbers count ms few all marks.1,
     )
 
--- The numbers of a certificate are those of passes, items and classes, kept prices and class prices, and the fields of marks. The marks of a
--- least cover are those of open lists, and what each step of a list keeps holds of them: at most 3,000 items, each with a price of at most
--- 3 * 10^15 and a bounded cost, keep a value within 64 bits.
+-- The numbers of a certificate are those of passes, items and classes, kept prices and class prices, and the fields of marks. The marks
+-- of a least cover are those of open lists, and what each step of a list keeps holds of them: at most 3,000 items, each with a price of
+-- at most 3 * 10^15 and a bounded cost, keep a value within 64 bits.
 
 -- the class prices of the four passes have 64 bits
 pub record HaveMiddle (blocks duties : SidePlan) : Type 0 where
@@ -181,7 +184,8 @@ four_plain : (a b c d : Table) → is_plain_table a ≡ true → is_plain_table 
 four_plain a b c d pa pb pc pd = rw (pa, pb, pc, pd) refl
 
 module _ (facts : DayFacts) (numbers : HasNumbers facts) (in_range : AreInRange facts) (blocks duties : SidePlan)
-    (net : (counts : Bool) → NetFits (duty_facts facts blocks.columns counts)) (paid : ArePaid facts blocks duties) (middle : HaveMiddle blocks duties)
+    (net : (counts : Bool) → NetFits (duty_facts facts blocks.columns counts)) (paid : ArePaid facts blocks duties)
+    (middle : HaveMiddle blocks duties)
     (cert : Cert) (is : IsCertOf facts blocks duties cert) where
   pool_numbers : AllByRecursion IsNumber (pool_numbers_of facts)
   pool_numbers =
@@ -201,38 +205,46 @@ module _ (facts : DayFacts) (numbers : HasNumbers facts) (in_range : AreInRange 
       subst P (sym same) (price_rows_middle pass 0 kept.prices.items (omega (arith, few)) within)
 
   charges_middle : (pass : Pass) (class_numbers : List ℕ) (kept : Kept) (part : CertPart) → part.class_prices ≡ kept.class_prices →
-      AllByRecursion IsNumber class_numbers → AllByRecursion IsMiddle kept.class_prices → AllByRecursion AreMiddle (class_rows pass class_numbers 0 part.class_prices)
+      AllByRecursion IsNumber class_numbers → AllByRecursion IsMiddle kept.class_prices →
+      AllByRecursion AreMiddle (class_rows pass class_numbers 0 part.class_prices)
   charges_middle pass class_numbers kept part same all within =
       let P : List ℤ → Type 0 = λ zs. AllByRecursion AreMiddle (class_rows pass class_numbers 0 zs) in
       subst P (sym same) (class_rows_middle pass class_numbers 0 kept.class_prices all within)
 
-  block_prices : (pass : Pass) (counts : Bool) (kept : Kept) (part : CertPart) → IsDualFeasible (blocks_of facts counts) kept → part.prices ≡ kept.prices →
+  block_prices : (pass : Pass) (counts : Bool) (kept : Kept) (part : CertPart) → IsDualFeasible (blocks_of facts counts) kept →
+      part.prices ≡ kept.prices →
       AllByRecursion AreMiddle (price_rows pass 0 part.prices.items)
   block_prices pass counts kept part feasible same =
       let count = feasible.prices.0 in let few = in_range.few in
       prices_middle pass kept part same (omega (arith, count, few)) feasible.prices.1
 
-  duty_prices : (pass : Pass) (counts : Bool) (kept : Kept) (part : CertPart) → IsDualFeasible (duties_over facts blocks.columns counts) kept → part.prices ≡ kept.prices →
+  duty_prices : (pass : Pass) (counts : Bool) (kept : Kept) (part : CertPart) →
+      IsDualFeasible (duties_over facts blocks.columns counts) kept → part.prices ≡ kept.prices →
       AllByRecursion AreMiddle (price_rows pass 0 part.prices.items)
   duty_prices pass counts kept part feasible same =
       let count = feasible.prices.0 in let few = (net counts).few in
       prices_middle pass kept part same (omega (arith, count, few)) feasible.prices.1
 
-  block_marks : (pass : Pass) (counts : Bool) (kept : Kept) (part : CertPart) → IsDualFeasible (blocks_of facts counts) kept → IsBlockPartOf facts counts kept part →
+  block_marks : (pass : Pass) (counts : Bool) (kept : Kept) (part : CertPart) → IsDualFeasible (blocks_of facts counts) kept →
+      IsBlockPartOf facts counts kept part →
       AllByRecursion AreMiddle (block_rows pass (pool_numbers_of facts) part.blocks.marks)
   block_marks pass counts kept part feasible made =
       let marking = block_marking facts counts kept.prices.items in
       block_rows_middle pass (pool_numbers_of facts) (length facts.trips) part.blocks.marks in_range.few pool_numbers
       (least_sound marking (MarkFits (length facts.trips))
-      (marks-safe facts counts kept.prices.items in_range.daily in_range.params.pools feasible.prices.1) block_order part.blocks.marks made.least)
+      (marks-safe facts counts kept.prices.items in_range.daily in_range.params.pools feasible.prices.1) block_order
+      part.blocks.marks made.least)
 
-  duty_marks : (pass : Pass) (counts : Bool) (kept : Kept) (part : CertPart) → IsDualFeasible (duties_over facts blocks.columns counts) kept →
-      IsDutyPartOf (duty_facts facts blocks.columns counts) kept part → AllByRecursion AreMiddle (duty_rows pass (group_numbers_of facts) part.cover.marks)
+  duty_marks : (pass : Pass) (counts : Bool) (kept : Kept) (part : CertPart) →
+      IsDualFeasible (duties_over facts blocks.columns counts) kept →
+      IsDutyPartOf (duty_facts facts blocks.columns counts) kept part →
+      AllByRecursion AreMiddle (duty_rows pass (group_numbers_of facts) part.cover.marks)
   duty_marks pass counts kept part feasible made =
       let over : DutyFacts = duty_facts facts blocks.columns counts in
       let marking = duty_marking over kept.prices.items in
       duty_rows_middle pass (group_numbers_of facts) (length over.pieces) part.cover.marks group_numbers
-      (least_sound marking (MarkHasRanges (length over.pieces)) (duty-safe over kept.prices.items (net counts) feasible.prices.1) duty_order part.cover.marks made.least)
+      (least_sound marking (MarkHasRanges (length over.pieces)) (duty-safe over kept.prices.items (net counts) feasible.prices.1) duty_order
+      part.cover.marks made.least)
 
   abbrev one : CertPart
   one = is.block_number
@@ -271,7 +283,8 @@ module _ (facts : DayFacts) (numbers : HasNumbers facts) (in_range : AreInRange 
       signed_rows_words (all_class_rows (class_numbers_of facts) one two three four)
       (both_each AreMiddle ((r1 ++ r2) ++ r3) r4
       (both_each AreMiddle (r1 ++ r2) r3
-      (both_each AreMiddle r1 r2 (charges_middle BlockNumber pools blocks.count one is.of_block_number.class_prices pool_numbers middle.block_number)
+      (both_each AreMiddle r1 r2
+      (charges_middle BlockNumber pools blocks.count one is.of_block_number.class_prices pool_numbers middle.block_number)
       (charges_middle BlockCost pools blocks.cost two is.of_block_cost.class_prices pool_numbers middle.block_cost))
       (charges_middle DutyNumber groups duties.count three is.of_duty_number.class_prices group_numbers middle.duty_number))
       (charges_middle DutyCost groups duties.cost four is.of_duty_cost.class_prices group_numbers middle.duty_cost))
@@ -316,12 +329,14 @@ module _ (facts : DayFacts) (numbers : HasNumbers facts) (in_range : AreInRange 
       let duty_columns : List (List ℕ) = columns_of which.DutyMarks in
       let block_columns : List (List ℕ) = columns_of which.BlockMarks in
       let plain : are_plain (four_tables c one two three four) ≡ true =
-      four_plain (cert_table which.Prices (all_price_rows one two three four)) (cert_table which.ClassPrices (all_class_rows c one two three four))
+      four_plain (cert_table which.Prices (all_price_rows one two three four))
+      (cert_table which.ClassPrices (all_class_rows c one two three four))
       (cert_table which.DutyMarks (all_duty_rows c three four)) (cert_table which.BlockMarks (all_block_rows c one two))
       (plain_signed (codes "X_PREIS") prices (((p1 ++ p2) ++ p3) ++ p4) refl
       (full-both prices ((p1 ++ p2) ++ p3) p4
       (full-both prices (p1 ++ p2) p3
-      (full-both prices p1 p2 (full-prices BlockNumber 0 one.prices.items) (full-prices BlockCost 0 two.prices.items)) (full-prices DutyNumber 0 three.prices.items))
+      (full-both prices p1 p2 (full-prices BlockNumber 0 one.prices.items) (full-prices BlockCost 0 two.prices.items))
+      (full-prices DutyNumber 0 three.prices.items))
       (full-prices DutyCost 0 four.prices.items)))
       (plain_signed (codes "X_KLASSENPREIS") classes (((c1 ++ c2) ++ c3) ++ c4) refl
       (full-both classes ((c1 ++ c2) ++ c3) c4

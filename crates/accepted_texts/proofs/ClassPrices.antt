@@ -75,7 +75,8 @@ from_none : (xs : List ℕ) → From 0 xs
 from_none [] = tt
 from_none (x ∷ xs) = omega arith
 
-low_where : (worth n : ℕ) (z : ℤ) → n ≤ 3000 → z ≤ℤ pos (3000000000000000 * (n - 0)) → neg_ℤ (pos 9000000000000000000) ≤ℤ (pos (1000 * worth) -ℤ z)
+low_where : (worth n : ℕ) (z : ℤ) → n ≤ 3000 → z ≤ℤ pos (3000000000000000 * (n - 0)) →
+    neg_ℤ (pos 9000000000000000000) ≤ℤ (pos (1000 * worth) -ℤ z)
 low_where worth n z few high = omega (arith, ints, few, high)
 
 below_zero : neg_ℤ (pos 9000000000000000000) ≤ℤ pos 0
@@ -85,9 +86,9 @@ price_middle : (z : ℤ) → neg_ℤ (pos 9000000000000000000) ≤ℤ z → IsMi
 price_middle (pos n) low = (omega (arith, ints), omega (arith, ints))
 price_middle (negsuc n) low = (omega (arith, ints), omega (arith, ints, low))
 
--- Fixed rounds keep an offer: prices, with class prices that are minus the least values under them. The prices that a plan keeps are at most
--- 3 * 10^15 in size, so whatever prices were offered, the class prices are at most 9 * 10^18. This does not follow from the offer being paid:
--- a class without places might have any price then.
+-- Fixed rounds keep an offer: prices, with class prices that are minus the least values under them. The prices that a plan keeps are at
+-- most 3 * 10^15 in size, so whatever prices were offered, the class prices are at most 9 * 10^18. This does not follow from the offer
+-- being paid: a class without places might have any price then.
 abbrev IsOffered : Problem → Kept → Type 0
 IsOffered p kept = (prices : List Price) × (kept ≡ offer_at p prices)
 
@@ -104,7 +105,8 @@ module _ (p : Problem) (listed : HasListedColumns p) (few : p.items ≤ 3000) wh
       neg_ℤ (pos 9000000000000000000) ≤ℤ least_of p prices class
   least_low prices class within below =
       ⊎_elim (λ (z : least_of p prices class ≡ pos 0). subst (λ (l : ℤ). neg_ℤ (pos 9000000000000000000) ≤ℤ l) (sym z) below_zero)
-      (λ (r : (g : ℕ) × (c : Column) × (g < groups_of p.items) × (best_of p prices class g ≡ Some c) × (value prices c ≡ least_of p prices class)).
+      (λ (r : (g : ℕ) × (c : Column) × (g < groups_of p.items) × (best_of p prices class g ≡ Some c)
+      × (value prices c ≡ least_of p prices class)).
       let first = (best_is_first_least p listed prices class r.0 below).is_first_least r.1 r.3 in
       let law = listed r.1.class r.1.items r.1.worth first.listed.1 in
       subst (λ (l : ℤ). neg_ℤ (pos 9000000000000000000) ≤ℤ l) r.4
@@ -115,10 +117,13 @@ module _ (p : Problem) (listed : HasListedColumns p) (few : p.items ≤ 3000) wh
   classes_middle : (prices : List Price) (a n : ℕ) → AllWithin 3000000000000000 prices → a + n ≤ length p.caps →
       AllByRecursion IsMiddle (class_prices_of (map (least_of p prices) (range_with_len a n)))
   classes_middle prices a zero within low = tt
-  classes_middle prices a (suc n) within low =
-      (price_middle (least_of p prices a) (least_low prices a within (omega (arith, low))), classes_middle prices (a + 1) n within (omega (arith, low)))
+  classes_middle prices a (suc n) within low = (
+    price_middle (least_of p prices a) (least_low prices a within (omega (arith, low))),
+    classes_middle prices (a + 1) n within (omega (arith, low)),
+  )
 
-  offered_middle : (kept : Kept) → IsOffered p kept → AllWithin 3000000000000000 kept.prices.items → AllByRecursion IsMiddle kept.class_prices
+  offered_middle : (kept : Kept) → IsOffered p kept → AllWithin 3000000000000000 kept.prices.items →
+      AllByRecursion IsMiddle kept.class_prices
   offered_middle kept offered within =
       let P : Kept → Type 0 = λ k. AllWithin 3000000000000000 k.prices.items → AllByRecursion IsMiddle k.class_prices in
       let made : P (offer_at p offered.0) = λ w. classes_middle offered.0 0 (length p.caps) w (omega arith) in
@@ -128,8 +133,10 @@ module _ (p : Problem) (listed : HasListedColumns p) (few : p.items ≤ 3000) wh
   is_offered rounds lower kept greatest =
       let all : AllByRecursion (IsOffered p) (all_offers p rounds lower) =
       both_each (IsOffered p) (round_offers p rounds) (lowering_offers p rounds (lower + 1))
-      (map_each (IsOffered p) (λ n. offer_at p (after_rounds p n).prices) (λ n. ((after_rounds p n).prices, λ i. offer_at p (after_rounds p n).prices)) (range_with_len 0 rounds))
-      (map_each (IsOffered p) (λ n. offer_at p (after_lowering p rounds n)) (λ n. (after_lowering p rounds n, λ i. offer_at p (after_lowering p rounds n))) (range_with_len 0 (lower + 1))) in
+      (map_each (IsOffered p) (λ n. offer_at p (after_rounds p n).prices)
+      (λ n. ((after_rounds p n).prices, λ i. offer_at p (after_rounds p n).prices)) (range_with_len 0 rounds))
+      (map_each (IsOffered p) (λ n. offer_at p (after_lowering p rounds n))
+      (λ n. (after_lowering p rounds n, λ i. offer_at p (after_lowering p rounds n))) (range_with_len 0 (lower + 1))) in
       middle_each (IsOffered p) greatest.before greatest.after kept (subst (AllByRecursion (IsOffered p)) greatest.all all)
 
   pub first_middle : (numbers : Numbers) (kept : Kept) → IsFirstKept p numbers kept → AllWithin 3000000000000000 kept.prices.items →
@@ -138,7 +145,8 @@ module _ (p : Problem) (listed : HasListedColumns p) (few : p.items ≤ 3000) wh
 
 -- what fixed rounds keep in the two passes of a side: the first offers of the greatest bounds, or the offer of a plan that is known
 module _ (counted costed : Problem) (numbers : Numbers) (fixed : numbers.climb ≡ false) (count cost : Kept) (columns : List Column) where
-  pub count_first : (known : Option KnownPlan) → EndsBy counted costed numbers known (planned count cost columns) → IsFirstKept counted numbers count
+  pub count_first : (known : Option KnownPlan) → EndsBy counted costed numbers known (planned count cost columns) →
+      IsFirstKept counted numbers count
   count_first None ends = let P : Bool → Type 0 = λ b. IsKeptBy b counted numbers count in subst P fixed ends.counts.kept
   count_first (Some known) ends = let P : Bool → Type 0 = λ b. IsKeptBy b counted numbers count in subst P fixed ends.0.kept
 
@@ -157,18 +165,26 @@ depth_low (negsuc m) n h = omega (arith, ints, h)
 
 apart_middle : (a b class_price : ℤ) (n : ℕ) → n ≤ 300000000000000 → neg_ℤ (pos n) ≤ℤ a → a ≤ℤ pos 0 → neg_ℤ (pos n) ≤ℤ b → b ≤ℤ pos 0 →
     class_price ≡ pos 1000 *ℤ (a -ℤ b) → IsMiddle class_price
-apart_middle a b class_price n few al ah bl bh is = (omega (arith, ints, few, al, ah, bl, bh, is), omega (arith, ints, few, al, ah, bl, bh, is))
+apart_middle a b class_price n few al ah bl bh is =
+    (omega (arith, ints, few, al, ah, bl, bh, is), omega (arith, ints, few, al, ah, bl, bh, is))
 
--- The plan of the flow is known without rounds. Its class price comes from the greatest potentials of the day's network, and these are above
--- minus the cost of one arc for each potential; no arc costs more than 20,000,000,000.
-module _ (day : DayFacts) (trips : AllByRecursion IsFitTrip day.trips) (short : (from to : Point) → IfSome (dead day from to) IsTime) (pool : Pool) (is : IsPool pool) where
+-- The plan of the flow is known without rounds. Its class price comes from the greatest potentials of the day's network, and these are
+-- above minus the cost of one arc for each potential; no arc costs more than 20,000,000,000.
+module _ (day : DayFacts) (trips : AllByRecursion IsFitTrip day.trips) (short : (from to : Point) → IfSome (dead day from to) IsTime)
+    (pool : Pool) (is : IsPool pool) where
   added_cheap : (t u c : ℕ) → added day pool t u ≡ Some c → c ≤ 20000000000
   added_cheap t u c e =
-      let cost : Trip → Trip → Option ℕ = λ trip next. given (nat_lt t u) (given (admits day next.line pool.typ) (option_map (λ l. link_cost pool next l) (link day pool trip next))) in
-      let first = and_then_some (λ (trip : Trip). option_and_then (λ (next : Trip). cost trip next) (slice_get day.trips u)) (slice_get day.trips t) c e in
+      let cost : Trip → Trip → Option ℕ =
+      λ trip next. given (nat_lt t u)
+      (given (admits day next.line pool.typ) (option_map (λ l. link_cost pool next l) (link day pool trip next))) in
+      let first = and_then_some (λ (trip : Trip). option_and_then (λ (next : Trip). cost trip next) (slice_get day.trips u))
+      (slice_get day.trips t) c e in
       let second = and_then_some (λ (next : Trip). cost first.0 next) (slice_get day.trips u) c first.2 in
-      let later = given_some (nat_lt t u) (given (admits day second.0.line pool.typ) (option_map (λ l. link_cost pool second.0 l) (link day pool first.0 second.0))) c second.2 in
-      let made = given_some (admits day second.0.line pool.typ) (option_map (λ l. link_cost pool second.0 l) (link day pool first.0 second.0)) c later in
+      let later = given_some (nat_lt t u)
+      (given (admits day second.0.line pool.typ) (option_map (λ l. link_cost pool second.0 l) (link day pool first.0 second.0)))
+      c second.2 in
+      let made = given_some (admits day second.0.line pool.typ)
+      (option_map (λ l. link_cost pool second.0 l) (link day pool first.0 second.0)) c later in
       let linked = some_mapped (λ (l : Link). link_cost pool second.0 l) (link day pool first.0 second.0) c made in
       let times = link_short day trips short pool first.0 second.0 linked.0 (at_each IsFitTrip day.trips t first.0 trips first.1)
       (at_each IsFitTrip day.trips u second.0 trips second.1) linked.1 in
@@ -178,7 +194,8 @@ module _ (day : DayFacts) (trips : AllByRecursion IsFitTrip day.trips) (short : 
 
   ended_cheap : (t c : ℕ) → ended day pool t ≡ Some c → c ≤ 20000000000
   ended_cheap t c e =
-      let first = and_then_some (λ (trip : Trip). option_map (λ inward. pool.dead_rate * inward) (pull_in day pool trip)) (slice_get day.trips t) c e in
+      let first = and_then_some (λ (trip : Trip). option_map (λ inward. pool.dead_rate * inward) (pull_in day pool trip))
+      (slice_get day.trips t) c e in
       let made = some_mapped (λ (inward : ℕ). pool.dead_rate * inward) (pull_in day pool first.0) c first.2 in
       let cheap = pull_cheap day trips short pool is made.0 (move_short day trips short first.0.to pool.depot made.0 made.1) in
       let same : pool.dead_rate * made.0 ≡ c = made.2 in
@@ -194,7 +211,8 @@ module _ (day : DayFacts) (trips : AllByRecursion IsFitTrip day.trips) (short : 
       (dead day pool.depot first.0.from) made.0 made.1 in
       let left = and_then_some (λ (at : ℕ). Some away.0) (seconds (first.0.begin.0 -ℤ pos away.0)) made.0 away.2 in
       let out : away.0 ≡ made.0 = some_same away.0 made.0 left.2 in
-      let cheap = pull_cheap day trips short pool is made.0 (subst IsTime out (move_short day trips short pool.depot first.0.from away.0 away.1)) in
+      let cheap = pull_cheap day trips short pool is made.0
+      (subst IsTime out (move_short day trips short pool.depot first.0.from away.0 away.1)) in
       let fixed = is.fixed in
       let same : pool.fixed + pool.dead_rate * made.0 ≡ c = made.2 in
       omega (arith, cheap, fixed, same)
@@ -202,28 +220,33 @@ module _ (day : DayFacts) (trips : AllByRecursion IsFitTrip day.trips) (short : 
   arcs_cheap : IsDear (net_of day pool) 20000000000
   arcs_cheap x v c x_in v_in e = by (nat_lt x (length day.trips)) (nat_lt v (length day.trips)) e
     where
-      by : (a b : Bool) → cond a (cond b (added day pool x v) (ended day pool x)) (cond b (begun day pool v) (Some 0)) ≡ Some c → c ≤ 20000000000
+      by : (a b : Bool) → cond a (cond b (added day pool x v) (ended day pool x)) (cond b (begun day pool v) (Some 0)) ≡ Some c →
+          c ≤ 20000000000
       by true true e = added_cheap x v c e
       by true false e = ended_cheap x c e
       by false true e = begun_cheap v c e
       by false false e = let same : 0 ≡ c = some_same 0 c e in omega (arith, same)
 
   flow_middle : length day.trips ≤ 3000 → day.params.pools ≡ pool ∷ [] → (lists : List (List ℕ)) → IsFlowPlan day lists → (p : Potentials) →
-      AreGreatest (net_of day pool) lists p → (prices : List Price) (class_price : ℤ) → ArePricesOf (net_of day pool) p prices class_price → IsMiddle class_price
+      AreGreatest (net_of day pool) lists p → (prices : List Price) (class_price : ℤ) → ArePricesOf (net_of day pool) p prices class_price →
+      IsMiddle class_price
   flow_middle few one lists plan p greatest prices class_price are =
       let n = length day.trips in
       let cover : IsCover (net_of day pool) lists = (plans_are_covers day pool one lists).0 plan.plan in
       let above = greatest_are_high (net_of day pool) (day_rising day pool) 20000000000 arcs_cheap lists cover p greatest n (omega arith) in
       let level : ℕ = (2 * n + 3) * 20000000000 in
-      apart_middle (p.tail n) (p.head n) class_price level (omega (arith, few)) (depth_low (p.tail n) level above.0) (greatest.numbers.tails n (omega arith))
+      apart_middle (p.tail n) (p.head n) class_price level (omega (arith, few)) (depth_low (p.tail n) level above.0)
+      (greatest.numbers.tails n (omega arith))
       (depth_low (p.head n) level above.1) (greatest.numbers.heads n (omega arith)) are.of_class
 
 pub known_middle : (day : DayFacts) → AllByRecursion IsFitTrip day.trips → ((from to : Point) → IfSome (dead day from to) IsTime) →
-    AllByRecursion IsPool day.params.pools → length day.trips ≤ 3000 → (flow : Bool) (known : KnownPlan) → AreKnownBlocks day flow (Some known) →
+    AllByRecursion IsPool day.params.pools → length day.trips ≤ 3000 → (flow : Bool) (known : KnownPlan) →
+    AreKnownBlocks day flow (Some known) →
     AllByRecursion IsMiddle known.cost.class_prices
 known_middle day trips short pools few false known is = absurd (let bad : Some known ≡ None = is in cc)
 known_middle day trips short pools few true known (paths, is) =
     let (pool, one, p, greatest, are) = is.prices in
     let pool_is : IsPool pool = (subst (AllByRecursion IsPool) one pools).0 in
-    let price : IsMiddle is.class_price = flow_middle day trips short pool pool_is few one paths is.plan p greatest known.cost.prices.items is.class_price are in
+    let price : IsMiddle is.class_price =
+    flow_middle day trips short pool pool_is few one paths is.plan p greatest known.cost.prices.items is.class_price are in
     subst (AllByRecursion IsMiddle) (sym is.class_prices) (price, tt)

@@ -117,7 +117,8 @@ at_most : (table : Table) (row : List Field) (column : Column) → number_of (ce
 at_most table row column = cell_holds column (field_at table.columns row column.name)
 
 -- what holds of each row holds of the typed rows
-module _ {A : Type 0} (P : A → Type 0) (row_of : List Cell → ℕ → A) (s : Schema) (each : (table : Table) (row : List Field) (place : ℕ) → P (row_of (cells s table row) place)) where
+module _ {A : Type 0} (P : A → Type 0) (row_of : List Cell → ℕ → A) (s : Schema) (each : (table : Table) (row : List Field) (place : ℕ) →
+    P (row_of (cells s table row) place)) where
   typed_each : (table : Table) (rows : List (List Field)) (place : ℕ) → AllByRecursion P (typed row_of place (map (cells s table) rows))
   typed_each table [] place = tt
   typed_each table (row ∷ rows) place = (each table row place, typed_each table rows (place + 1))
@@ -171,7 +172,8 @@ latest_row (row ∷ rows) all = later_row row (latest rows) all.0 (latest_row ro
 
 version_number : (tables : List Table) (day version : ℕ) → version_on (net_of needs.All tables) day ≡ Some version → IsNumber version
 version_number tables day version e =
-    let rows = rows_each IsVersion version_row schema.versions (λ table row place. at_most table row (schema.number (codes "BASIS_VERSION"))) tables in
+    let rows = rows_each IsVersion version_row schema.versions
+    (λ table row place. at_most table row (schema.number (codes "BASIS_VERSION"))) tables in
     let net : Net = net_of needs.All tables in
     mapped (λ (row : VersionRow). row.version) (latest (begun net.versions day)) version e
     (latest_row (begun net.versions day) (filter_each IsVersion (λ (row : VersionRow). nat_le row.day day) net.versions rows))
@@ -181,7 +183,8 @@ HasKind row = IsNumber row.kind
 
 kind_number : (tables : List Table) (version day kind : ℕ) → kind_on (net_of needs.All tables) version day ≡ Some kind → IsNumber kind
 kind_number tables version day kind e =
-    let rows = rows_each HasKind calendar_row schema.days (λ table row place. at_most table row (schema.number (codes "TAGESART_NR"))) tables in
+    let rows = rows_each HasKind calendar_row schema.days
+    (λ table row place. at_most table row (schema.number (codes "TAGESART_NR"))) tables in
     let net : Net = net_of needs.All tables in
     let test : CalendarRow → Bool = λ row. (row.version == version) && (row.day == day) in
     mapped (λ (row : CalendarRow). row.kind) (find test net.days) kind e (find_each HasKind test net.days rows)
@@ -190,7 +193,8 @@ kind_number tables version day kind e =
 abbrev IsAtPlace : StopRow → Type 0
 IsAtPlace row = IsPlace row.at
 
-put_each : (row : StopRow) (rows : List StopRow) → IsAtPlace row → AllByRecursion IsAtPlace rows → AllByRecursion IsAtPlace (put_in_order row rows)
+put_each : (row : StopRow) (rows : List StopRow) → IsAtPlace row → AllByRecursion IsAtPlace rows →
+    AllByRecursion IsAtPlace (put_in_order row rows)
 put_each row [] h all = (h, tt)
 put_each row (next ∷ rows) h all = by (nat_lt next.number row.number) (put_each row rows h all.1)
   where
@@ -207,7 +211,8 @@ at_each : (rows : List StopRow) → AllByRecursion IsAtPlace rows → AllByRecur
 at_each [] all = tt
 at_each (row ∷ rows) all = (all.0, at_each rows all.1)
 
-course_each : (tables : List Table) (version line : ℕ) (variant : List ℕ) → AllByRecursion IsPlace (course_on (net_of needs.All tables) version line variant)
+course_each : (tables : List Table) (version line : ℕ) (variant : List ℕ) →
+    AllByRecursion IsPlace (course_on (net_of needs.All tables) version line variant)
 course_each tables version line variant =
     let net : Net = net_of needs.All tables in
     let rows : AllByRecursion IsAtPlace net.stops = rows_each IsAtPlace stop_row schema.stops (λ table row place.
@@ -241,7 +246,8 @@ module _ (row : TripRow) (trip : Trip) where
       (run_seconds_of time_of (links_from first (next ∷ course)) + sum_by dwell_of (before_last next course)) e all.0
       (last_each next course all.1.0 all.1.1)
 
-  in_places : (tables : List Table) (version : ℕ) (area : Option ℕ) → timed_in (net_of needs.All tables) version row area ≡ Ok trip → HasPlaces trip
+  in_places : (tables : List Table) (version : ℕ) (area : Option ℕ) →
+      timed_in (net_of needs.All tables) version row area ≡ Ok trip → HasPlaces trip
   in_places tables version None e = absurd (cc)
   in_places tables version (Some area) e =
       let net : Net = net_of needs.All tables in
@@ -249,7 +255,8 @@ module _ (row : TripRow) (trip : Trip) where
       (course_each tables version row.line row.variant) e
 
 joins : (fid : ℕ) (one : Result Trip TripFault) (others : Result (List Trip) DayModelFault) (trips : List Trip) →
-    joined (named fid one) others ≡ Ok trips → (trip : Trip) × (more : List Trip) × (one ≡ Ok trip) × (others ≡ Ok more) × (trips ≡ trip ∷ more)
+    joined (named fid one) others ≡ Ok trips →
+    (trip : Trip) × (more : List Trip) × (one ≡ Ok trip) × (others ≡ Ok more) × (trips ≡ trip ∷ more)
 joins fid (Err fault) others trips e = absurd (cc)
 joins fid (Ok trip) (Err fault) trips e = absurd (cc)
 joins fid (Ok trip) (Ok more) trips e = (trip, more, refl, refl, cc)
@@ -260,15 +267,20 @@ trip_places tables version [] trips e = let none : trips ≡ [] = cc in subst (A
 trip_places tables version (row ∷ rows) trips e =
     let net : Net = net_of needs.All tables in
     let parts = joins row.fid (timed net version row) (timed_rows net version rows) trips e in
-    let both : AllByRecursion HasPlaces (parts.0 ∷ parts.1) =
-    (in_places row parts.0 tables version (area_on net version row.line row.variant) parts.2, trip_places tables version rows parts.1 parts.3) in
+    let both : AllByRecursion HasPlaces (parts.0 ∷ parts.1) = (
+      in_places row parts.0 tables version (area_on net version row.line row.variant) parts.2,
+      trip_places tables version rows parts.1 parts.3,
+    ) in
     subst (AllByRecursion HasPlaces) (sym parts.4) both
 
 -- pools and groups
 pool_numbers : (row : List ℕ) → Fits schema.depots.columns row → IsNumbered (pool_of row)
 pool_numbers row fits =
-    let width = fits.width in
-    (fits.within 0 (omega (arith, width)), (fits.within 1 (omega (arith, width)), fits.within 2 (omega (arith, width))), fits.within 3 (omega (arith, width)))
+    let width = fits.width in (
+      fits.within 0 (omega (arith, width)),
+      (fits.within 1 (omega (arith, width)), fits.within 2 (omega (arith, width))),
+      fits.within 3 (omega (arith, width)),
+    )
 
 group_number : (row : List ℕ) → Fits schema.drivers.columns row → IsNumber (group_of row).number
 group_number row fits = let width = fits.width in fits.within 0 (omega (arith, width))
@@ -279,17 +291,19 @@ pools_all net fits =
     (All-map IsNumbered pool_of net.depots
     (All-weaker (Fits schema.depots.columns) (λ (row : List ℕ). IsNumbered (pool_of row)) pool_numbers net.depots fits))
 
-groups_all : (net : Net) → All (Fits schema.drivers.columns) net.drivers → All (λ (group : Group). IsNumber group.number) (params_of net).groups
+groups_all : (net : Net) → All (Fits schema.drivers.columns) net.drivers →
+    All (λ (group : Group). IsNumber group.number) (params_of net).groups
 groups_all net fits =
     let P : Group → Type 0 = λ group. IsNumber group.number in
     order_all (λ (group : Group). group.number) P (map group_of net.drivers)
     (All-map P group_of net.drivers
     (All-weaker (Fits schema.drivers.columns) (λ (row : List ℕ). P (group_of row)) group_number net.drivers fits))
 
--- What a day is made of are fields of rows that were read through columns, and a column takes no number above its greatest one. So the version
--- and the kind of the day, the ends of its trips, and the numbers and places of its pools and groups have 32 bits: a version is that of a
--- row, the ends of a trip are points of a course, and a course is made of rows of stops.
-pub day_numbers : (tables : List Table) (day : ℕ) (facts : DayFacts) → HasRanges (net_of needs.All tables) → IsKindOf (net_of needs.All tables) day facts.kind →
+-- What a day is made of are fields of rows that were read through columns, and a column takes no number above its greatest one. So the
+-- version and the kind of the day, the ends of its trips, and the numbers and places of its pools and groups have 32 bits: a version is
+-- that of a row, the ends of a trip are points of a course, and a course is made of rows of stops.
+pub day_numbers : (tables : List Table) (day : ℕ) (facts : DayFacts) → HasRanges (net_of needs.All tables) →
+    IsKindOf (net_of needs.All tables) day facts.kind →
     IsDayOf (net_of needs.All tables) facts.kind facts → HasNumbers facts
 day_numbers tables day facts ranges kind is =
     let net : Net = net_of needs.All tables in
@@ -298,7 +312,8 @@ day_numbers tables day facts ranges kind is =
     record {
       version = version_number tables day facts.kind.version kind.version;
       kind = kind_number tables facts.kind.version day facts.kind.kind kind.kind_is;
-      places = All-from_recursion HasPlaces facts.trips (trip_places tables facts.kind.version (rows_at net.trips facts.rows) facts.trips is.trips);
+      places = All-from_recursion HasPlaces facts.trips
+          (trip_places tables facts.kind.version (rows_at net.trips facts.rows) facts.trips is.trips);
       pools = subst Pools (sym is.params) (pools_all net ranges.depots);
       groups = subst Groups (sym is.params) (groups_all net ranges.drivers);
     }

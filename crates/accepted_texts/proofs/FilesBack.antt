@@ -30,14 +30,16 @@ next_small stages.Plan bytes small = omega arith
 next_small stages.Cert bytes small = omega arith
 
 -- What files spell does not hang on how many bytes they may have.
-pub one_reading : (s t : Stage) (contents : List (List ℕ)) (xs ys : List (List Table)) → SpellTables s contents xs → SpellTables t contents ys → xs ≡ ys
+pub one_reading : (s t : Stage) (contents : List (List ℕ)) (xs ys : List (List Table)) → SpellTables s contents xs →
+    SpellTables t contents ys → xs ≡ ys
 one_reading s t [] xs ys p q = p ∙ sym q
 one_reading s t (bytes ∷ files) xs ys p q =
     let first : p.0 ≡ q.0 = spelled_once (lines_of bytes) p.0 q.0 p.2.1 q.2.1 in
     let others : p.1 ≡ q.1 = one_reading (next_stage s (length bytes)) (next_stage t (length bytes)) files p.1 q.1 p.3 q.3 in
     p.4 ∙ ap (λ (ts : List Table). ts ∷ p.1) first ∙ ap (λ (ps : List (List Table)). q.0 ∷ ps) others ∙ sym q.4
 
-pub as_many : (s : Stage) (contents : List (List ℕ)) (parts : List (List Table)) → SpellTables s contents parts → length parts ≡ length contents
+pub as_many : (s : Stage) (contents : List (List ℕ)) (parts : List (List Table)) → SpellTables s contents parts →
+    length parts ≡ length contents
 as_many s [] parts p = ap length p
 as_many s (bytes ∷ files) parts p = ap length p.4 ∙ ap suc (as_many (next_stage s (length bytes)) files p.1 p.3)
 
@@ -54,8 +56,8 @@ pub record IsSplit (stage : Stage) (contents : List (List ℕ)) (one other : Lis
 widened : (most : ℕ) (bytes : List ℕ) (tables : List Table) → most ≤ most_cert → Gives most bytes tables → Gives most_cert bytes tables
 widened most bytes tables small given = let few = given.0 in (omega (arith, few, small), given.1)
 
--- What files with a plan and a certificate behind them spell is what the planning files spell, and then what each of the two spells. How many
--- bytes each may have hangs on the files before it, but never is more than a certificate may have.
+-- What files with a plan and a certificate behind them spell is what the planning files spell, and then what each of the two spells. How
+-- many bytes each may have hangs on the files before it, but never is more than a certificate may have.
 pub split_parts : (stage : Stage) (contents : List (List ℕ)) (one other : List ℕ) (parts : List (List Table)) → IsSmall stage →
     SpellTables stage (contents ++ one ∷ other ∷ []) parts → IsSplit stage contents one other parts
 split_parts stage [] one other parts small p =
@@ -84,7 +86,8 @@ split_parts stage (bytes ∷ files) one other parts small p =
     }
 
 -- Planning files that are read alone are read in the same way before a plan and a certificate.
-pub same_room : (more other left : ℕ) (contents : List (List ℕ)) (parts : List (List Table)) → length contents ≤ more + 1 → length contents ≤ other + 1 →
+pub same_room : (more other left : ℕ) (contents : List (List ℕ)) (parts : List (List Table)) → length contents ≤ more + 1 →
+    length contents ≤ other + 1 →
     SpellTables (stages.Planning more left) contents parts → SpellTables (stages.Planning other left) contents parts
 same_room more other left [] parts few few' p = p
 same_room more other left (bytes ∷ []) parts few few' p = (p.0, p.1, p.2, p.3, p.4)
@@ -94,11 +97,13 @@ same_room (suc more) (suc other) left (bytes ∷ next ∷ files) parts few few' 
     (p.0, p.1, p.2, same_room more other (left - length bytes) (next ∷ files) p.1 (omega (arith, few)) (omega (arith, few')) p.3, p.4)
 
 pub with_both : (more left : ℕ) (contents : List (List ℕ)) (parts : List (List Table)) (one other : List ℕ) (plan cert : List Table) →
-    length contents ≡ more + 1 → SpellTables (stages.Planning more left) contents parts → Gives most_bytes one plan → Gives most_cert other cert →
+    length contents ≡ more + 1 → SpellTables (stages.Planning more left) contents parts → Gives most_bytes one plan →
+    Gives most_cert other cert →
     SpellTables (stages.Planning more left) (contents ++ one ∷ other ∷ []) (parts ++ plan ∷ cert ∷ [])
 with_both more left [] parts one other plan cert count p of_plan of_cert = absurd (omega (arith, count))
 with_both zero left (bytes ∷ []) parts one other plan cert count p of_plan of_cert =
-    let ended : SpellTables stages.Plan (one ∷ other ∷ []) (plan ∷ cert ∷ []) = (plan, cert ∷ [], of_plan, (cert, [], of_cert, refl, refl), refl) in
+    let ended : SpellTables stages.Plan (one ∷ other ∷ []) (plan ∷ cert ∷ []) =
+    (plan, cert ∷ [], of_plan, (cert, [], of_cert, refl, refl), refl) in
     let whole : parts ≡ p.0 ∷ [] = p.4 ∙ ap (λ (ps : List (List Table)). p.0 ∷ ps) p.3 in
     (p.0, plan ∷ cert ∷ [], p.2, ended, ap (λ (ps : List (List Table)). ps ++ plan ∷ cert ∷ []) whole)
 with_both (suc more) left (bytes ∷ []) parts one other plan cert count p of_plan of_cert = absurd (omega (arith, count))
@@ -113,11 +118,14 @@ each_plain : (stage : Stage) (contents : List (List ℕ)) (parts : List (List Ta
 each_plain stage [] parts p = subst (AllByRecursion (λ (tables : List Table). IsTrue (are_plain tables))) (sym p) tt
 each_plain stage (bytes ∷ files) parts p =
     let P : List (List Table) → Type 0 = AllByRecursion (λ (tables : List Table). IsTrue (are_plain tables)) in
-    let here : P (p.0 ∷ p.1) =
-    (reading_plain (room stage) bytes p.0 (reads_given (room stage) bytes p.0 p.2), each_plain (next_stage stage (length bytes)) files p.1 p.3) in
+    let here : P (p.0 ∷ p.1) = (
+      reading_plain (room stage) bytes p.0 (reads_given (room stage) bytes p.0 p.2),
+      each_plain (next_stage stage (length bytes)) files p.1 p.3,
+    ) in
     subst P (sym p.4) here
 
-pub plain_tables : (stage : Stage) (contents : List (List ℕ)) (parts : List (List Table)) → SpellTables stage contents parts → IsTrue (are_plain (joined parts))
+pub plain_tables : (stage : Stage) (contents : List (List ℕ)) (parts : List (List Table)) → SpellTables stage contents parts →
+    IsTrue (are_plain (joined parts))
 plain_tables stage contents parts p =
     plain_joined parts (All-from_recursion (λ (tables : List Table). IsTrue (are_plain tables)) parts (each_plain stage contents parts p))
 
@@ -140,9 +148,11 @@ pub few_tables : (stage : Stage) (contents : List (List ℕ)) (parts : List (Lis
 few_tables stage contents parts small p =
     all_joined IsFew parts (All-from_recursion (λ (tables : List Table). All IsFew tables) parts (each_few stage contents parts small p))
 
-pub word_tables : (stage : Stage) (contents : List (List ℕ)) (parts : List (List Table)) → SpellTables stage contents parts → HaveWords (joined parts)
+pub word_tables : (stage : Stage) (contents : List (List ℕ)) (parts : List (List Table)) → SpellTables stage contents parts →
+    HaveWords (joined parts)
 word_tables stage [] parts p = subst (λ (ps : List (List Table)). HaveWords (joined ps)) (sym p) tt
 word_tables stage (bytes ∷ files) parts p =
     let here : HaveWords (joined (p.0 ∷ p.1)) =
-    both_each HasWords p.0 (joined p.1) (given_words (room stage) bytes p.0 p.2) (word_tables (next_stage stage (length bytes)) files p.1 p.3) in
+    both_each HasWords p.0 (joined p.1) (given_words (room stage) bytes p.0 p.2)
+    (word_tables (next_stage stage (length bytes)) files p.1 p.3) in
     subst (λ (ps : List (List Table)). HaveWords (joined ps)) (sym p.4) here

@@ -73,7 +73,8 @@ value_words format (Bare []) = refl
 value_words format (Bare (b ∷ bytes)) =
     let number : Field = number_or_raw (b ∷ bytes) (number_of (b ∷ bytes)) in
     field_either (bytes_eq (b ∷ bytes) (codes "NULL")) Empty (if is_num_format format then number else Raw (b ∷ bytes)) refl
-    (field_either (is_num_format format) number (Raw (b ∷ bytes)) (read_words (b ∷ bytes) (number_of (b ∷ bytes)) (number_words (b ∷ bytes))) refl)
+    (field_either (is_num_format format) number (Raw (b ∷ bytes))
+    (read_words (b ∷ bytes) (number_of (b ∷ bytes)) (number_words (b ∷ bytes))) refl)
 
 row_words : (columns : List Head) (pieces : List Piece) (row : List Field) → values_of columns pieces ≡ Some row → is_sized_row row ≡ true
 row_words [] [] [] e = refl
@@ -87,7 +88,8 @@ row_words (column ∷ columns) (piece ∷ pieces) row e =
     subst P found.2
     (and_from (is_sized_field value) (is_sized_row found.0) (value_words column.format piece) (row_words columns pieces found.0 found.1))
 
-rows_words : (columns : List Head) (lines : List Line) (rows : List (List Field)) → SpellsRows columns lines rows → list_all is_sized_row rows ≡ true
+rows_words : (columns : List Head) (lines : List Line) (rows : List (List Field)) → SpellsRows columns lines rows →
+    list_all is_sized_row rows ≡ true
 rows_words columns [] [] spelled = refl
 rows_words columns (line ∷ lines) (row ∷ rows) spelled =
     let one = spelled.0 in

@@ -118,8 +118,11 @@ module _ (day : DayFacts) (trips : AllByRecursion IsFitTrip day.trips) (short : 
         let z = seconds_some (u.begin.0 -ℤ t.end.0 -ℤ pos inward.0 -ℤ pos outward.0) stood.0 stood.1 in
         let tb = ft.daily.begins in let to = ft.daily.order in
         let ub = fu.daily.order in let ue = fu.daily.ends in
-        let times : IsShort (Depot inward.0 outward.0 stood.0) =
-        (move_short t.to pool.depot inward.0 inward.1, move_short pool.depot u.from outward.0 outward.1, omega (arith, ints, z, tb, to, ub, ue)) in
+        let times : IsShort (Depot inward.0 outward.0 stood.0) = (
+          move_short t.to pool.depot inward.0 inward.1,
+          move_short pool.depot u.from outward.0 outward.1,
+          omega (arith, ints, z, tb, to, ub, ue),
+        ) in
         subst IsShort is times
 
     pub link_short : (t u : TheTrip) (l : Link) → IsFitTrip t → IsFitTrip u → link day pool t u ≡ Some l → IsShort l
@@ -151,8 +154,15 @@ module _ (day : DayFacts) (trips : AllByRecursion IsFitTrip day.trips) (short : 
 
       trip_fit : (k : ℕ) (t : TheTrip) → IsFitTrip t → IsFitLeg (trip_leg k t)
       trip_fit k t ft =
-          let tb = ft.daily.begins in let to = ft.daily.order in let te = ft.daily.ends in
-          (ft.places.0, ft.places.1, (omega (arith, ints, tb), omega (arith, ints, to, te)), (omega (arith, ints, tb, to), omega (arith, ints, te)))
+          let tb = ft.daily.begins in let to = ft.daily.order in let te = ft.daily.ends in (
+            ft.places.0,
+            ft.places.1,
+            (omega (arith, ints, tb), omega (arith, ints, to, te)),
+            (
+              omega (arith, ints, tb, to),
+              omega (arith, ints, te),
+            ),
+          )
 
       from_fit : (k : ℕ) (t : TheTrip) (ks : List ℕ) (legs : List Leg) → IsFitTrip t → legs_from day pool k t ks ≡ Some legs →
           AreFitLegs (4 * length ks + 2) legs
@@ -173,15 +183,18 @@ module _ (day : DayFacts) (trips : AllByRecursion IsFitTrip day.trips) (short : 
       from_fit k t (j ∷ js) legs ft e =
           let next = and_then_some
           (λ (u : TheTrip). option_and_then
-          (λ (l : Link). option_and_then (λ (rest : List Leg). Some ((trip_leg k t ∷ link_legs pool t u l) ++ rest)) (legs_from day pool j u js))
+          (λ (l : Link). option_and_then (λ (rest : List Leg). Some ((trip_leg k t ∷ link_legs pool t u l) ++ rest))
+          (legs_from day pool j u js))
           (link day pool t u)) (slice_get day.trips j) legs e in
           let u : TheTrip = next.0 in
           let fu : IsFitTrip u = at_each IsFitTrip day.trips j u trips next.1 in
           let linked = and_then_some
-          (λ (l : Link). option_and_then (λ (rest : List Leg). Some ((trip_leg k t ∷ link_legs pool t u l) ++ rest)) (legs_from day pool j u js))
+          (λ (l : Link). option_and_then (λ (rest : List Leg). Some ((trip_leg k t ∷ link_legs pool t u l) ++ rest))
+          (legs_from day pool j u js))
           (link day pool t u) legs next.2 in
           let l : Link = linked.0 in
-          let later = and_then_some (λ (rest : List Leg). Some ((trip_leg k t ∷ link_legs pool t u l) ++ rest)) (legs_from day pool j u js) legs
+          let later = and_then_some (λ (rest : List Leg). Some ((trip_leg k t ∷ link_legs pool t u l) ++ rest))
+          (legs_from day pool j u js) legs
           linked.2 in
           let rest : List Leg = later.0 in
           let after = from_fit j u js rest fu later.1 in
@@ -209,7 +222,8 @@ module _ (day : DayFacts) (trips : AllByRecursion IsFitTrip day.trips) (short : 
           let leaves = and_then_some
           (λ (out : ℕ). option_and_then (λ (rest : List Leg). Some (shown (out_leg t out ∷ rest))) (legs_from day pool k t ks))
           (pull_out day pool t) legs first.2 in
-          let later = and_then_some (λ (rest : List Leg). Some (shown (out_leg t leaves.0 ∷ rest))) (legs_from day pool k t ks) legs leaves.2 in
+          let later = and_then_some (λ (rest : List Leg). Some (shown (out_leg t leaves.0 ∷ rest)))
+          (legs_from day pool k t ks) legs leaves.2 in
           let away = and_then_some (λ (out : ℕ). option_and_then (λ (at : ℕ). Some out) (seconds (t.begin.0 -ℤ pos out)))
           (dead day pool.depot t.from) leaves.0 leaves.1 in
           let same = and_then_some (λ (at : ℕ). Some away.0) (seconds (t.begin.0 -ℤ pos away.0)) leaves.0 away.2 in
@@ -235,7 +249,8 @@ module _ (day : DayFacts) (trips : AllByRecursion IsFitTrip day.trips) (short : 
   onto_each l [] h all = ((h, tt), tt)
   onto_each l (part ∷ ps) h all = ((h, all.0), all.1)
 
-  parts_each : (pool : Pool) (legs : List Leg) → AllByRecursion IsFitLeg legs → AllByRecursion (AllByRecursion IsFitLeg) (parts day pool legs)
+  parts_each : (pool : Pool) (legs : List Leg) → AllByRecursion IsFitLeg legs →
+      AllByRecursion (AllByRecursion IsFitLeg) (parts day pool legs)
   parts_each pool [] fit = (tt, tt)
   parts_each pool (l ∷ ls) fit = by (is_cut day pool l) (parts_each pool ls fit.1)
     where
@@ -248,7 +263,8 @@ module _ (day : DayFacts) (trips : AllByRecursion IsFitTrip day.trips) (short : 
   last_fit l [] h all = h
   last_fit l (k ∷ ks) h all = last_fit k ks all.0 all.1
 
-  pieces_ends : (block index : ℕ) (ps : List (List Leg)) → AllByRecursion (AllByRecursion IsFitLeg) ps → AllByRecursion HasEnds (pieces_from block index ps)
+  pieces_ends : (block index : ℕ) (ps : List (List Leg)) → AllByRecursion (AllByRecursion IsFitLeg) ps →
+      AllByRecursion HasEnds (pieces_from block index ps)
   pieces_ends block index [] all = tt
   pieces_ends block index ([] ∷ rest) all = pieces_ends block index rest all.1
   pieces_ends block index ((l ∷ ls) ∷ rest) all =
@@ -258,7 +274,8 @@ module _ (day : DayFacts) (trips : AllByRecursion IsFitTrip day.trips) (short : 
     pub block_fit : (column : Column) → AreFitLegs (4 * length column.items + 3) (block_legs day column)
     block_fit column = of_pool (slice_get day.params.pools column.class) refl
       where
-        of_legs : (pool : Pool) → IsPlace pool.depot → (o : Option (List Leg)) → legs_of day pool column.items ≡ o → AreFitLegs (4 * length column.items + 3) (legs_or o)
+        of_legs : (pool : Pool) → IsPlace pool.depot → (o : Option (List Leg)) → legs_of day pool column.items ≡ o →
+            AreFitLegs (4 * length column.items + 3) (legs_or o)
         of_legs pool depot None e = record { fit = tt; few = omega arith }
         of_legs pool depot (Some legs) e = legs_fit pool depot column.items legs e
 
@@ -266,13 +283,15 @@ module _ (day : DayFacts) (trips : AllByRecursion IsFitTrip day.trips) (short : 
             AreFitLegs (4 * length column.items + 3) (legs_or (option_and_then (λ (pool : Pool). legs_of day pool column.items) o))
         of_pool None e = record { fit = tt; few = omega arith }
         of_pool (Some pool) e =
-            of_legs pool (at_each (λ (p : Pool). IsPlace p.depot) day.params.pools column.class pool depots e) (legs_of day pool column.items) refl
+            of_legs pool (at_each (λ (p : Pool). IsPlace p.depot) day.params.pools column.class pool depots e)
+            (legs_of day pool column.items) refl
 
     block_ends : (number : ℕ) (column : Column) → AllByRecursion HasEnds (block_pieces day number column)
     block_ends number column = of_pool (slice_get day.params.pools column.class) refl
       where
         of_legs : (pool : Pool) → IsPlace pool.depot → (o : Option (List Leg)) → legs_of day pool column.items ≡ o →
-            AllByRecursion HasEnds (unwrap_or (option_and_then (λ (legs : List Leg). Some (pieces_from number 1 (parts day pool legs))) o) [])
+            AllByRecursion HasEnds (unwrap_or
+            (option_and_then (λ (legs : List Leg). Some (pieces_from number 1 (parts day pool legs))) o) [])
         of_legs pool depot None e = tt
         of_legs pool depot (Some legs) e =
             pieces_ends number 1 (parts day pool legs) (parts_each pool legs (legs_fit pool depot column.items legs e).fit)
@@ -281,16 +300,19 @@ module _ (day : DayFacts) (trips : AllByRecursion IsFitTrip day.trips) (short : 
             AllByRecursion HasEnds (unwrap_or (option_and_then (λ (pool : Pool). pieces_of day pool number column.items) o) [])
         of_pool None e = tt
         of_pool (Some pool) e =
-            of_legs pool (at_each (λ (p : Pool). IsPlace p.depot) day.params.pools column.class pool depots e) (legs_of day pool column.items) refl
+            of_legs pool (at_each (λ (p : Pool). IsPlace p.depot) day.params.pools column.class pool depots e)
+            (legs_of day pool column.items) refl
 
     blocks_ends : (number : ℕ) (columns : List Column) → AllByRecursion HasEnds (pieces_by_block day number columns)
     blocks_ends number [] = tt
     blocks_ends number (column ∷ columns) =
-        both_each HasEnds (block_pieces day number column) (pieces_by_block day (number + 1) columns) (block_ends number column) (blocks_ends (number + 1) columns)
+        both_each HasEnds (block_pieces day number column) (pieces_by_block day (number + 1) columns) (block_ends number column)
+        (blocks_ends (number + 1) columns)
 
     pub plan_ends : (columns : List Column) → All HasEnds (pieces_of_plan day columns)
     plan_ends columns =
-        order_all moment HasEnds (pieces_by_block day 1 columns) (All-from_recursion HasEnds (pieces_by_block day 1 columns) (blocks_ends 1 columns))
+        order_all moment HasEnds (pieces_by_block day 1 columns)
+        (All-from_recursion HasEnds (pieces_by_block day 1 columns) (blocks_ends 1 columns))
 
   -- Costs. A link or a pull costs at most 10,000 for each of its seconds.
   rated : (rate seconds most : ℕ) → rate ≤ 10000 → seconds ≤ most → rate * seconds ≤ 10000 * most
@@ -326,7 +348,9 @@ module _ (day : DayFacts) (trips : AllByRecursion IsFitTrip day.trips) (short : 
         let same : pool.dead_rate * inward.0 ≡ c = some_same (pool.dead_rate * inward.0) c inward.2 in
         omega (arith, cost, same)
     from_cheap t (u ∷ us) c ft fus e =
-        let linked = and_then_some (λ (l : Link). option_and_then (λ (rest : ℕ). Some (link_cost pool u l + rest)) (cost_from day pool u us)) (link day pool t u) c e in
+        let linked = and_then_some
+        (λ (l : Link). option_and_then (λ (rest : ℕ). Some (link_cost pool u l + rest)) (cost_from day pool u us))
+        (link day pool t u) c e in
         let l : Link = linked.0 in
         let later = and_then_some (λ (rest : ℕ). Some (link_cost pool u l + rest)) (cost_from day pool u us) c linked.2 in
         let cost : link_cost pool u l ≤ 10000000000 = link_cheap u l (link_short pool t u l ft fus.0 linked.1) in
@@ -334,45 +358,58 @@ module _ (day : DayFacts) (trips : AllByRecursion IsFitTrip day.trips) (short : 
         let same : link_cost pool u l + later.0 ≡ c = some_same (link_cost pool u l + later.0) c later.2 in
         omega (arith, cost, rest, same)
 
-    block_cheap : (ts : List TheTrip) (c : ℕ) → AllByRecursion IsFitTrip ts → block_cost day pool ts ≡ Some c → c ≤ 10000000000 * (length ts + 2)
+    block_cheap : (ts : List TheTrip) (c : ℕ) → AllByRecursion IsFitTrip ts → block_cost day pool ts ≡ Some c →
+        c ≤ 10000000000 * (length ts + 2)
     block_cheap [] c fts e = absurd cc
     block_cheap (t ∷ ts) c fts e =
         let made = given_some (all_admitted day pool (t ∷ ts))
-        (option_and_then (λ (out : ℕ). option_and_then (λ (rest : ℕ). Some (pool.fixed + pool.dead_rate * out + rest)) (cost_from day pool t ts)) (pull_out day pool t)) c e in
-        let leaves = and_then_some (λ (out : ℕ). option_and_then (λ (rest : ℕ). Some (pool.fixed + pool.dead_rate * out + rest)) (cost_from day pool t ts))
+        (option_and_then (λ (out : ℕ). option_and_then (λ (rest : ℕ). Some (pool.fixed + pool.dead_rate * out + rest))
+        (cost_from day pool t ts)) (pull_out day pool t)) c e in
+        let leaves = and_then_some
+        (λ (out : ℕ). option_and_then (λ (rest : ℕ). Some (pool.fixed + pool.dead_rate * out + rest)) (cost_from day pool t ts))
         (pull_out day pool t) c made in
-        let later = and_then_some (λ (rest : ℕ). Some (pool.fixed + pool.dead_rate * leaves.0 + rest)) (cost_from day pool t ts) c leaves.2 in
+        let later = and_then_some (λ (rest : ℕ). Some (pool.fixed + pool.dead_rate * leaves.0 + rest))
+        (cost_from day pool t ts) c leaves.2 in
         let away = and_then_some (λ (out : ℕ). option_and_then (λ (at : ℕ). Some out) (seconds (t.begin.0 -ℤ pos out)))
         (dead day pool.depot t.from) leaves.0 leaves.1 in
         let same = and_then_some (λ (at : ℕ). Some away.0) (seconds (t.begin.0 -ℤ pos away.0)) leaves.0 away.2 in
         let same_out : away.0 ≡ leaves.0 = some_same away.0 leaves.0 same.2 in
-        let out : pool.dead_rate * leaves.0 ≤ 10000000000 = pull_cheap leaves.0 (subst IsTime same_out (move_short pool.depot t.from away.0 away.1)) in
+        let out : pool.dead_rate * leaves.0 ≤ 10000000000 =
+        pull_cheap leaves.0 (subst IsTime same_out (move_short pool.depot t.from away.0 away.1)) in
         let rest = from_cheap t ts later.0 fts.0 fts.1 later.1 in
         let fixed = is.fixed in
-        let whole : pool.fixed + pool.dead_rate * leaves.0 + later.0 ≡ c = some_same (pool.fixed + pool.dead_rate * leaves.0 + later.0) c later.2 in
+        let whole : pool.fixed + pool.dead_rate * leaves.0 + later.0 ≡ c =
+        some_same (pool.fixed + pool.dead_rate * leaves.0 + later.0) c later.2 in
         omega (arith, fixed, out, rest, whole)
 
-  trips_fit : (list : List ℕ) (ts : List TheTrip) → trips_at day.trips list ≡ Some ts → AllByRecursion IsFitTrip ts × (length ts ≡ length list)
-  trips_fit [] ts e = let none : [] ≡ ts = some_same [] ts e in subst (λ (xs : List TheTrip). AllByRecursion IsFitTrip xs × (length xs ≡ 0)) none (tt, refl)
+  trips_fit : (list : List ℕ) (ts : List TheTrip) → trips_at day.trips list ≡ Some ts →
+      AllByRecursion IsFitTrip ts × (length ts ≡ length list)
+  trips_fit [] ts e = let none : [] ≡ ts = some_same [] ts e in
+      subst (λ (xs : List TheTrip). AllByRecursion IsFitTrip xs × (length xs ≡ 0)) none (tt, refl)
   trips_fit (k ∷ ks) ts e =
-      let first = and_then_some (λ (t : TheTrip). option_and_then (λ (xs : List TheTrip). Some (t ∷ xs)) (trips_at day.trips ks)) (slice_get day.trips k) ts e in
+      let first = and_then_some (λ (t : TheTrip). option_and_then (λ (xs : List TheTrip). Some (t ∷ xs)) (trips_at day.trips ks))
+      (slice_get day.trips k) ts e in
       let later = and_then_some (λ (xs : List TheTrip). Some (first.0 ∷ xs)) (trips_at day.trips ks) ts first.2 in
       let rest = trips_fit ks later.0 later.1 in
       subst (λ (xs : List TheTrip). AllByRecursion IsFitTrip xs × (length xs ≡ length (k ∷ ks))) (some_same (first.0 ∷ later.0) ts later.2)
       ((at_each IsFitTrip day.trips k first.0 trips first.1, rest.0), ap suc rest.1)
 
-  pub worth_cheap : AllByRecursion IsPool day.params.pools → (class : ℕ) (list : List ℕ) (worth : ℕ) → block_worth day false class list ≡ Some worth →
+  pub worth_cheap : AllByRecursion IsPool day.params.pools → (class : ℕ) (list : List ℕ) (worth : ℕ) →
+      block_worth day false class list ≡ Some worth →
       worth ≤ 10000000000 * (length list + 2)
   worth_cheap pools class list worth e =
       let value : List TheTrip → Pool → Option ℕ = λ ts pool. option_and_then (λ (c : ℕ). Some (cond false 1 c)) (block_cost day pool ts) in
       let made = given_some (rises list)
-      (option_and_then (λ (pool : Pool). given (can_be_driven day pool list) (option_and_then (λ (ts : List TheTrip). value ts pool) (trips_at day.trips list)))
+      (option_and_then (λ (pool : Pool). given (can_be_driven day pool list)
+      (option_and_then (λ (ts : List TheTrip). value ts pool) (trips_at day.trips list)))
       (slice_get day.params.pools class)) worth e in
       let of_pool = and_then_some
-      (λ (pool : Pool). given (can_be_driven day pool list) (option_and_then (λ (ts : List TheTrip). value ts pool) (trips_at day.trips list)))
+      (λ (pool : Pool). given (can_be_driven day pool list)
+      (option_and_then (λ (ts : List TheTrip). value ts pool) (trips_at day.trips list)))
       (slice_get day.params.pools class) worth made in
       let pool : Pool = of_pool.0 in
-      let driven = given_some (can_be_driven day pool list) (option_and_then (λ (ts : List TheTrip). value ts pool) (trips_at day.trips list)) worth of_pool.2 in
+      let driven = given_some (can_be_driven day pool list)
+      (option_and_then (λ (ts : List TheTrip). value ts pool) (trips_at day.trips list)) worth of_pool.2 in
       let of_trips = and_then_some (λ (ts : List TheTrip). value ts pool) (trips_at day.trips list) worth driven in
       let costs = and_then_some (λ (c : ℕ). Some (cond false 1 c)) (block_cost day pool of_trips.0) worth of_trips.2 in
       let fit = trips_fit list of_trips.0 of_trips.1 in

@@ -85,7 +85,8 @@ signed_words [] h = refl
 signed_words (None ∷ row) h = signed_words row h.1
 signed_words (Some z ∷ row) h = and_from (is_word z) (is_sized_row (signed_row row)) (middle_word z h.0) (signed_words row h.1)
 
-pub number_rows_words : (rows : List (List (Option ℕ))) → AllByRecursion AreFieldNumbers rows → list_all is_sized_row (number_rows rows) ≡ true
+pub number_rows_words : (rows : List (List (Option ℕ))) → AllByRecursion AreFieldNumbers rows →
+    list_all is_sized_row (number_rows rows) ≡ true
 number_rows_words [] h = refl
 number_rows_words (row ∷ rows) h =
     and_from (is_sized_row (number_row row)) (list_all is_sized_row (number_rows rows)) (number_words row h.0) (number_rows_words rows h.1)
@@ -97,14 +98,16 @@ signed_rows_words (row ∷ rows) h =
 
 -- what holds of each item by its number holds of the numbered rows
 numbered_each : {A B : Type 0} (P : B → Type 0) (Q : A → Type 0) (most : ℕ) (value : ℕ → A → B) →
-    ((n : ℕ) (item : A) → n ≤ most → Q item → P (value n item)) → (n : ℕ) (items : List A) → n + length items ≤ most + 1 → AllByRecursion Q items →
+    ((n : ℕ) (item : A) → n ≤ most → Q item → P (value n item)) → (n : ℕ) (items : List A) → n + length items ≤ most + 1 →
+    AllByRecursion Q items →
     AllByRecursion P (numbered value n items)
 numbered_each P Q most value each n [] few all = tt
 numbered_each P Q most value each n (item ∷ items) few all =
     (each n item (omega (arith, few)) all.0, numbered_each P Q most value each (n + 1) items (omega (arith, few)) all.1)
 
 lists_each : {A B : Type 0} (P : B → Type 0) (Q : A → Type 0) (most : ℕ) (rows : ℕ → A → List B) →
-    ((n : ℕ) (item : A) → n ≤ most → Q item → AllByRecursion P (rows n item)) → (n : ℕ) (items : List A) → n + length items ≤ most + 1 → AllByRecursion Q items →
+    ((n : ℕ) (item : A) → n ≤ most → Q item → AllByRecursion P (rows n item)) → (n : ℕ) (items : List A) → n + length items ≤ most + 1 →
+    AllByRecursion Q items →
     AllByRecursion P (all_rows rows n items)
 lists_each P Q most rows each n [] few all = tt
 lists_each P Q most rows each n (item ∷ items) few all =
@@ -129,9 +132,11 @@ close_middle : (z : ℤ) → IsClose z → IsMiddle z
 close_middle z h = let l = h.0 in let k = h.1 in (omega (arith, ints, l), omega (arith, ints, k))
 
 -- REC_FRT: the rows that were read, with the numbers of blocks
-set_words : (row : List Field) (place : ℕ) (field : Field) → is_sized_field field ≡ true → is_sized_row row ≡ true → is_sized_row (slice_set row place field) ≡ true
+set_words : (row : List Field) (place : ℕ) (field : Field) → is_sized_field field ≡ true → is_sized_row row ≡ true →
+    is_sized_row (slice_set row place field) ≡ true
 set_words [] place field h all = refl
-set_words (old ∷ row) zero field h all = and_from (is_sized_field field) (is_sized_row row) h (and_parts (is_sized_field old) (is_sized_row row) all).1
+set_words (old ∷ row) zero field h all =
+    and_from (is_sized_field field) (is_sized_row row) h (and_parts (is_sized_field old) (is_sized_row row) all).1
 set_words (old ∷ row) (suc place) field h all =
     let parts = and_parts (is_sized_field old) (is_sized_row row) all in
     and_from (is_sized_field old) (is_sized_row (slice_set row place field)) parts.0 (set_words row place field h parts.1)
@@ -149,23 +154,27 @@ with_uid_words heads None row number h all = all
 with_uid_words heads (Some place) row number h all =
     set_words row place (uid_field (format_at heads place) number) (uid_words (format_at heads place) number h) all
 
-find_words : (p : List Field → Bool) (rows : List (List Field)) → list_all is_sized_row rows ≡ true → is_sized_row (unwrap_or (find p rows) []) ≡ true
+find_words : (p : List Field → Bool) (rows : List (List Field)) → list_all is_sized_row rows ≡ true →
+    is_sized_row (unwrap_or (find p rows) []) ≡ true
 find_words p [] all = refl
 find_words p (row ∷ rows) all = by (p row) (find_words p rows parts.1)
   where
     parts : (is_sized_row row ≡ true) × (list_all is_sized_row rows ≡ true)
     parts = and_parts (is_sized_row row) (list_all is_sized_row rows) all
 
-    by : (b : Bool) → is_sized_row (unwrap_or (find p rows) []) ≡ true → is_sized_row (unwrap_or (if b then Some row else find p rows) []) ≡ true
+    by : (b : Bool) → is_sized_row (unwrap_or (find p rows) []) ≡ true →
+        is_sized_row (unwrap_or (if b then Some row else find p rows) []) ≡ true
     by true later = parts.0
     by false later = later
 
-found_words : (table : Table) (version : ℕ) (blocks : List Column) (number : ℕ) (trips : List Trip) → HasWords table → length blocks ≤ 3000 →
+found_words : (table : Table) (version : ℕ) (blocks : List Column) (number : ℕ) (trips : List Trip) →
+    HasWords table → length blocks ≤ 3000 →
     list_all is_sized_row (numbered (found_row table version blocks) number trips) ≡ true
 found_words table version blocks number [] words few = refl
 found_words table version blocks number (trip ∷ trips) words few =
     let small = block_small 1 blocks number in
-    and_from (is_sized_row (found_row table version blocks number trip)) (list_all is_sized_row (numbered (found_row table version blocks) (number + 1) trips))
+    and_from (is_sized_row (found_row table version blocks number trip))
+    (list_all is_sized_row (numbered (found_row table version blocks) (number + 1) trips))
     (with_uid_words table.columns (place_of (codes "UM_UID") table.columns) (row_of table version trip.fid) (block_of 1 blocks number)
     (omega (arith, small, few)) (find_words (is_row_of table.columns version trip.fid) table.rows words))
     (found_words table version blocks (number + 1) trips words few)
@@ -194,10 +203,12 @@ block_each facts trips short pools few (c ∷ cs) are =
     ((omega (arith, count, few, cheap), omega (arith, count, few)), block_each facts trips short pools few cs are.1)
 
 -- A duty costs its fixed cost and its rate for each second of its spread, which is shorter than 14 days.
-shifts_at : (pieces : List Piece) (list : List ℕ) (ps : List Piece) → All IsDutyShift pieces → pieces_at pieces list ≡ Some ps → AllByRecursion IsDutyShift ps
+shifts_at : (pieces : List Piece) (list : List ℕ) (ps : List Piece) → All IsDutyShift pieces → pieces_at pieces list ≡ Some ps →
+    AllByRecursion IsDutyShift ps
 shifts_at pieces [] ps all e = let none : [] ≡ ps = Some-same [] ps e in subst (AllByRecursion IsDutyShift) none tt
 shifts_at pieces (k ∷ ks) ps all e =
-    let (p, is_p, e1) = and_then-Some (λ (p : Piece). option_and_then (λ (qs : List Piece). Some (p ∷ qs)) (pieces_at pieces ks)) (slice_get pieces k) ps e in
+    let (p, is_p, e1) = and_then-Some (λ (p : Piece). option_and_then (λ (qs : List Piece). Some (p ∷ qs)) (pieces_at pieces ks))
+    (slice_get pieces k) ps e in
     let (qs, is_qs, e2) = and_then-Some (λ (qs : List Piece). Some (p ∷ qs)) (pieces_at pieces ks) ps e1 in
     subst (AllByRecursion IsDutyShift) (Some-same (p ∷ qs) ps e2) (shift-at pieces k p all is_p, shifts_at pieces ks qs all is_qs)
 
@@ -205,17 +216,20 @@ last_shift : (p : Piece) (ps : List Piece) → IsDutyShift p → AllByRecursion 
 last_shift p [] h all = h
 last_shift p (q ∷ qs) h all = last_shift q qs all.0 all.1
 
-begins_close : (d : DutyFacts) (g : Group) (ps : List Piece) (on : ℤ) → NetFits d → IsGroup g → AllByRecursion IsDutyShift ps → begins d g ps ≡ Some on →
+begins_close : (d : DutyFacts) (g : Group) (ps : List Piece) (on : ℤ) → NetFits d → IsGroup g → AllByRecursion IsDutyShift ps →
+    begins d g ps ≡ Some on →
     neg_ℤ (pos 345600) ≤ℤ on
 begins_close d g [] on f m all e = absurd cc
 begins_close d g (p ∷ ps) on f m all e = (on-fits d g p on f m all.0 e).0
 
-ends_close : (d : DutyFacts) (g : Group) (ps : List Piece) (off : ℤ) → NetFits d → IsGroup g → AllByRecursion IsDutyShift ps → ends d g ps ≡ Some off →
+ends_close : (d : DutyFacts) (g : Group) (ps : List Piece) (off : ℤ) → NetFits d → IsGroup g → AllByRecursion IsDutyShift ps →
+    ends d g ps ≡ Some off →
     off ≤ℤ pos 691200
 ends_close d g [] off f m all e = absurd cc
 ends_close d g (p ∷ ps) off f m all e =
     let last : Piece = last_piece p ps in
-    let (way, is_way, e1) = and_then-Some (λ (way : ℕ). Some (last.end.0 +ℤ pos way +ℤ pos g.sign_off)) (way_in d.params last.to g.home) off e in
+    let (way, is_way, e1) =
+    and_then-Some (λ (way : ℕ). Some (last.end.0 +ℤ pos way +ℤ pos g.sign_off)) (way_in d.params last.to g.home) off e in
     let same : last.end.0 +ℤ pos way +ℤ pos g.sign_off ≡ off = Some-same _ off e1 in
     let short = way-short d.params last.to g.home way f.params.ways is_way in
     let shift : IsDutyShift last = last_shift p ps all.0 all.1 in
@@ -233,7 +247,8 @@ module _ (d : DutyFacts) (costs : d.counts ≡ false) (fits : NetFits d) where
   group_at : (class : ℕ) (g : Group) → slice_get d.params.groups class ≡ Some g → IsGroup g
   group_at class g e = at_each IsGroup d.params.groups class g (recursion_from_All IsGroup d.params.groups fits.params.groups) e
 
-  duty_low : (class : ℕ) (list : List ℕ) (duty : Duty) → duty_of d class list ≡ Some duty → duty.group.fixed + duty.group.rate * duty.spread ≤ 20000000000
+  duty_low : (class : ℕ) (list : List ℕ) (duty : Duty) → duty_of d class list ≡ Some duty →
+      duty.group.fixed + duty.group.rate * duty.spread ≤ 20000000000
   duty_low class list duty e =
       let (rising, e1) = given-Some (duty_rises list) _ duty e in
       let (g, is_g, e2) = and_then-Some _ (slice_get d.params.groups class) duty e1 in
@@ -257,7 +272,8 @@ module _ (d : DutyFacts) (costs : d.counts ≡ false) (fits : NetFits d) where
 
   duty_cheap : (class : ℕ) (list : List ℕ) (worth : ℕ) → duty_worth d class list ≡ Some worth → worth ≤ 20000000000
   duty_cheap class list worth e =
-      let (duty, is_duty, e1) = and_then-Some (λ (duty : Duty). given_duty (is_lawful (limits_of duty.group) duty.drives duty.spread) (Some (cost_of d.counts duty)))
+      let (duty, is_duty, e1) =
+      and_then-Some (λ (duty : Duty). given_duty (is_lawful (limits_of duty.group) duty.drives duty.spread) (Some (cost_of d.counts duty)))
       (duty_of d class list) worth e in
       let (lawful, e2) = given-Some (is_lawful (limits_of duty.group) duty.drives duty.spread) (Some (cost_of d.counts duty)) worth e1 in
       let same : cost_of d.counts duty ≡ worth = Some-same (cost_of d.counts duty) worth e2 in
@@ -265,7 +281,8 @@ module _ (d : DutyFacts) (costs : d.counts ≡ false) (fits : NetFits d) where
       let low = duty_low class list duty is_duty in
       omega (arith, same, cost, low)
 
-duty_each : (facts : DayFacts) (blocks : List Column) → NetFits (record { pieces = pieces_of_plan facts blocks; params = facts.params; counts = false }) →
+duty_each : (facts : DayFacts) (blocks : List Column) →
+    NetFits (record { pieces = pieces_of_plan facts blocks; params = facts.params; counts = false }) →
     (cs : List Column) → AreColumns (duties_over facts blocks false) cs → AllByRecursion IsFitColumn cs
 duty_each facts blocks fits [] are = tt
 duty_each facts blocks fits (c ∷ cs) are =
@@ -298,9 +315,9 @@ fid_middle : (trips : List Trip) (o : Option ℕ) → AllByRecursion (λ (trip :
 fid_middle trips None all = tt
 fid_middle trips (Some n) all = fid_at trips n all
 
--- What is asked of a day, of the table of its trips, and of blocks and duties for their tables to be written. Each number of these tables is
--- one of the day (32 bits), one that counts blocks, duties, pieces or legs (few), a moment or a number of seconds (of few days), a cost (of
--- few links, or of one spread), a bound (no greater than the plan's own number or cost), or a field of REC_FRT as it was read.
+-- What is asked of a day, of the table of its trips, and of blocks and duties for their tables to be written. Each number of these tables
+-- is one of the day (32 bits), one that counts blocks, duties, pieces or legs (few), a moment or a number of seconds (of few days), a
+-- cost (of few links, or of one spread), a bound (no greater than the plan's own number or cost), or a field of REC_FRT as it was read.
 pub record IsWritable (facts : DayFacts) (table : Table) (blocks duties : SidePlan) : Type 0 where
   pub numbers : HasNumbers facts
   pub trips : AllByRecursion IsFitTrip facts.trips
@@ -326,7 +343,8 @@ module _ (facts : DayFacts) (table : Table) (blocks duties : SidePlan) (is : IsW
 
   few_blocks : length blocks.columns ≤ 3000
   few_blocks =
-      let count = has_few_columns (blocks_of facts false) (blocks_listed (record { day = facts; counts = false })) blocks.columns is.blocks_are in
+      let count = has_few_columns (blocks_of facts false) (blocks_listed (record { day = facts; counts = false }))
+      blocks.columns is.blocks_are in
       let few = is.few in
       omega (arith, count, few)
 
@@ -364,8 +382,17 @@ module _ (facts : DayFacts) (table : Table) (blocks duties : SidePlan) (is : IsW
 
   fit_piece : (item : ℕ) → IsFitPiece (piece_at pieces item)
   fit_piece item =
-      index_each IsFitPiece pieces item no_piece
-      (((omega arith, omega arith), (omega arith, omega arith)), (omega (arith, ints), omega (arith, ints)), (omega (arith, ints), omega (arith, ints)), omega arith, omega arith, omega arith)
+      index_each IsFitPiece pieces item no_piece (
+        ((omega arith, omega arith), (omega arith, omega arith)),
+        (omega (arith, ints), omega (arith, ints)),
+        (
+          omega (arith, ints),
+          omega (arith, ints),
+        ),
+        omega arith,
+        omega arith,
+        omega arith,
+      )
       (recursion_from_All IsFitPiece pieces is.pieces)
 
   -- REC_UMLAUF
@@ -374,13 +401,23 @@ module _ (facts : DayFacts) (table : Table) (blocks duties : SidePlan) (is : IsW
       let version = is.numbers.version in
       let kind = is.numbers.kind in
       let pool = pool_numbers block.class in
-      let nr = pool.1.1 in let typ = pool.1.0 in let vehicle = pool.2 in
-      (omega (arith, version), (omega (arith, kind), (omega (arith, few), (omega (arith, nr), (omega (arith, typ), (omega (arith, nr), (omega (arith, typ), (omega (arith, vehicle), tt))))))))
+      let nr = pool.1.1 in let typ = pool.1.0 in let vehicle = pool.2 in (
+        omega (arith, version),
+        (
+          omega (arith, kind),
+          (
+            omega
+                (arith, few),
+            (omega (arith, nr), (omega (arith, typ), (omega (arith, nr), (omega (arith, typ), (omega (arith, vehicle), tt))))),
+          ),
+        ),
+      )
 
   blocks_words : HasWords (block_table facts blocks.columns)
   blocks_words =
       number_rows_words (numbered (block_row facts) 1 blocks.columns)
-      (numbered_each AreFieldNumbers IsFitColumn 3000 (block_row facts) block_row_fits 1 blocks.columns (let few = few_blocks in omega (arith, few)) fit_blocks)
+      (numbered_each AreFieldNumbers IsFitColumn 3000 (block_row facts) block_row_fits 1 blocks.columns (let few =
+      few_blocks in omega (arith, few)) fit_blocks)
 
   -- X_UMLAUF
   cost_row_fits : (n : ℕ) (block : Column) → n ≤ 3000 → IsFitColumn block → AreFieldNumbers (cost_row facts n block)
@@ -392,7 +429,8 @@ module _ (facts : DayFacts) (table : Table) (blocks duties : SidePlan) (is : IsW
   costs_words : HasWords (cost_table facts blocks.columns)
   costs_words =
       number_rows_words (numbered (cost_row facts) 1 blocks.columns)
-      (numbered_each AreFieldNumbers IsFitColumn 3000 (cost_row facts) cost_row_fits 1 blocks.columns (let few = few_blocks in omega (arith, few)) fit_blocks)
+      (numbered_each AreFieldNumbers IsFitColumn 3000 (cost_row facts) cost_row_fits 1 blocks.columns (let few =
+      few_blocks in omega (arith, few)) fit_blocks)
 
   -- X_UMLAUF_TEIL
   leg_row_fits : (block n : ℕ) (leg : Leg) → block ≤ 3000 → n ≤ 12003 → IsFitLeg leg → AreMiddle (leg_numbers facts.trips block n leg)
@@ -421,9 +459,11 @@ module _ (facts : DayFacts) (table : Table) (blocks duties : SidePlan) (is : IsW
         ),
       )
 
-  leg_rows_fit : (block : ℕ) (legs : List Leg) → block ≤ 3000 → AreFitLegs 12003 legs → AllByRecursion AreMiddle (leg_rows facts.trips block legs)
+  leg_rows_fit : (block : ℕ) (legs : List Leg) → block ≤ 3000 → AreFitLegs 12003 legs →
+      AllByRecursion AreMiddle (leg_rows facts.trips block legs)
   leg_rows_fit block legs few fit =
-      numbered_each AreMiddle IsFitLeg 12003 (leg_numbers facts.trips block) (λ n leg small fits. leg_row_fits block n leg few small fits) 1 legs
+      numbered_each AreMiddle IsFitLeg 12003 (leg_numbers facts.trips block)
+      (λ n leg small fits. leg_row_fits block n leg few small fits) 1 legs
       (let count = fit.few in omega (arith, count)) fit.fit
 
   legs_each : (cs : List Column) → AllByRecursion IsFitColumn cs → AllByRecursion (AreFitLegs 12003) (map (block_legs facts) cs)
@@ -448,7 +488,8 @@ module _ (facts : DayFacts) (table : Table) (blocks duties : SidePlan) (is : IsW
       let count = legs_count blocks.columns in
       let few = few_blocks in
       signed_rows_words (all_rows (leg_rows facts.trips) 1 legs)
-      (lists_each AreMiddle (AreFitLegs 12003) 3000 (leg_rows facts.trips) leg_rows_fit 1 legs (omega (arith, count, few)) (legs_each blocks.columns fit_blocks))
+      (lists_each AreMiddle (AreFitLegs 12003) 3000 (leg_rows facts.trips) leg_rows_fit 1 legs (omega (arith, count, few))
+      (legs_each blocks.columns fit_blocks))
 
   -- X_DIENST
   on_middle : (class item : ℕ) → IfSome (sign_on facts (group_of facts class) (piece_at pieces item)) IsMiddle
@@ -498,7 +539,8 @@ module _ (facts : DayFacts) (table : Table) (blocks duties : SidePlan) (is : IsW
   duties_words : HasWords (duty_table facts pieces duties.columns)
   duties_words =
       signed_rows_words (numbered (duty_row facts pieces) 1 duties.columns)
-      (numbered_each AreMiddle IsFitColumn 3000 (duty_row facts pieces) duty_row_fits 1 duties.columns (let few = few_duties in omega (arith, few)) fit_duties)
+      (numbered_each AreMiddle IsFitColumn 3000 (duty_row facts pieces) duty_row_fits 1 duties.columns (let few =
+      few_duties in omega (arith, few)) fit_duties)
 
   -- X_DIENST_STUECK
   part_row_fits : (duty n item : ℕ) → duty ≤ 3000 → n ≤ 3000 → AreMiddle (part_row pieces duty n item)
@@ -544,13 +586,15 @@ module _ (facts : DayFacts) (table : Table) (blocks duties : SidePlan) (is : IsW
 
   part_rows_fit : (n : ℕ) (duty : Column) → n ≤ 3000 → IsFitColumn duty → AllByRecursion AreMiddle (part_rows pieces n duty)
   part_rows_fit n duty few fit =
-      numbered_each AreMiddle (λ (item : ℕ). Unit {0}) 3000 (part_row pieces n) (λ m item small any. part_row_fits n m item few small) 1 duty.items
+      numbered_each AreMiddle (λ (item : ℕ). Unit {0}) 3000 (part_row pieces n)
+      (λ m item small any. part_row_fits n m item few small) 1 duty.items
       (let items = fit.1 in omega (arith, items)) (any_each duty.items)
 
   parts_words : HasWords (part_table pieces duties.columns)
   parts_words =
       signed_rows_words (all_rows (part_rows pieces) 1 duties.columns)
-      (lists_each AreMiddle IsFitColumn 3000 (part_rows pieces) part_rows_fit 1 duties.columns (let few = few_duties in omega (arith, few)) fit_duties)
+      (lists_each AreMiddle IsFitColumn 3000 (part_rows pieces) part_rows_fit 1 duties.columns (let few =
+      few_duties in omega (arith, few)) fit_duties)
 
   -- X_SCHRANKE
   bounds_words : HasWords (bound_table blocks.columns duties.columns (four_bounds blocks duties))
@@ -579,23 +623,30 @@ module _ (facts : DayFacts) (table : Table) (blocks duties : SidePlan) (is : IsW
     ),
   )
 
-  seven_plain : (a b c d e f g : Table) → is_plain_table a ≡ true → is_plain_table b ≡ true → is_plain_table c ≡ true → is_plain_table d ≡ true →
+  seven_plain : (a b c d e f g : Table) → is_plain_table a ≡ true → is_plain_table b ≡ true → is_plain_table c ≡ true →
+      is_plain_table d ≡ true →
       is_plain_table e ≡ true → is_plain_table f ≡ true → is_plain_table g ≡ true → are_plain (a ∷ b ∷ c ∷ d ∷ e ∷ f ∷ g ∷ []) ≡ true
   seven_plain a b c d e f g pa pb pc pd pe pf pg = rw (pa, pb, pc, pd, pe, pf, pg) refl
 
   pub plan_plain : are_plain (answer_tables facts table (answer_of facts blocks duties)) ≡ true
   plan_plain =
       let legs : List (List Leg) = map (block_legs facts) blocks.columns in
-      seven_plain (block_table facts blocks.columns) (found_table facts table blocks.columns) (cost_table facts blocks.columns) (leg_table facts legs)
-      (duty_table facts pieces duties.columns) (part_table pieces duties.columns) (bound_table blocks.columns duties.columns (four_bounds blocks duties))
-      (plain_table (codes "REC_UMLAUF") block_columns (numbered (block_row facts) 1 blocks.columns) refl (block_rows_full facts blocks.columns))
+      seven_plain (block_table facts blocks.columns) (found_table facts table blocks.columns) (cost_table facts blocks.columns)
+      (leg_table facts legs)
+      (duty_table facts pieces duties.columns) (part_table pieces duties.columns)
+      (bound_table blocks.columns duties.columns (four_bounds blocks duties))
+      (plain_table (codes "REC_UMLAUF") block_columns (numbered (block_row facts) 1 blocks.columns) refl
+      (block_rows_full facts blocks.columns))
       (found_table_plain facts table blocks.columns is.plain few_blocks is.one)
       (plain_table (codes "X_UMLAUF") cost_columns (numbered (cost_row facts) 1 blocks.columns) refl (cost_rows_full facts blocks.columns))
       (plain_signed (codes "X_UMLAUF_TEIL") leg_columns (all_rows (leg_rows facts.trips) 1 legs) refl
-      (all_full leg_columns (leg_rows facts.trips) (λ n ls. signed_full leg_columns (leg_numbers facts.trips n) (λ k leg. refl) 1 ls) 1 legs))
+      (all_full leg_columns (leg_rows facts.trips)
+      (λ n ls. signed_full leg_columns (leg_numbers facts.trips n) (λ k leg. refl) 1 ls) 1 legs))
       (plain_signed (codes "X_DIENST") duty_columns (numbered (duty_row facts pieces) 1 duties.columns) refl
       (signed_full duty_columns (duty_row facts pieces) (λ n duty. refl) 1 duties.columns))
       (plain_signed (codes "X_DIENST_STUECK") part_columns (all_rows (part_rows pieces) 1 duties.columns) refl
-      (all_full part_columns (part_rows pieces) (λ n duty. signed_full part_columns (part_row pieces n) (λ k item. refl) 1 duty.items) 1 duties.columns))
-      (plain_table (codes "X_SCHRANKE") bound_columns (bound_rows 1 (values_of blocks.columns duties.columns) (four_bounds blocks duties)) refl
+      (all_full part_columns (part_rows pieces) (λ n duty. signed_full part_columns (part_row pieces n) (λ k item. refl) 1 duty.items)
+      1 duties.columns))
+      (plain_table (codes "X_SCHRANKE") bound_columns
+      (bound_rows 1 (values_of blocks.columns duties.columns) (four_bounds blocks duties)) refl
       (bounds_full 1 (values_of blocks.columns duties.columns) (four_bounds blocks duties)))

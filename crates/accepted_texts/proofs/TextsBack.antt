@@ -38,7 +38,8 @@ within_five a b c r e =
 
 table_rows : (table : Table) → length table.rows ≤ length (table_text crlf table)
 table_rows table =
-    let many = within_five (line_text crlf (codes "tbl") (table.name ∷ [])) (line_text crlf (codes "atr") (map (λ column. column.name) table.columns))
+    let many = within_five (line_text crlf (codes "tbl") (table.name ∷ []))
+    (line_text crlf (codes "atr") (map (λ column. column.name) table.columns))
     (line_text crlf (codes "frm") (map (λ column. column.format) table.columns)) (flat_map (row_text crlf) table.rows)
     (line_text crlf (codes "end") (decimal (length table.rows) ∷ [])) in
     omega (arith, many, row_count table.rows)
@@ -75,9 +76,10 @@ text_sized most tables small few words =
     (each_sized most tables small (omega (arith, whole, parts, few)) words)
 
 -- A text is read back to its tables where these are plain and of a size that a text can say: numbers of 64 bits, and fewer than 10^18 rows
--- and tables. The second need not be known of the tables: each row and each table takes a byte, so a text within a limit of bytes is of such
--- a size by its length alone. That matters for a certificate, whose marks have no smaller count.
-pub text_spells : (most : ℕ) (tables : List Table) → most < 10 ^ 18 → length (text tables) ≤ most → are_plain tables ≡ true → HaveWords tables →
+-- and tables. The second need not be known of the tables: each row and each table takes a byte, so a text within a limit of bytes is of
+-- such a size by its length alone. That matters for a certificate, whose marks have no smaller count.
+pub text_spells : (most : ℕ) (tables : List Table) → most < 10 ^ 18 → length (text tables) ≤ most →
+    are_plain tables ≡ true → HaveWords tables →
     Gives most (text tables) tables
 text_spells most tables small few plain words = (few, text_back tables plain (text_sized most tables small few words))
 
@@ -85,9 +87,10 @@ text_spells most tables small few plain words = (few, text_back tables plain (te
 pub spelled_once : (lines : List (List ℕ)) (tables others : List Table) → Spells lines tables → Spells lines others → tables ≡ others
 spelled_once lines tables others a b = let p = spells_run lines tables a in let q = spells_run lines others b in cc (p, q)
 
--- And it spells no others: lines spell at most one list of tables. So where the bytes of a written text are read as a file, what is read are
--- the tables that were written.
-pub text_is : (most : ℕ) (tables others : List Table) → most < 10 ^ 18 → are_plain tables ≡ true → HaveWords tables → Gives most (text tables) others →
+-- And it spells no others: lines spell at most one list of tables. So where the bytes of a written text are read as a file, what is read
+-- are the tables that were written.
+pub text_is : (most : ℕ) (tables others : List Table) → most < 10 ^ 18 → are_plain tables ≡ true → HaveWords tables →
+    Gives most (text tables) others →
     others ≡ tables
 text_is most tables others small plain words given =
     spelled_once (lines_of (text tables)) others tables given.1 (text_spells most tables small given.0 plain words).1

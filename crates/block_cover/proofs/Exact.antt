@@ -16,7 +16,8 @@ both-equal Greater p e = absurd (cc)
 
 pub order-apart : TellsMarksApart mark_order
 order-apart a b e =
-    let (class, rest) = both-equal (nat_cmp a.class b.class) (ordering_then (nat_cmp a.trip b.trip) (ordering_then (nat_cmp a.driving b.driving) (int_cmp a.value b.value))) e in
+    let (class, rest) = both-equal (nat_cmp a.class b.class)
+    (ordering_then (nat_cmp a.trip b.trip) (ordering_then (nat_cmp a.driving b.driving) (int_cmp a.value b.value))) e in
     let (trip, last) = both-equal (nat_cmp a.trip b.trip) (ordering_then (nat_cmp a.driving b.driving) (int_cmp a.value b.value)) rest in
     let (driving, value) = both-equal (nat_cmp a.driving b.driving) (int_cmp a.value b.value) last in
     ap (λ c. mark c a.trip a.driving a.value) (exact_unsigned a.class b.class class) ∙

@@ -22,17 +22,22 @@ both-given true false o e h = absurd (cc)
 both-given false b o e h = absurd (cc)
 
 pub extended-with : (day : DayFacts) (counts : Bool) (prices : List Price) (m : BlockMark) (k : ℕ) (pool : Pool) (next : Trip) (l : Link) →
-    slice_get day.params.pools m.class ≡ Some pool → slice_get day.trips k ≡ Some next → m.trip < k → admits_at day m.class k ≡ true → link_at day m.class m.trip k ≡ Some l →
+    slice_get day.params.pools m.class ≡ Some pool → slice_get day.trips k ≡ Some next → m.trip < k → admits_at day m.class k ≡ true →
+    link_at day m.class m.trip k ≡ Some l →
     extended_mark day counts prices m k ≡ extended_over day counts prices pool m k next l
 extended-with day counts prices m k pool next l there next_is later admitted linked =
-    let P : Option Pool → Type 0 = λ o. option_and_then (λ (p : Pool). with_trip day m.trip (λ t. with_trip day k (λ u. link day p t u))) o ≡ Some l in
+    let P : Option Pool → Type 0 =
+    λ o. option_and_then (λ (p : Pool). with_trip day m.trip (λ t. with_trip day k (λ u. link day p t u))) o ≡ Some l in
     let linked_by : with_trip day m.trip (λ t. with_trip day k (λ u. link day pool t u)) ≡ Some l = subst P there linked in
-    let (trip, trip_is, to_next) = and_then_some (λ (t : Trip). with_trip day k (λ u. link day pool t u)) (slice_get day.trips m.trip) l linked_by in
+    let (trip, trip_is, to_next) =
+    and_then_some (λ (t : Trip). with_trip day k (λ u. link day pool t u)) (slice_get day.trips m.trip) l linked_by in
     let Q : Option Trip → Type 0 = λ o. option_and_then (λ (u : Trip). link day pool trip u) o ≡ Some l in
     let over : link day pool trip next ≡ Some l = subst Q next_is to_next in
-    let R : Option Pool → Type 0 = λ o. is_some (option_and_then (λ (p : Pool). with_trip day k (λ u. given (admits day u.line p.typ) (Some u))) o) ≡ true in
+    let R : Option Pool → Type 0 =
+    λ o. is_some (option_and_then (λ (p : Pool). with_trip day k (λ u. given (admits day u.line p.typ) (Some u))) o) ≡ true in
     let S : Option Trip → Type 0 = λ o. is_some (option_and_then (λ (u : Trip). given (admits day u.line pool.typ) (Some u)) o) ≡ true in
-    let allowed : admits day next.line pool.typ ≡ true = some-given (admits day next.line pool.typ) next (subst S next_is (subst R there admitted)) in
+    let allowed : admits day next.line pool.typ ≡ true =
+    some-given (admits day next.line pool.typ) next (subst S next_is (subst R there admitted)) in
     let up : nat_lt m.trip k ≡ true = grind (arith, nat_tests) in
     ap (option_and_then (λ (p : Pool). with_trip day m.trip (λ t. with_trip day k (λ u. given (nat_lt m.trip k && admits day u.line p.typ)
     (option_and_then (extended_over day counts prices p m k u) (link day p t u)))))) there ∙
@@ -40,5 +45,6 @@ extended-with day counts prices m k pool next l there next_is later admitted lin
     (option_and_then (extended_over day counts prices pool m k u) (link day pool t u))))) trip_is ∙
     (ap (option_and_then (λ (u : Trip). given (nat_lt m.trip k && admits day u.line pool.typ)
     (option_and_then (extended_over day counts prices pool m k u) (link day pool trip u)))) next_is ∙
-    (both-given (nat_lt m.trip k) (admits day next.line pool.typ) (option_and_then (extended_over day counts prices pool m k next) (link day pool trip next)) up allowed ∙
+    (both-given (nat_lt m.trip k) (admits day next.line pool.typ)
+    (option_and_then (extended_over day counts prices pool m k next) (link day pool trip next)) up allowed ∙
     ap (option_and_then (extended_over day counts prices pool m k next)) over)))

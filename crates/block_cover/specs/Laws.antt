@@ -65,7 +65,8 @@ ranged-at (p ∷ ps) (suc class) pool e ranges = ranged-at ps class pool e (All-
 
 -- The law of worths. A list of trips has an open block exactly where it has a mark of the class, so the tie of open blocks to the worths
 -- of blocks is the tie of marks.
-class-tied : (day : DayFacts) (counts : Bool) (prices : List Price) (class : ℕ) (pool : Pool) → slice_get day.params.pools class ≡ Some pool →
+class-tied : (day : DayFacts) (counts : Bool) (prices : List Price) (class : ℕ) (pool : Pool) →
+    slice_get day.params.pools class ≡ Some pool →
     IsTied (of_class (block_marking day counts prices) class) (closed_value day counts) prices (block_worth day counts class)
 class-tied day counts prices class pool there =
     let tied = opening_tied day counts prices pool class there in
@@ -77,21 +78,27 @@ class-tied day counts prices class pool there =
             close-same day counts prices pool (as_mark class a) there ∙ closed,
           );
       from = λ list b v e closed.
-          let (a, is, same) = map_some (as_mark class) (label_of (opening day counts prices pool) list) b (sym (list-same day counts prices pool class list there) ∙ e) in
+          let (a, is, same) = map_some (as_mark class) (label_of (opening day counts prices pool) list) b
+          (sym (list-same day counts prices pool class list there) ∙ e) in
           let P : BlockMark → Type 0 = λ m. closed_value day counts m ≡ Some v in
           tied.from list a v is (sym (close-same day counts prices pool (as_mark class a) there) ∙ subst P (sym same) closed);
     }
 
-pub marks-tied : (day : DayFacts) (counts : Bool) (prices : List Price) → AreMarksOf (block_marking day counts prices) (blocks_of day counts) prices
+pub marks-tied : (day : DayFacts) (counts : Bool) (prices : List Price) →
+    AreMarksOf (block_marking day counts prices) (blocks_of day counts) prices
 marks-tied day counts prices = record {
   classes = caps-count day.params.pools;
   tied = λ class below. let (pool, there) = pool-at day.params.pools class below in class-tied day counts prices class pool there;
 }
 
 -- where a mark closes, its class has a pool
-closed-pool : (day : DayFacts) (counts : Bool) (m : BlockMark) (v : ℤ) → closed_value day counts m ≡ Some v → (pool : Pool) × (slice_get day.params.pools m.class ≡ Some pool)
+closed-pool : (day : DayFacts) (counts : Bool) (m : BlockMark) (v : ℤ) → closed_value day counts m ≡ Some v →
+    (pool : Pool) × (slice_get day.params.pools m.class ≡ Some pool)
 closed-pool day counts m v e =
-    let pools = and_then_some (λ (pool : Pool). with_trip day m.trip (λ t. option_and_then (λ inward. given (nat_le (m.driving + inward) longest_driving) (Some (m.value +ℤ scaled counts (pool.dead_rate * inward)))) (pull_in day pool t))) (slice_get day.params.pools m.class) v e in
+    let pools = and_then_some
+    (λ (pool : Pool). with_trip day m.trip
+    (λ t. option_and_then (λ inward. given (nat_le (m.driving + inward) longest_driving)
+    (Some (m.value +ℤ scaled counts (pool.dead_rate * inward)))) (pull_in day pool t))) (slice_get day.params.pools m.class) v e in
     (pools.0, pools.1)
 
 open-good : (a b : BlockMark) → IsBetter a b → open_is_as_good (as_open a) (as_open b) ≡ true
@@ -106,8 +113,12 @@ marks-valued day counts prices = λ class. record {
       let x = extension-parts day counts prices a a' k ea in
       let P : ℕ → Type 0 = λ c. slice_get day.params.pools c ≡ Some x.pool in
       let there = subst P better.class x.pool_is in
-      let (oa, is_a, same_a) = map_some (as_mark a.class) (extended_open day counts prices x.pool (as_open a) k) a' (sym (next-same day counts prices x.pool a k x.pool_is) ∙ ea) in
-      let (ob, is_b, same_b) = map_some (as_mark b.class) (extended_open day counts prices x.pool (as_open b) k) b' (sym (next-same day counts prices x.pool b k there) ∙ eb) in
+      let (oa, is_a, same_a) =
+      map_some (as_mark a.class) (extended_open day counts prices x.pool (as_open a) k) a'
+      (sym (next-same day counts prices x.pool a k x.pool_is) ∙ ea) in
+      let (ob, is_b, same_b) =
+      map_some (as_mark b.class) (extended_open day counts prices x.pool (as_open b) k) b'
+      (sym (next-same day counts prices x.pool b k there) ∙ eb) in
       let below = (opening_valued day counts prices x.pool).apart (as_open a) (as_open b) oa ob k (open-good a b better) less is_a is_b in
       let value : BlockMark → ℤ = λ m. m.value in
       let va : oa.value ≡ a'.value = ap value same_a in
@@ -118,7 +129,9 @@ marks-valued day counts prices = λ class. record {
       let (pool, there) = closed-pool day counts b v e in
       let P : ℕ → Type 0 = λ c. slice_get day.params.pools c ≡ Some pool in
       let there_a = subst P (sym better.class) there in
-      let (u, is, low, strict) = (opening_valued day counts prices pool).closes (as_open a) (as_open b) v (open-good a b better) (sym (close-same day counts prices pool b there) ∙ e) in
+      let (u, is, low, strict) =
+      (opening_valued day counts prices pool).closes (as_open a) (as_open b) v (open-good a b better)
+      (sym (close-same day counts prices pool b there) ∙ e) in
       (u, close-same day counts prices pool a there_a ∙ is, low, strict);
 }
 
@@ -127,7 +140,8 @@ scaled-few : (counts : Bool) (n most : ℕ) → n ≤ most → (pos 0 ≤ℤ sca
 scaled-few true n most few = (omega (arith, ints), omega (arith, ints))
 scaled-few false n most few = (omega (arith, ints), omega (arith, ints))
 
-first-few : (counts : Bool) (n most : ℕ) → n ≤ most → 1 ≤ most → (pos 0 ≤ℤ first_scaled counts n) × (first_scaled counts n ≤ℤ pos (1000 * most))
+first-few : (counts : Bool) (n most : ℕ) → n ≤ most → 1 ≤ most →
+    (pos 0 ≤ℤ first_scaled counts n) × (first_scaled counts n ≤ℤ pos (1000 * most))
 first-few true n most few some = (omega (arith, ints), omega (arith, ints))
 first-few false n most few some = (omega (arith, ints), omega (arith, ints))
 
@@ -138,8 +152,10 @@ kept-few m b e =
     let P : BlockMark → Type 0 = λ x. x.driving ≤ longest_driving in
     subst P (some_same m b is) (grind (arith, nat_tests))
 
-driven-few : (cut : Bool) (first second class k : ℕ) (value : ℤ) (b : BlockMark) → driven_on cut first second class value k ≡ Some b → b.driving ≤ longest_driving
-driven-few true first second class k value b e = kept-few (mark class k second value) b (given_both (nat_le first longest_driving) (kept (mark class k second value)) b e).1
+driven-few : (cut : Bool) (first second class k : ℕ) (value : ℤ) (b : BlockMark) → driven_on cut first second class value k ≡ Some b →
+    b.driving ≤ longest_driving
+driven-few true first second class k value b e =
+    kept-few (mark class k second value) b (given_both (nat_le first longest_driving) (kept (mark class k second value)) b e).1
 driven-few false first second class k value b e = kept-few (mark class k (first + second) value) b e
 
 -- where the mark of a first trip comes from
@@ -148,32 +164,48 @@ record IsBegun (day : DayFacts) (counts : Bool) (prices : List Price) (class k :
   pub pool_is : slice_get day.params.pools class ≡ Some pool
   pub driving : b.driving ≤ longest_driving
 
-begun-parts : (day : DayFacts) (counts : Bool) (prices : List Price) (class k : ℕ) (b : BlockMark) → first_mark day counts prices class k ≡ Some b → IsBegun day counts prices class k b
+begun-parts : (day : DayFacts) (counts : Bool) (prices : List Price) (class k : ℕ) (b : BlockMark) →
+    first_mark day counts prices class k ≡ Some b → IsBegun day counts prices class k b
 begun-parts day counts prices class k b e =
     let pools = and_then_some (λ (pool : Pool). with_trip day k (λ t. given (admits day t.line pool.typ) (option_and_then (λ out.
-    kept (mark class k (out + trip_seconds t) (cond counts (pos 1000) (pos (1000 * (pool.fixed + pool.dead_rate * out))) -ℤ price_at prices k))) (pull_out day pool t)))) (slice_get day.params.pools class) b e in
+    kept (mark class k (out + trip_seconds t)
+    (cond counts (pos 1000) (pos (1000 * (pool.fixed + pool.dead_rate * out))) -ℤ price_at prices k))) (pull_out day pool t))))
+    (slice_get day.params.pools class) b e in
     let pool = pools.0 in
     let trips = and_then_some (λ (t : Trip). given (admits day t.line pool.typ) (option_and_then (λ out.
-    kept (mark class k (out + trip_seconds t) (cond counts (pos 1000) (pos (1000 * (pool.fixed + pool.dead_rate * out))) -ℤ price_at prices k))) (pull_out day pool t))) (slice_get day.trips k) b pools.2 in
+    kept (mark class k (out + trip_seconds t)
+    (cond counts (pos 1000) (pos (1000 * (pool.fixed + pool.dead_rate * out))) -ℤ price_at prices k))) (pull_out day pool t)))
+    (slice_get day.trips k) b pools.2 in
     let t = trips.0 in
     let tested = given_both (admits day t.line pool.typ) (option_and_then (λ out.
-    kept (mark class k (out + trip_seconds t) (cond counts (pos 1000) (pos (1000 * (pool.fixed + pool.dead_rate * out))) -ℤ price_at prices k))) (pull_out day pool t)) b trips.2 in
-    let outs = and_then_some (λ out. kept (mark class k (out + trip_seconds t) (cond counts (pos 1000) (pos (1000 * (pool.fixed + pool.dead_rate * out))) -ℤ price_at prices k))) (pull_out day pool t) b tested.1 in
+    kept (mark class k (out + trip_seconds t)
+    (cond counts (pos 1000) (pos (1000 * (pool.fixed + pool.dead_rate * out))) -ℤ price_at prices k))) (pull_out day pool t)) b trips.2 in
+    let outs = and_then_some
+    (λ out. kept (mark class k (out + trip_seconds t)
+    (cond counts (pos 1000) (pos (1000 * (pool.fixed + pool.dead_rate * out))) -ℤ price_at prices k))) (pull_out day pool t) b tested.1 in
     let out = outs.0 in
-    record { pool = pool; pool_is = pools.1; driving = kept-few (mark class k (out + trip_seconds t) (cond counts (pos 1000) (pos (1000 * (pool.fixed + pool.dead_rate * out))) -ℤ price_at prices k)) b outs.2 }
+    record {
+      pool = pool;
+      pool_is = pools.1;
+      driving = kept-few (mark class k (out + trip_seconds t)
+          (cond counts (pos 1000) (pos (1000 * (pool.fixed + pool.dead_rate * out))) -ℤ price_at prices k)) b outs.2;
+    }
 
 -- The law of numbers: each trip moves a value by its price and by what it adds to the costs, and lists rise.
-pub marks-safe : (day : DayFacts) (counts : Bool) (prices : List Price) → All IsDaily day.trips → All IsPool day.params.pools → AllWithin 3000000000000000 prices →
+pub marks-safe : (day : DayFacts) (counts : Bool) (prices : List Price) → All IsDaily day.trips → All IsPool day.params.pools →
+    AllWithin 3000000000000000 prices →
     AreSafe (block_marking day counts prices) (MarkFits (length day.trips))
 marks-safe day counts prices daily ranges moderate = record {
   starts = λ class k b e.
       let x = begun-parts day counts prices class k b e in
       let place = (blocks-placed day counts prices).starts class k b e in
-      let (oa, is, same) = map_some (as_mark class) (first_open day counts prices x.pool k) b (sym (first-same day counts prices x.pool class k x.pool_is) ∙ e) in
+      let (oa, is, same) = map_some (as_mark class) (first_open day counts prices x.pool k) b
+      (sym (first-same day counts prices x.pool class k x.pool_is) ∙ e) in
       let (step, is_step, same_open) = map_some (begun_open counts prices k) (first_step day x.pool k) oa is in
       let (cost, driving) = joined_parts (begun day x.pool k) (first_driving day x.pool k) step is_step in
       let pool_in = ranged-at day.params.pools class x.pool x.pool_is ranges in
-      let (low, high) = first-few counts step.cost 1828000000 (begun_few day counts prices x.pool k step.cost pool_in daily cost) (omega arith) in
+      let (low, high) = first-few counts step.cost 1828000000 (begun_few day counts prices x.pool k step.cost pool_in daily cost)
+      (omega arith) in
       let price = price_at-within 3000000000000000 prices k moderate in
       let p_low = price.low in
       let p_high = price.high in
@@ -191,7 +223,8 @@ marks-safe day counts prices daily ranges moderate = record {
   steps = λ a b k fit e.
       let x = extension-parts day counts prices a b k e in
       let place = (blocks-placed day counts prices).steps a b k e in
-      let (oa, is, same) = map_some (as_mark a.class) (extended_open day counts prices x.pool (as_open a) k) b (sym (next-same day counts prices x.pool a k x.pool_is) ∙ e) in
+      let (oa, is, same) = map_some (as_mark a.class) (extended_open day counts prices x.pool (as_open a) k) b
+      (sym (next-same day counts prices x.pool a k x.pool_is) ∙ e) in
       let (step, is_step, same_open) = map_some (next_open counts prices (as_open a) k) (next_step day x.pool a.driving a.trip k) oa is in
       let (cost, driving) = joined_parts (added day x.pool a.trip k) (next_driving day x.pool a.driving a.trip k) step is_step in
       let pool_in = ranged-at day.params.pools a.class x.pool x.pool_is ranges in

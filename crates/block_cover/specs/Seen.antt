@@ -17,7 +17,8 @@ seen_mark made = mark made.class made.trip made.driving made.value
 
 -- marks by their fields: class, trip, driving, value
 abbrev pub mark_order : BlockMark → BlockMark → Ordering
-mark_order a b = ordering_then (nat_cmp a.class b.class) (ordering_then (nat_cmp a.trip b.trip) (ordering_then (nat_cmp a.driving b.driving) (int_cmp a.value b.value)))
+mark_order a b = ordering_then (nat_cmp a.class b.class)
+    (ordering_then (nat_cmp a.trip b.trip) (ordering_then (nat_cmp a.driving b.driving) (int_cmp a.value b.value)))
 
 -- The trip is one of so many, the driving keeps the limit, and the value is at most 3,002,000,000,000,000 for each trip so far, above or
 -- below 0: a price is at most 3,000,000,000,000,000, and a trip adds less than 2,000,000,000,000 to the costs.

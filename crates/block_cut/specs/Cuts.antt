@@ -24,7 +24,8 @@ pieces_by_block day number (column ∷ columns) = block_pieces day number column
 abbrev pub moment : Piece → ℕ
 moment piece = unsigned_abs piece.begin.0
 
--- The pieces of the blocks of a plan, where blocks are numbered from 1: by begin, of those that begin at one moment by block, and of those by index.
+-- The pieces of the blocks of a plan, where blocks are numbered from 1: by begin, of those that begin at one moment by block, and of
+-- those by index.
 abbrev pub pieces_of_plan : DayFacts → List Column → List Piece
 pieces_of_plan day columns = in_order moment (pieces_by_block day 1 columns)
 
@@ -46,12 +47,30 @@ pub record IsShift (p : Piece) : Type 0 where
 -- a piece of one leg
 abbrev pub begun : ℕ → ℕ → Leg → Piece
 begun block index l =
-    record { block = block; index = index; from = l.from; begin = l.begin; to = l.to; end = l.end; driving = cond (is_stand l.kind) 0 (duration l) }
+    record {
+      block = block;
+      index = index;
+      from = l.from;
+      begin = l.begin;
+      to = l.to;
+      end = l.end;
+      driving =
+          cond (is_stand l.kind) 0 (duration l);
+    }
 
 -- a piece with one leg more
 abbrev pub continued : Piece → Leg → Piece
 continued p l =
-    record { block = p.block; index = p.index; from = p.from; begin = p.begin; to = l.to; end = l.end; driving = p.driving + cond (is_stand l.kind) 0 (duration l) }
+    record {
+      block = p.block;
+      index = p.index;
+      from = p.from;
+      begin = p.begin;
+      to = l.to;
+      end = l.end;
+      driving =
+          p.driving + cond (is_stand l.kind) 0 (duration l);
+    }
 
 -- the piece that is begun, with one leg more
 abbrev pub grown : ℕ → ℕ → Option Piece → Leg → Piece
@@ -72,7 +91,8 @@ next_index index (Some p) = index + 1
 abbrev pub cut_on : DayFacts → Pool → ℕ → ℕ → Option Piece → List Leg → List Piece
 cut_on day pool block index held [] = ended held
 cut_on day pool block index held (l ∷ ls) =
-    cond (is_cut day pool l) (ended held ++ cut_on day pool block (next_index index held) None ls) (cut_on day pool block index (Some (grown block index held l)) ls)
+    cond (is_cut day pool l) (ended held ++ cut_on day pool block (next_index index held) None ls)
+    (cut_on day pool block index (Some (grown block index held l)) ls)
 
 -- how many legs are stands
 abbrev pub stands : List Leg → ℕ

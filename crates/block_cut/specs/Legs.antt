@@ -28,12 +28,15 @@ legs_at day pool t rest = with_trip day t (λ trip. legs_from day pool t trip re
 -- a trip, and what the vehicle does until the next one begins
 abbrev pub until_next : DayFacts → Pool → ℕ → ℕ → Option (List Leg)
 until_next day pool t u =
-    with_trip day t (λ trip. with_trip day u (λ next. option_and_then (λ l. Some (trip_leg t trip ∷ link_legs pool trip next l)) (link day pool trip next)))
+    with_trip day t (λ trip. with_trip day u
+    (λ next. option_and_then (λ l. Some (trip_leg t trip ∷ link_legs pool trip next l)) (link day pool trip next)))
 
 -- a last trip and the pull-in
 abbrev pub until_end : DayFacts → Pool → ℕ → Option (List Leg)
 until_end day pool t =
-    with_trip day t (λ trip. option_and_then (λ inward. Some (trip_leg t trip ∷ leg PullIn None trip.to trip.end.0 pool.depot (trip.end.0 +ℤ pos inward) ∷ [])) (pull_in day pool trip))
+    with_trip day t (λ trip. option_and_then
+    (λ inward. Some (trip_leg t trip ∷ leg PullIn None trip.to trip.end.0 pool.depot (trip.end.0 +ℤ pos inward) ∷ []))
+    (pull_in day pool trip))
 
 -- when a trip begins
 abbrev begin_or : Option TheTrip → ℤ

@@ -43,7 +43,8 @@ kept-times day moment i t (u ∷ us) =
 
 module _ (day : DayFacts) (moment i : ℕ) where
   -- a block has a head at its first trip alone
-  head-none : (first class : ℕ) (list : List ℕ) → ((t : ℕ) (ts : List ℕ) → list ≡ t ∷ ts → t ≢ first) → head_at day moment first class list ≡ []
+  head-none : (first class : ℕ) (list : List ℕ) → ((t : ℕ) (ts : List ℕ) → list ≡ t ∷ ts → t ≢ first) →
+      head_at day moment first class list ≡ []
   head-none first class [] other = refl
   head-none first class (t ∷ ts) other =
       let no : t ≢ first = other t ts refl in
@@ -55,11 +56,14 @@ module _ (day : DayFacts) (moment i : ℕ) where
   head-times first class (t ∷ ts) =
       let kept = kept-times day moment i t ts in
       let none = times-append i (t ∷ kept_after day moment t ts) [] in
-      elim (t == first) as (λ b. held_times i (cond b (cond (leaves_before day moment class t) (head_from day moment class t (kept_after day moment t ts) ∷ []) []) []) ≤ times i (t ∷ ts)) [
-        | true ↦ elim (leaves_before day moment class t) as (λ b. held_times i (cond b (head_from day moment class t (kept_after day moment t ts) ∷ []) []) ≤ times i (t ∷ ts)) [
-          | true ↦ omega (arith, kept, none)
-          | false ↦ omega arith
-        ]
+      elim (t == first) as (λ b.
+      held_times i (cond b (cond (leaves_before day moment class t) (head_from day moment class t (kept_after day moment t ts) ∷ []) []) [])
+      ≤ times i (t ∷ ts)) [
+        | true ↦ elim (leaves_before day moment class t) as
+            (λ b. held_times i (cond b (head_from day moment class t (kept_after day moment t ts) ∷ []) []) ≤ times i (t ∷ ts)) [
+              | true ↦ omega (arith, kept, none)
+              | false ↦ omega arith
+            ]
         | false ↦ omega arith
       ]
 
@@ -97,7 +101,8 @@ module _ (day : DayFacts) (moment i : ℕ) where
 
   -- a block more
   block-more : (c : Column) (cs : List Column) (n first : ℕ) →
-      held_times i (heads_from day moment (c ∷ cs) n first) ≡ times_from c.class n first c.items + held_times i (heads_from day moment cs n first)
+      held_times i (heads_from day moment (c ∷ cs) n first) ≡ times_from c.class n first c.items
+      + held_times i (heads_from day moment cs n first)
   block-more c cs zero first = refl
   block-more c cs (suc n) first =
       let rest = block-more c cs n (suc first) in
@@ -134,7 +139,8 @@ times-below n i (x ∷ xs) below past =
     let test : (i == x) ≡ false = grind (arith, nat_tests) in
     rw test (omega (arith, rest))
 
-pub days-below : (day : DayFacts) (blocks : List Column) (i : ℕ) → AreOfDay day blocks → length day.trips ≤ i → times i (all_items blocks) ≡ 0
+pub days-below : (day : DayFacts) (blocks : List Column) (i : ℕ) → AreOfDay day blocks → length day.trips ≤ i →
+    times i (all_items blocks) ≡ 0
 days-below day [] i are past = refl
 days-below day (c ∷ cs) i are past =
     let both = times-append i c.items (all_items cs) in
@@ -149,21 +155,28 @@ some-append (g ∷ gs) hs a b = (a.0, some-append gs hs a.1 b)
 head-some : (day : DayFacts) (moment first class : ℕ) (list : List ℕ) → NoneEmpty (begun_of (head_at day moment first class list))
 head-some day moment first class [] = tt
 head-some day moment first class (t ∷ ts) =
-    elim (t == first) as (λ b. NoneEmpty (begun_of (cond b (cond (leaves_before day moment class t) (head_from day moment class t (kept_after day moment t ts) ∷ []) []) []))) [
-      | true ↦ elim (leaves_before day moment class t) as (λ b. NoneEmpty (begun_of (cond b (head_from day moment class t (kept_after day moment t ts) ∷ []) []))) [
-        | true ↦ ((λ e. cc), tt)
-        | false ↦ tt
-      ]
+    elim (t == first) as (λ b.
+    NoneEmpty (begun_of (cond b
+    (cond (leaves_before day moment class t) (head_from day moment class t (kept_after day moment t ts) ∷ []) []) []))) [
+      | true ↦ elim (leaves_before day moment class t) as
+          (λ b. NoneEmpty (begun_of (cond b (head_from day moment class t (kept_after day moment t ts) ∷ []) []))) [
+            | true ↦ ((λ e. cc), tt)
+            | false ↦ tt
+          ]
       | false ↦ tt
     ]
 
 at-some : (day : DayFacts) (moment : ℕ) (blocks : List Column) (first : ℕ) → NoneEmpty (begun_of (heads_at day moment blocks first))
 at-some day moment [] first = tt
-at-some day moment (c ∷ cs) first = some-append (head_at day moment first c.class c.items) (heads_at day moment cs first) (head-some day moment first c.class c.items) (at-some day moment cs first)
+at-some day moment (c ∷ cs) first =
+    some-append (head_at day moment first c.class c.items) (heads_at day moment cs first) (head-some day moment first c.class c.items)
+    (at-some day moment cs first)
 
 from-some : (day : DayFacts) (moment : ℕ) (blocks : List Column) (n first : ℕ) → NoneEmpty (begun_of (heads_from day moment blocks n first))
 from-some day moment blocks zero first = tt
-from-some day moment blocks (suc n) first = some-append (heads_at day moment blocks first) (heads_from day moment blocks n (suc first)) (at-some day moment blocks first) (from-some day moment blocks n (suc first))
+from-some day moment blocks (suc n) first =
+    some-append (heads_at day moment blocks first) (heads_from day moment blocks n (suc first)) (at-some day moment blocks first)
+    (from-some day moment blocks n (suc first))
 
 pub heads-are : HeadsAreHeads
 heads-are day counts moment blocks are each =

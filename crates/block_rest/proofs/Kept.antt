@@ -16,7 +16,8 @@ pub kept-step : (day : DayFacts) (moment t : ℕ) (rest : List ℕ) (i : ℕ) �
     kept_after day moment t (drop i rest) ≡ slice_index_or rest i 0 ∷ kept_after day moment (slice_index_or rest i 0) (drop (i + 1) rest)
 kept-step day moment t rest i within is =
     let u : ℕ = slice_index_or rest i 0 in
-    ap (kept_after day moment t) (drop_more rest i 0 within) ∙ ap (λ b. cond b (u ∷ kept_after day moment u (drop (i + 1) rest)) []) (sym is)
+    ap (kept_after day moment t) (drop_more rest i 0 within)
+    ∙ ap (λ b. cond b (u ∷ kept_after day moment u (drop (i + 1) rest)) []) (sym is)
 
 pub put-last : (xs ys : List ℕ) (u : ℕ) → (xs ++ u ∷ []) ++ ys ≡ xs ++ u ∷ ys
 put-last [] ys u = refl
@@ -29,7 +30,8 @@ no-more (x ∷ xs) = ap (λ l. x ∷ l) (no-more xs)
 pub of-day-at : (day : DayFacts) (cs : List Column) (i : ℕ) (c : Column) → AreOfDay day cs → i < length cs → c ≡ slice_index_or cs i c →
     (c.class < length day.params.pools) × AllBelow (length day.trips) c.items
 of-day-at day [] i c are h is = absurd (omega arith)
-of-day-at day (d ∷ ds) zero c are h is = let P : Column → Type 0 = λ c. (c.class < length day.params.pools) × AllBelow (length day.trips) c.items in subst P (sym is) are.0
+of-day-at day (d ∷ ds) zero c are h is =
+    let P : Column → Type 0 = λ c. (c.class < length day.params.pools) × AllBelow (length day.trips) c.items in subst P (sym is) are.0
 of-day-at day (d ∷ ds) (suc i) c are h is = of-day-at day ds i c are.1 (omega (arith, h)) is
 
 -- the heads of blocks that begin with one trip more

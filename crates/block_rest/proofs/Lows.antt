@@ -39,7 +39,8 @@ safe-after {L = L} w sound safe (Some a) (x ∷ xs) b h e = safe-after w sound s
     each None is = tt
     each (Some c) is = safe.steps a c x h is
 
-pub safe-of : {L : Type 0} (w : Labelling L) (sound : L → Type 0) → IsSafe w sound → (xs : List ℕ) (b : L) → label_of w xs ≡ Some b → sound b
+pub safe-of : {L : Type 0} (w : Labelling L) (sound : L → Type 0) → IsSafe w sound → (xs : List ℕ) (b : L) →
+    label_of w xs ≡ Some b → sound b
 safe-of w sound safe [] b e = absurd (cc)
 safe-of {L = L} w sound safe (x ∷ xs) b e = safe-after w sound safe (w.start x) xs b (each (w.start x) refl) e
   where
@@ -64,7 +65,8 @@ module _ (day : DayFacts) (counts : Bool) (pool : Pool) where
 
   cost_few : (u : Trip) (l : Link) → IsPool pool → link_cost pool u l ≤ 10000 * seconds_of l
   cost_few u (Direct move stand) ranges =
-      let still : cond (point_eq u.from pool.depot) 0 stand ≤ stand = elim (point_eq u.from pool.depot) as (λ t. cond t 0 stand ≤ stand) [ true ↦ omega arith | false ↦ omega arith ] in
+      let still : cond (point_eq u.from pool.depot) 0 stand ≤ stand =
+      elim (point_eq u.from pool.depot) as (λ t. cond t 0 stand ≤ stand) [ true ↦ omega arith | false ↦ omega arith ] in
       let moves = mul-le-mul ranges.dead_rate (same_le move) in
       let stands = mul-le-mul ranges.stand_rate still in
       omega (arith, moves, stands)
@@ -73,16 +75,27 @@ module _ (day : DayFacts) (counts : Bool) (pool : Pool) where
       omega (arith, moves)
 
   scaled_few : (n : ℕ) → (pos 0 ≤ℤ scaled counts n) × (scaled counts n ≤ℤ pos (1000 * n))
-  scaled_few n = elim counts as (λ z. (pos 0 ≤ℤ scaled z n) × (scaled z n ≤ℤ pos (1000 * n))) [ true ↦ (omega (arith, ints), omega (arith, ints)) | false ↦ (omega (arith, ints), omega (arith, ints)) ]
+  scaled_few n = elim counts as (λ z. (pos 0 ≤ℤ scaled z n) × (scaled z n ≤ℤ pos (1000 * n))) [
+    | true ↦
+        (omega (arith, ints), omega (arith, ints))
+    | false ↦ (omega (arith, ints), omega (arith, ints))
+  ]
 
   first_few : (n : ℕ) → (pos 0 ≤ℤ first_scaled counts n) × (first_scaled counts n ≤ℤ pos (1000 * n + 1000))
-  first_few n = elim counts as (λ z. (pos 0 ≤ℤ first_scaled z n) × (first_scaled z n ≤ℤ pos (1000 * n + 1000))) [ true ↦ (omega (arith, ints), omega (arith, ints)) | false ↦ (omega (arith, ints), omega (arith, ints)) ]
+  first_few n = elim counts as (λ z. (pos 0 ≤ℤ first_scaled z n) × (first_scaled z n ≤ℤ pos (1000 * n + 1000))) [
+    | true ↦
+        (omega (arith, ints), omega (arith, ints))
+    | false ↦ (omega (arith, ints), omega (arith, ints))
+  ]
 
   begun_low : (t m : ℕ) → IsPool pool → All IsDaily day.trips → begun day pool t ≡ Some m →
       (pos (1000 * m) ≤ℤ (pos 100000000000 +ℤ (pos 10000000 *ℤ end_of day t))) × (pos 0 ≤ℤ end_of day t) × (end_of day t ≤ℤ pos 172800)
   begun_low t m ranges daily e =
-      let (trip, trip_is, e1) = and_then_some (λ (trip : Trip). given (admits day trip.line pool.typ) (option_map (λ out. pool.fixed + pool.dead_rate * out) (pull_out day pool trip))) (slice_get day.trips t) m e in
-      let (admitted, e2) = given_both (admits day trip.line pool.typ) (option_map (λ out. pool.fixed + pool.dead_rate * out) (pull_out day pool trip)) m e1 in
+      let (trip, trip_is, e1) =
+      and_then_some (λ (trip : Trip). given (admits day trip.line pool.typ)
+      (option_map (λ out. pool.fixed + pool.dead_rate * out) (pull_out day pool trip))) (slice_get day.trips t) m e in
+      let (admitted, e2) = given_both (admits day trip.line pool.typ)
+      (option_map (λ out. pool.fixed + pool.dead_rate * out) (pull_out day pool trip)) m e1 in
       let (out, is_out, same) = map_some (λ (out : ℕ). pool.fixed + pool.dead_rate * out) (pull_out day pool trip) m e2 in
       let leaves = pull_out_leaves trip (dead day pool.depot trip.from) out is_out in
       let d = trip_daily t trip trip_is daily in
@@ -98,10 +111,19 @@ module _ (day : DayFacts) (counts : Bool) (pool : Pool) where
   added_low : (t u m : ℕ) → IsPool pool → All IsDaily day.trips → added day pool t u ≡ Some m →
       (pos (1000 * m) ≤ℤ (pos 10000000 *ℤ (end_of day u -ℤ end_of day t))) × (end_of day u ≤ℤ pos 172800)
   added_low t u m ranges daily e =
-      let (trip, trip_is, e1) = and_then_some (λ (trip : Trip). with_trip day u (λ next. given (nat_lt t u) (given (admits day next.line pool.typ) (option_map (λ l. link_cost pool next l) (link day pool trip next))))) (slice_get day.trips t) m e in
-      let (next, next_is, e2) = and_then_some (λ (next : Trip). given (nat_lt t u) (given (admits day next.line pool.typ) (option_map (λ l. link_cost pool next l) (link day pool trip next)))) (slice_get day.trips u) m e1 in
-      let (later, e3) = given_both (nat_lt t u) (given (admits day next.line pool.typ) (option_map (λ l. link_cost pool next l) (link day pool trip next))) m e2 in
-      let (admitted, e4) = given_both (admits day next.line pool.typ) (option_map (λ l. link_cost pool next l) (link day pool trip next)) m e3 in
+      let (trip, trip_is, e1) =
+      and_then_some (λ (trip : Trip). with_trip day u
+      (λ next. given (nat_lt t u)
+      (given (admits day next.line pool.typ) (option_map (λ l. link_cost pool next l) (link day pool trip next)))))
+      (slice_get day.trips t) m e in
+      let (next, next_is, e2) =
+      and_then_some (λ (next : Trip). given (nat_lt t u)
+      (given (admits day next.line pool.typ) (option_map (λ l. link_cost pool next l) (link day pool trip next))))
+      (slice_get day.trips u) m e1 in
+      let (later, e3) = given_both (nat_lt t u)
+      (given (admits day next.line pool.typ) (option_map (λ l. link_cost pool next l) (link day pool trip next))) m e2 in
+      let (admitted, e4) = given_both (admits day next.line pool.typ)
+      (option_map (λ l. link_cost pool next l) (link day pool trip next)) m e3 in
       let (l, linked, same) = map_some (λ (l : Link). link_cost pool next l) (link day pool trip next) m e4 in
       let fits = link_fits day pool trip next l linked in
       let few = cost_few next l ranges in
@@ -144,10 +166,11 @@ module _ (day : DayFacts) (counts : Bool) (pool : Pool) where
     where
       most_first : (m t : ℕ) → pos (1000 * m) ≤ℤ (pos 100000000000 +ℤ (pos 10000000 *ℤ end_of day t)) → pos 0 ≤ℤ end_of day t →
           (first_scaled counts m -ℤ pos 0) ≤ℤ (pos 100000000000 +ℤ (pos 10000000 *ℤ end_of day t))
-      most_first m t few begins = elim counts as (λ z. (first_scaled z m -ℤ pos 0) ≤ℤ (pos 100000000000 +ℤ (pos 10000000 *ℤ end_of day t))) [
-        | true ↦ omega (arith, ints, begins)
-        | false ↦ omega (arith, ints, few)
-      ]
+      most_first m t few begins =
+          elim counts as (λ z. (first_scaled z m -ℤ pos 0) ≤ℤ (pos 100000000000 +ℤ (pos 10000000 *ℤ end_of day t))) [
+            | true ↦ omega (arith, ints, begins)
+            | false ↦ omega (arith, ints, few)
+          ]
 
 -- The worth of a list is a thousandth of what it closes with.
 no-prices : (list : List ℕ) → price_of [] list ≡ pos 0
@@ -165,7 +188,8 @@ thousand n z none =
 abbrev thousandth_of : Option ℤ → Option ℕ
 thousandth_of o = option_map (λ v. unsigned_abs v / 1000) o
 
-pub tied-worth : {L : Type 0} (w : Labelling L) (close : L → Option ℤ) (worth_of : List ℕ → Option ℕ) (list : List ℕ) → IsTied w close [] worth_of →
+pub tied-worth : {L : Type 0} (w : Labelling L) (close : L → Option ℤ) (worth_of : List ℕ → Option ℕ) (list : List ℕ) →
+    IsTied w close [] worth_of →
     worth_of list ≡ option_and_then (λ a. option_map (λ v. unsigned_abs v / 1000) (close a)) (label_of w list)
 tied-worth {L = L} w close worth_of list tied = by (worth_of list) refl
   where

@@ -56,7 +56,8 @@ first_or x [] = x
 first_or x (y ∷ ys) = y
 
 -- places in heads, one list behind another
-there-back : (xs ys : List Head) (b : Begun) (k : ℕ) → slice_get (begun_of ys) k ≡ Some b → (l : ℕ) × (slice_get (begun_of (xs ++ ys)) l ≡ Some b)
+there-back : (xs ys : List Head) (b : Begun) (k : ℕ) → slice_get (begun_of ys) k ≡ Some b →
+    (l : ℕ) × (slice_get (begun_of (xs ++ ys)) l ≡ Some b)
 there-back [] ys b k at = (k, at)
 there-back (x ∷ xs) ys b k at = let (l, is) = there-back xs ys b k at in (suc l, is)
 
@@ -74,13 +75,15 @@ module _ (day : DayFacts) (moment : ℕ) where
   abbrev head_of : ℕ → ℕ → List ℕ → Head
   head_of class first rest = head_from day moment class first (kept_after day moment first rest)
 
-  head-of : (first class : ℕ) (rest : List ℕ) → leaves_before day moment class first ≡ true → head_at day moment first class (first ∷ rest) ≡ head_of class first rest ∷ []
+  head-of : (first class : ℕ) (rest : List ℕ) → leaves_before day moment class first ≡ true →
+      head_at day moment first class (first ∷ rest) ≡ head_of class first rest ∷ []
   head-of first class rest leaves =
       let same : (first == first) ≡ true = grind (arith, nat_tests) in
       let one : Bool → Bool → List Head = λ a b. cond a (cond b (head_of class first rest ∷ []) []) [] in
       ap (λ a. one a (leaves_before day moment class first)) same ∙ ap (λ b. one true b) leaves
 
-  head-later : (first class : ℕ) (rest : List ℕ) → leaves_before day moment class first ≡ false → head_at day moment first class (first ∷ rest) ≡ []
+  head-later : (first class : ℕ) (rest : List ℕ) → leaves_before day moment class first ≡ false →
+      head_at day moment first class (first ∷ rest) ≡ []
   head-later first class rest leaves =
       let same : (first == first) ≡ true = grind (arith, nat_tests) in
       let one : Bool → Bool → List Head = λ a b. cond a (cond b (head_of class first rest ∷ []) []) [] in
@@ -107,18 +110,22 @@ module _ (day : DayFacts) (moment : ℕ) where
   find-first [] first = inr refl
   find-first (c ∷ cs) first = by (find-first cs first) c.items refl
     where
-      after : BeginsAt cs first ⊎ (heads_at day moment cs first ≡ []) → head_at day moment first c.class c.items ≡ [] → BeginsAt (c ∷ cs) first ⊎ (heads_at day moment (c ∷ cs) first ≡ [])
+      after : BeginsAt cs first ⊎ (heads_at day moment cs first ≡ []) → head_at day moment first c.class c.items ≡ [] →
+          BeginsAt (c ∷ cs) first ⊎ (heads_at day moment (c ∷ cs) first ≡ [])
       after others none = elim others [
         | inl b ↦ inl (record { place = suc b.place; block = b.block; rest = b.rest; there = b.there; items = b.items })
         | inr rest ↦ inr (ap (λ (l : List Head). l ++ heads_at day moment cs first) none ∙ rest)
       ]
 
-      by : BeginsAt cs first ⊎ (heads_at day moment cs first ≡ []) → (list : List ℕ) → c.items ≡ list → BeginsAt (c ∷ cs) first ⊎ (heads_at day moment (c ∷ cs) first ≡ [])
+      by : BeginsAt cs first ⊎ (heads_at day moment cs first ≡ []) → (list : List ℕ) → c.items ≡ list →
+          BeginsAt (c ∷ cs) first ⊎ (heads_at day moment (c ∷ cs) first ≡ [])
       by others [] e = after others (ap (head_at day moment first c.class) e)
-      by others (t ∷ ts) e = elim (t == first) as (λ b. (t == first) ≡ b → BeginsAt (c ∷ cs) first ⊎ (heads_at day moment (c ∷ cs) first ≡ [])) [
-        | true ↦ λ is. let same : t ≡ first = grind (arith, nat_tests) in inl (record { place = 0; block = c; rest = ts; there = refl; items = e ∙ ap (λ t. t ∷ ts) same })
-        | false ↦ λ is. after others (ap (head_at day moment first c.class) e ∙ head-other first c.class t ts is)
-      ] refl
+      by others (t ∷ ts) e = elim (t == first) as
+          (λ b. (t == first) ≡ b → BeginsAt (c ∷ cs) first ⊎ (heads_at day moment (c ∷ cs) first ≡ [])) [
+            | true ↦ λ is. let same : t ≡ first = grind (arith, nat_tests) in
+                inl (record { place = 0; block = c; rest = ts; there = refl; items = e ∙ ap (λ t. t ∷ ts) same })
+            | false ↦ λ is. after others (ap (head_at day moment first c.class) e ∙ head-other first c.class t ts is)
+          ] refl
 
   no-first : (blocks : List Column) (first : ℕ) → times first (all_items blocks) ≡ 0 → heads_at day moment blocks first ≡ []
   no-first blocks first none = elim (find-first blocks first) [
@@ -131,7 +138,8 @@ module _ (day : DayFacts) (moment : ℕ) where
   ]
 
   -- the heads at a trip are those of the block that begins with it
-  only-first : (blocks : List Column) (first j : ℕ) (c : Column) (ts : List ℕ) → times first (all_items blocks) ≤ 1 → slice_get blocks j ≡ Some c → c.items ≡ first ∷ ts →
+  only-first : (blocks : List Column) (first j : ℕ) (c : Column) (ts : List ℕ) → times first (all_items blocks) ≤ 1 →
+      slice_get blocks j ≡ Some c → c.items ≡ first ∷ ts →
       heads_at day moment blocks first ≡ head_at day moment first c.class (first ∷ ts)
   only-first [] first j c ts once at is = absurd (cc)
   only-first (d ∷ ds) first zero c ts once at is =
@@ -159,7 +167,8 @@ module _ (day : DayFacts) (moment : ℕ) where
         | false ↦ λ is. kept-stop day moment t more (sym is)
       ] refl
   kept-again t (u ∷ us) more ends =
-      elim (ends_before day moment t) as (λ b. ends_before day moment t ≡ b → (ends_before day moment (last_trip t (cond b (u ∷ kept_after day moment u us) [])) ≡ true → more ≡ []) →
+      elim (ends_before day moment t) as (λ b. ends_before day moment t ≡ b →
+      (ends_before day moment (last_trip t (cond b (u ∷ kept_after day moment u us) [])) ≡ true → more ≡ []) →
       kept_after day moment t (cond b (u ∷ kept_after day moment u us) [] ++ more) ≡ cond b (u ∷ kept_after day moment u us) []) [
         | true ↦ λ is ends.
             ap (λ b. cond b (u ∷ kept_after day moment u (kept_after day moment u us ++ more)) []) is
@@ -217,14 +226,27 @@ module _ (day : DayFacts) (moment : ℕ) where
     pub leaves : leaves_before day moment block.class first ≡ true
     pub is : begun (head_of block.class first rest) ≡ b
 
-  comes-one : (c : Column) (list : List ℕ) (g k : ℕ) (b : Begun) → c.items ≡ list → slice_get (begun_of (head_at day moment g c.class list)) k ≡ Some b → ComesFrom (c ∷ []) b
+  comes-one : (c : Column) (list : List ℕ) (g k : ℕ) (b : Begun) → c.items ≡ list →
+      slice_get (begun_of (head_at day moment g c.class list)) k ≡ Some b → ComesFrom (c ∷ []) b
   comes-one c [] g k b e at = absurd (cc)
   comes-one c (t ∷ ts) g k b e at =
-      elim (t == g) as (λ x. slice_get (begun_of (cond x (cond (leaves_before day moment c.class t) (head_of c.class t ts ∷ []) []) [])) k ≡ Some b → ComesFrom (c ∷ []) b) [
-        | true ↦ λ at. elim (leaves_before day moment c.class t) as (λ y. leaves_before day moment c.class t ≡ y → slice_get (begun_of (cond y (head_of c.class t ts ∷ []) [])) k ≡ Some b → ComesFrom (c ∷ []) b) [
-          | true ↦ λ leaves at. record { first = t; place = 0; block = c; rest = ts; there = refl; items = e; leaves = leaves; is = only k at }
-          | false ↦ λ leaves at. absurd (cc)
-        ] refl at
+      elim (t == g) as (λ x. slice_get (begun_of (cond x (cond (leaves_before day moment c.class t) (head_of c.class t ts ∷ []) []) [])) k
+      ≡ Some b → ComesFrom (c ∷ []) b) [
+        | true ↦ λ at. elim (leaves_before day moment c.class t) as (λ y. leaves_before day moment c.class t ≡ y →
+            slice_get (begun_of (cond y (head_of c.class t ts ∷ []) [])) k ≡ Some b → ComesFrom (c ∷ []) b) [
+              | true ↦ λ leaves at. record {
+                first = t;
+                place = 0;
+                block = c;
+                rest = ts;
+                there = refl;
+                items =
+                    e;
+                leaves = leaves;
+                is = only k at;
+              }
+              | false ↦ λ leaves at. absurd (cc)
+            ] refl at
         | false ↦ λ at. absurd (cc)
       ] at
     where
@@ -232,31 +254,56 @@ module _ (day : DayFacts) (moment : ℕ) where
       only zero at = some-same (begun (head_of c.class t ts)) b at
       only (suc k) at = absurd (cc)
 
-  comes-at : (blocks : List Column) (g k : ℕ) (b : Begun) → slice_get (begun_of (heads_at day moment blocks g)) k ≡ Some b → ComesFrom blocks b
+  comes-at : (blocks : List Column) (g k : ℕ) (b : Begun) → slice_get (begun_of (heads_at day moment blocks g)) k ≡ Some b →
+      ComesFrom blocks b
   comes-at [] g k b at = absurd (cc)
   comes-at (c ∷ cs) g k b at = elim (there-either (head_at day moment g c.class c.items) (heads_at day moment cs g) b k at) [
     | inl here ↦
         let f = comes-one c c.items g here.0 b refl here.1 in
-        record { first = f.first; place = 0; block = c; rest = f.rest; there = refl; items = same f f.place f.there f.items; leaves = moved f f.place f.there f.leaves; is = shown f f.place f.there f.is }
+        record {
+          first = f.first;
+          place = 0;
+          block = c;
+          rest = f.rest;
+          there = refl;
+          items = same f f.place f.there f.items;
+          leaves =
+              moved f f.place f.there f.leaves;
+          is = shown f f.place f.there f.is;
+        }
     | inr later ↦
         let f = comes-at cs g later.0 b later.1 in
-        record { first = f.first; place = suc f.place; block = f.block; rest = f.rest; there = f.there; items = f.items; leaves = f.leaves; is = f.is }
+        record {
+          first = f.first;
+          place = suc f.place;
+          block = f.block;
+          rest = f.rest;
+          there = f.there;
+          items =
+              f.items;
+          leaves = f.leaves;
+          is = f.is;
+        }
   ]
     where
       alone : (f : ComesFrom (c ∷ []) b) (p : ℕ) → slice_get (c ∷ []) p ≡ Some f.block → f.block ≡ c
       alone f zero at = sym (some-same c f.block at)
       alone f (suc p) at = absurd (cc)
 
-      same : (f : ComesFrom (c ∷ []) b) (p : ℕ) → slice_get (c ∷ []) p ≡ Some f.block → f.block.items ≡ f.first ∷ f.rest → c.items ≡ f.first ∷ f.rest
+      same : (f : ComesFrom (c ∷ []) b) (p : ℕ) → slice_get (c ∷ []) p ≡ Some f.block → f.block.items ≡ f.first ∷ f.rest →
+          c.items ≡ f.first ∷ f.rest
       same f p at is = ap (λ (c : Column). c.items) (sym (alone f p at)) ∙ is
 
-      moved : (f : ComesFrom (c ∷ []) b) (p : ℕ) → slice_get (c ∷ []) p ≡ Some f.block → leaves_before day moment f.block.class f.first ≡ true → leaves_before day moment c.class f.first ≡ true
+      moved : (f : ComesFrom (c ∷ []) b) (p : ℕ) → slice_get (c ∷ []) p ≡ Some f.block →
+          leaves_before day moment f.block.class f.first ≡ true → leaves_before day moment c.class f.first ≡ true
       moved f p at is = ap (λ (c : Column). leaves_before day moment c.class f.first) (sym (alone f p at)) ∙ is
 
-      shown : (f : ComesFrom (c ∷ []) b) (p : ℕ) → slice_get (c ∷ []) p ≡ Some f.block → begun (head_of f.block.class f.first f.rest) ≡ b → begun (head_of c.class f.first f.rest) ≡ b
+      shown : (f : ComesFrom (c ∷ []) b) (p : ℕ) → slice_get (c ∷ []) p ≡ Some f.block → begun (head_of f.block.class f.first f.rest) ≡ b →
+          begun (head_of c.class f.first f.rest) ≡ b
       shown f p at is = ap (λ (c : Column). begun (head_of c.class f.first f.rest)) (sym (alone f p at)) ∙ is
 
-  comes-from : (blocks : List Column) (n g k : ℕ) (b : Begun) → slice_get (begun_of (heads_from day moment blocks n g)) k ≡ Some b → ComesFrom blocks b
+  comes-from : (blocks : List Column) (n g k : ℕ) (b : Begun) → slice_get (begun_of (heads_from day moment blocks n g)) k ≡ Some b →
+      ComesFrom blocks b
   comes-from blocks zero g k b at = absurd (cc)
   comes-from blocks (suc n) g k b at = elim (there-either (heads_at day moment blocks g) (heads_from day moment blocks n (suc g)) b k at) [
     | inl here ↦ comes-at blocks g here.0 b here.1
@@ -264,11 +311,13 @@ module _ (day : DayFacts) (moment : ℕ) where
   ]
 
   -- the same heads at each trip: the same heads
-  same-from : (xs ys : List Column) (n g : ℕ) → ((f : ℕ) → g ≤ f → f < g + n → heads_at day moment xs f ≡ heads_at day moment ys f) → heads_from day moment xs n g ≡ heads_from day moment ys n g
+  same-from : (xs ys : List Column) (n g : ℕ) → ((f : ℕ) → g ≤ f → f < g + n → heads_at day moment xs f ≡ heads_at day moment ys f) →
+      heads_from day moment xs n g ≡ heads_from day moment ys n g
   same-from xs ys zero g each = refl
   same-from xs ys (suc n) g each =
       ap (λ (l : List Head). l ++ heads_from day moment xs n (suc g)) (each g (omega arith) (omega arith))
-      ∙ ap (λ (l : List Head). heads_at day moment ys g ++ l) (same-from xs ys n (suc g) (λ f from to. each f (omega (arith, from)) (omega (arith, to))))
+      ∙ ap (λ (l : List Head). heads_at day moment ys g ++ l)
+      (same-from xs ys n (suc g) (λ f from to. each f (omega (arith, from)) (omega (arith, to))))
 
 once-all : (day : DayFacts) (blocks : List Column) → AreOfDay day blocks → IsEachOnce day blocks → (i : ℕ) → times i (all_items blocks) ≤ 1
 once-all day blocks are each i = elim (cases_lt i (length day.trips)) [
@@ -289,51 +338,64 @@ plan-of-day day counts (c ∷ cs) are =
     let fits = blocks_listed (record { day = day; counts = counts }) c.class c.items c.worth are.0.1 in
     ((omega (arith, count, class), fits.2), plan-of-day day counts cs are.1)
 
-plan-some : (day : DayFacts) (counts : Bool) (blocks : List Column) (j : ℕ) (c : Column) → AreColumns (blocks_of day counts) blocks → slice_get blocks j ≡ Some c → c.items ≢ []
+plan-some : (day : DayFacts) (counts : Bool) (blocks : List Column) (j : ℕ) (c : Column) → AreColumns (blocks_of day counts) blocks →
+    slice_get blocks j ≡ Some c → c.items ≢ []
 plan-some day counts [] j c are at = absurd (cc)
 plan-some day counts (d ∷ ds) zero c are at =
     let P : Column → Type 0 = λ c. c.items ≢ [] in
     subst P (some-same d c at) (blocks_listed (record { day = day; counts = counts }) d.class d.items d.worth are.0.1).0
 plan-some day counts (d ∷ ds) (suc j) c are at = plan-some day counts ds j c are.1 at
 
-below-at : (day : DayFacts) (blocks : List Column) (j : ℕ) (c : Column) → AreOfDay day blocks → slice_get blocks j ≡ Some c → AllBelow (length day.trips) c.items
+below-at : (day : DayFacts) (blocks : List Column) (j : ℕ) (c : Column) → AreOfDay day blocks → slice_get blocks j ≡ Some c →
+    AllBelow (length day.trips) c.items
 below-at day [] j c are at = absurd (cc)
-below-at day (d ∷ ds) zero c are at = let P : Column → Type 0 = λ c. AllBelow (length day.trips) c.items in subst P (some-same d c at) are.0.1
+below-at day (d ∷ ds) zero c are at = let P : Column → Type 0 = λ c. AllBelow (length day.trips) c.items in
+    subst P (some-same d c at) are.0.1
 below-at day (d ∷ ds) (suc j) c are at = below-at day ds j c are.1 at
 
-module _ (day : DayFacts) (moment : ℕ) (earlier blocks : List Column) (once : (i : ℕ) → times i (all_items earlier) ≤ 1) (alone : (i : ℕ) → times i (all_items blocks) ≤ 1) where
+module _ (day : DayFacts) (moment : ℕ) (earlier blocks : List Column) (once : (i : ℕ) → times i (all_items earlier) ≤ 1)
+    (alone : (i : ℕ) → times i (all_items blocks) ≤ 1) where
   -- where no head of the earlier plan is at a trip there is none of the other
-  none-same : KeepsBegun (begun_of (heads_of day moment earlier)) (may_begin day moment) blocks → (f : ℕ) → heads_at day moment earlier f ≡ [] → heads_at day moment blocks f ≡ []
+  none-same : KeepsBegun (begun_of (heads_of day moment earlier)) (may_begin day moment) blocks → (f : ℕ) →
+      heads_at day moment earlier f ≡ [] → heads_at day moment blocks f ≡ []
   none-same keeps f none = elim (find-first day moment blocks f) [
     | inr is ↦ is
     | inl b ↦
         only-first day moment blocks f b.place b.block b.rest (alone f) b.there b.items
-        ∙ elim (leaves_before day moment b.block.class f) as (λ x. leaves_before day moment b.block.class f ≡ x → head_at day moment f b.block.class (f ∷ b.rest) ≡ []) [
+        ∙ elim (leaves_before day moment b.block.class f) as (λ x. leaves_before day moment b.block.class f ≡ x →
+        head_at day moment f b.block.class (f ∷ b.rest) ≡ []) [
           | false ↦ λ later. head-later day moment f b.block.class b.rest later
           | true ↦ λ leaves.
-              let goes : may_begin day moment b.block.class b.block.items ≡ true = keeps.others b.place b.block b.there (λ k h at begun. no-head k h at b.block b.rest begun b.items) in
-              let shown : may_begin day moment b.block.class b.block.items ≡ false = ap (may_begin day moment b.block.class) b.items ∙ ap not leaves in
+              let goes : may_begin day moment b.block.class b.block.items ≡ true =
+              keeps.others b.place b.block b.there (λ k h at begun. no-head k h at b.block b.rest begun b.items) in
+              let shown : may_begin day moment b.block.class b.block.items ≡ false =
+              ap (may_begin day moment b.block.class) b.items ∙ ap not leaves in
               absurd (let bad : true ≡ false = sym goes ∙ shown in cc)
         ] refl
   ]
     where
-      no-head : (k : ℕ) (h : Begun) → slice_get (begun_of (heads_of day moment earlier)) k ≡ Some h → (c : Column) (rest : List ℕ) → BeginsWith h c → c.items ≡ f ∷ rest → ⊥
+      no-head : (k : ℕ) (h : Begun) → slice_get (begun_of (heads_of day moment earlier)) k ≡ Some h → (c : Column) (rest : List ℕ) →
+          BeginsWith h c → c.items ≡ f ∷ rest → ⊥
       no-head k h at c rest begins is =
           let from = comes-from day moment earlier (length day.trips) 0 k h at in
           let front : h.items ≡ from.first ∷ kept_after day moment from.first from.rest = ap (λ (b : Begun). b.items) (sym from.is) in
           let same : f ≡ from.first = ap (first_or f) (sym is ∙ begins.items ∙ ap (λ (l : List ℕ). l ++ begins.more) front) in
           let there = only-first day moment earlier from.first from.place from.block from.rest (once from.first) from.there from.items
           ∙ head-of day moment from.first from.block.class from.rest from.leaves in
-          let bad : [] ≡ head_of day moment from.block.class from.first from.rest ∷ [] = sym none ∙ ap (heads_at day moment earlier) same ∙ there in
+          let bad : [] ≡ head_of day moment from.block.class from.first from.rest ∷ [] =
+          sym none ∙ ap (heads_at day moment earlier) same ∙ there in
           let empty : List Head → Bool = λ l. elim l as (λ _. Bool) [ [] ↦ true | h ∷ hs ↦ false ] in
           let no : true ≡ false = ap empty bad in
           cc
 
   -- where a head of the earlier plan is at a trip the other has it
-  one-same : KeepsBegun (begun_of (heads_of day moment earlier)) (may_begin day moment) blocks → (f class : ℕ) (rest : List ℕ) → f < length day.trips →
-      leaves_before day moment class f ≡ true → heads_at day moment earlier f ≡ head_of day moment class f rest ∷ [] → heads_at day moment blocks f ≡ head_of day moment class f rest ∷ []
+  one-same : KeepsBegun (begun_of (heads_of day moment earlier)) (may_begin day moment) blocks →
+      (f class : ℕ) (rest : List ℕ) → f < length day.trips →
+      leaves_before day moment class f ≡ true → heads_at day moment earlier f ≡ head_of day moment class f rest ∷ [] →
+      heads_at day moment blocks f ≡ head_of day moment class f rest ∷ []
   one-same keeps f class rest within leaves is =
-      let (k, at) = heads-there day moment earlier (length day.trips) 0 f (head_of day moment class f rest) (omega arith) (omega (arith, within)) is in
+      let (k, at) = heads-there day moment earlier (length day.trips) 0 f (head_of day moment class f rest) (omega arith)
+      (omega (arith, within)) is in
       let (j, c, there, begins) = keeps.kept k (begun (head_of day moment class f rest)) at in
       let kept : List ℕ = kept_after day moment f rest in
       let again : kept_after day moment f (kept ++ begins.more) ≡ kept = kept-again day moment f rest begins.more begins.finished in
@@ -342,12 +404,14 @@ module _ (day : DayFacts) (moment : ℕ) (earlier blocks : List Column) (once : 
       ∙ head-of day moment f class (kept ++ begins.more) leaves
       ∙ ap (λ (l : List ℕ). head_from day moment class f l ∷ []) again
 
-  kept-same : KeepsBegun (begun_of (heads_of day moment earlier)) (may_begin day moment) blocks → (f : ℕ) → f < length day.trips → heads_at day moment blocks f ≡ heads_at day moment earlier f
+  kept-same : KeepsBegun (begun_of (heads_of day moment earlier)) (may_begin day moment) blocks → (f : ℕ) → f < length day.trips →
+      heads_at day moment blocks f ≡ heads_at day moment earlier f
   kept-same keeps f within = elim (find-first day moment earlier f) [
     | inr none ↦ none-same keeps f none ∙ sym none
     | inl b ↦
         let is = only-first day moment earlier f b.place b.block b.rest (once f) b.there b.items in
-        elim (leaves_before day moment b.block.class f) as (λ x. leaves_before day moment b.block.class f ≡ x → heads_at day moment blocks f ≡ heads_at day moment earlier f) [
+        elim (leaves_before day moment b.block.class f) as (λ x. leaves_before day moment b.block.class f ≡ x →
+        heads_at day moment blocks f ≡ heads_at day moment earlier f) [
           | true ↦ λ leaves.
               let one = is ∙ head-of day moment f b.block.class b.rest leaves in
               one-same keeps f b.block.class b.rest within leaves one ∙ sym one
@@ -358,7 +422,8 @@ module _ (day : DayFacts) (moment : ℕ) (earlier blocks : List Column) (once : 
   ]
 
   -- a plan keeps what has begun of itself
-  keeps-own : AreOfDay day blocks → ((j : ℕ) (c : Column) → slice_get blocks j ≡ Some c → c.items ≢ []) → KeepsBegun (begun_of (heads_of day moment blocks)) (may_begin day moment) blocks
+  keeps-own : AreOfDay day blocks → ((j : ℕ) (c : Column) → slice_get blocks j ≡ Some c → c.items ≢ []) →
+      KeepsBegun (begun_of (heads_of day moment blocks)) (may_begin day moment) blocks
   keeps-own are some = record {
     kept = λ k h at.
         let from = comes-from day moment blocks (length day.trips) 0 k h at in
@@ -367,19 +432,22 @@ module _ (day : DayFacts) (moment : ℕ) (earlier blocks : List Column) (once : 
     others = λ j c at none. may j c at none c.items refl;
   }
     where
-      may : (j : ℕ) (c : Column) → slice_get blocks j ≡ Some c → ((k : ℕ) (h : Begun) → slice_get (begun_of (heads_of day moment blocks)) k ≡ Some h → BeginsWith h c → ⊥) →
+      may : (j : ℕ) (c : Column) → slice_get blocks j ≡ Some c →
+          ((k : ℕ) (h : Begun) → slice_get (begun_of (heads_of day moment blocks)) k ≡ Some h → BeginsWith h c → ⊥) →
           (list : List ℕ) → c.items ≡ list → may_begin day moment c.class c.items ≡ true
       may j c at none [] e = absurd (some j c at e)
       may j c at none (t ∷ ts) e =
           ap (may_begin day moment c.class) e
-          ∙ elim (leaves_before day moment c.class t) as (λ x. leaves_before day moment c.class t ≡ x → not (leaves_before day moment c.class t) ≡ true) [
+          ∙ elim (leaves_before day moment c.class t) as (λ x. leaves_before day moment c.class t ≡ x →
+          not (leaves_before day moment c.class t) ≡ true) [
             | false ↦ λ later. ap not later
             | true ↦ λ leaves.
                 let Q : List ℕ → Type 0 = AllBelow (length day.trips) in
                 let below : AllBelow (length day.trips) (t ∷ ts) = subst Q e (below-at day blocks j c are at) in
                 let within = below.0 in
                 let is = only-first day moment blocks t j c ts (alone t) at e ∙ head-of day moment t c.class ts leaves in
-                let (k, there) = heads-there day moment blocks (length day.trips) 0 t (head_of day moment c.class t ts) (omega arith) (omega (arith, within)) is in
+                let (k, there) = heads-there day moment blocks (length day.trips) 0 t (head_of day moment c.class t ts) (omega arith)
+                (omega (arith, within)) is in
                 absurd (none k (begun (head_of day moment c.class t ts)) there (begins day moment c t ts e))
           ] refl
 
@@ -388,7 +456,8 @@ kept-is-same day counts moment earlier blocks are each plan =
     let of_day = plan-of-day day counts blocks plan.worths in
     let once = once-all day earlier are each in
     let alone = once-all day blocks of_day plan.once in (
-      λ keeps. same-from day moment blocks earlier (length day.trips) 0 (λ f from to. kept-same day moment earlier blocks once alone keeps f (omega (arith, to))),
+      λ keeps. same-from day moment blocks earlier (length day.trips) 0
+          (λ f from to. kept-same day moment earlier blocks once alone keeps f (omega (arith, to))),
       λ same.
           let P : List Head → Type 0 = λ heads. KeepsBegun (begun_of heads) (may_begin day moment) blocks in
           subst P same (keeps-own day moment earlier blocks once alone of_day (λ j c at. plan-some day counts blocks j c plan.worths at)),

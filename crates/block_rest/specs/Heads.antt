@@ -15,7 +15,8 @@ ends_before day moment t = option_map_or (λ (trip : Trip). int_lt trip.end.0 (p
 -- whether the pull-out of a pool to a trip leaves before a moment
 abbrev pub leaves_before : DayFacts → ℕ → ℕ → ℕ → Bool
 leaves_before day moment class t =
-    option_map_or (λ (trip : Trip). option_map_or (λ out. int_lt (trip.begin.0 -ℤ pos out) (pos moment)) (pull_out_at day class t) false) (slice_get day.trips t) false
+    option_map_or (λ (trip : Trip). option_map_or (λ out. int_lt (trip.begin.0 -ℤ pos out) (pos moment)) (pull_out_at day class t) false)
+    (slice_get day.trips t) false
 
 -- of the trips after a kept trip those that are kept: a trip is where the one before it is kept and ends before the moment
 abbrev pub kept_after : DayFacts → ℕ → ℕ → List ℕ → List ℕ

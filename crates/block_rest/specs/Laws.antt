@@ -23,4 +23,5 @@ abbrev pub KeptIsSameHeads : Type 0
 KeptIsSameHeads =
     (day : DayFacts) (counts : Bool) (moment : ℕ) (earlier blocks : List Column) → AreOfDay day earlier → IsEachOnce day earlier →
     IsPlan (blocks_of day counts) blocks →
-    KeepsBegun (begun_of (heads_of day moment earlier)) (may_begin day moment) blocks ↔ (heads_of day moment blocks ≡ heads_of day moment earlier)
+    KeepsBegun (begun_of (heads_of day moment earlier)) (may_begin day moment) blocks ↔
+    (heads_of day moment blocks ≡ heads_of day moment earlier)

@@ -32,7 +32,8 @@ use Rattle.cert_check.specs.Reasons.{HasDuties, duties_again}
 
 -- pieces
 pub duty_shifts : (pieces : List Piece) → All IsShift pieces → All IsDutyShift pieces
-duty_shifts pieces shifts = All-weaker IsShift IsDutyShift (λ p h. record { begins = h.begins; order = h.order; ends = h.ends; driving = h.driving }) pieces shifts
+duty_shifts pieces shifts =
+    All-weaker IsShift IsDutyShift (λ p h. record { begins = h.begins; order = h.order; ends = h.ends; driving = h.driving }) pieces shifts
 
 pub shift_pieces : (pieces : List Piece) → All IsShift pieces → All IsPiece pieces
 shift_pieces pieces shifts =
@@ -47,22 +48,26 @@ some_worth : (o : Option ℕ) (worth : ℕ) → o ≡ Some worth → IsTrue (is_
 some_worth None worth h = absurd (cc)
 some_worth (Some w) worth h = refl
 
-worths_there : (facts : DayFacts) (columns : List Column) → AreColumns (blocks_of facts false) columns → AllByRecursion (HasWorth facts) columns
+worths_there : (facts : DayFacts) (columns : List Column) → AreColumns (blocks_of facts false) columns →
+    AllByRecursion (HasWorth facts) columns
 worths_there facts [] are = tt
 worths_there facts (c ∷ cs) are = (some_worth (block_worth facts false c.class c.items) c.worth are.0.1, worths_there facts cs are.1)
 
 pub plan_worths : (facts : DayFacts) (columns : List Column) → IsPlan (blocks_of facts false) columns → All (HasWorth facts) columns
 plan_worths facts columns plan = All-from_recursion (HasWorth facts) columns (worths_there facts columns plan.worths)
 
-classes_below : (p : Problem) (columns : List Column) → AreColumns p columns → AllByRecursion (λ (c : Column). c.class < length p.caps) columns
+classes_below : (p : Problem) (columns : List Column) → AreColumns p columns →
+    AllByRecursion (λ (c : Column). c.class < length p.caps) columns
 classes_below p [] are = tt
 classes_below p (c ∷ cs) are = (are.0.0, classes_below p cs are.1)
 
-items_below : (p : Problem) (columns : List Column) → HasListedColumns p → AreColumns p columns → AllByRecursion (λ (c : Column). AllBelow p.items c.items) columns
+items_below : (p : Problem) (columns : List Column) → HasListedColumns p → AreColumns p columns →
+    AllByRecursion (λ (c : Column). AllBelow p.items c.items) columns
 items_below p [] listed are = tt
 items_below p (c ∷ cs) listed are = ((listed c.class c.items c.worth are.0.1).2, items_below p cs listed are.1)
 
-few_items : (p : Problem) (columns : List Column) → p.items ≤ 3000 → HasListedColumns p → AreColumns p columns → AllByRecursion (λ (c : Column). length c.items ≤ 3000) columns
+few_items : (p : Problem) (columns : List Column) → p.items ≤ 3000 → HasListedColumns p → AreColumns p columns →
+    AllByRecursion (λ (c : Column). length c.items ≤ 3000) columns
 few_items p [] few listed are = tt
 few_items p (c ∷ cs) few listed are =
     let (some, rises, below) = listed c.class c.items c.worth are.0.1 in
@@ -73,22 +78,29 @@ below_each n [] below = tt
 below_each n (x ∷ xs) below = (below.0, below_each n xs below.1)
 
 -- the items of a plan's duties are pieces
-numbered_below : (p : Problem) (columns : List Column) → HasListedColumns p → AreColumns p columns → AllByRecursion (λ (c : Column). All (λ (item : ℕ). item < p.items) c.items) columns
+numbered_below : (p : Problem) (columns : List Column) → HasListedColumns p → AreColumns p columns →
+    AllByRecursion (λ (c : Column). All (λ (item : ℕ). item < p.items) c.items) columns
 numbered_below p [] listed are = tt
-numbered_below p (c ∷ cs) listed are =
-    (All-from_recursion (λ (item : ℕ). item < p.items) c.items (below_each p.items c.items (listed c.class c.items c.worth are.0.1).2), numbered_below p cs listed are.1)
+numbered_below p (c ∷ cs) listed are = (
+  All-from_recursion (λ (item : ℕ). item < p.items) c.items (below_each p.items c.items (listed c.class c.items c.worth are.0.1).2),
+  numbered_below p cs listed are.1,
+)
 
-pub duty_items : (c : Case) (pieces : List Piece) (columns : List Column) → IsPlan (duties_in c pieces false) columns → All (λ (duty : Column). All (λ (item : ℕ). item < length pieces) duty.items) columns
+pub duty_items : (c : Case) (pieces : List Piece) (columns : List Column) → IsPlan (duties_in c pieces false) columns →
+    All (λ (duty : Column). All (λ (item : ℕ). item < length pieces) duty.items) columns
 duty_items c pieces columns plan =
     let p = duties_in c pieces false in
-    All-from_recursion (λ (duty : Column). All (λ (item : ℕ). item < length pieces) duty.items) columns (numbered_below p columns (duties_listed (duties_over c pieces false)) plan.worths)
+    All-from_recursion (λ (duty : Column). All (λ (item : ℕ). item < length pieces) duty.items) columns
+    (numbered_below p columns (duties_listed (duties_over c pieces false)) plan.worths)
 
 -- what holds of each column holds of each in printed order
-put_each : (P : Column → Type 0) (c : Column) (cs : List Column) → P c → AllByRecursion P cs → AllByRecursion P (put_in_order first_of_column c cs)
+put_each : (P : Column → Type 0) (c : Column) (cs : List Column) → P c → AllByRecursion P cs →
+    AllByRecursion P (put_in_order first_of_column c cs)
 put_each P c [] is are = (is, tt)
 put_each P c (next ∷ cs) is are = by (nat_lt (first_of_column next) (first_of_column c)) (put_each P c cs is are.1)
   where
-    by : (b : Bool) → AllByRecursion P (put_in_order first_of_column c cs) → AllByRecursion P (if b then next ∷ put_in_order first_of_column c cs else c ∷ next ∷ cs)
+    by : (b : Bool) → AllByRecursion P (put_in_order first_of_column c cs) →
+        AllByRecursion P (if b then next ∷ put_in_order first_of_column c cs else c ∷ next ∷ cs)
     by true later = (are.0, later)
     by false later = (is, are)
 
@@ -100,7 +112,8 @@ put_long : (c : Column) (cs : List Column) → length (put_in_order first_of_col
 put_long c [] = refl
 put_long c (next ∷ cs) = by (nat_lt (first_of_column next) (first_of_column c)) (put_long c cs)
   where
-    by : (b : Bool) → length (put_in_order first_of_column c cs) ≡ suc (length cs) → length (if b then next ∷ put_in_order first_of_column c cs else c ∷ next ∷ cs) ≡ suc (suc (length cs))
+    by : (b : Bool) → length (put_in_order first_of_column c cs) ≡ suc (length cs) →
+        length (if b then next ∷ put_in_order first_of_column c cs else c ∷ next ∷ cs) ≡ suc (suc (length cs))
     by true later = ap suc later
     by false later = refl
 
@@ -109,11 +122,13 @@ order_long [] = refl
 order_long (c ∷ cs) = put_long c (printed cs) ∙ ap suc (order_long cs)
 
 -- what holds of each duty holds of each that is numbered anew, whatever its items
-again_each : (P Q : Column → Type 0) (f : Column → Column) (cs : List Column) → ((c : Column) → P c → Q (f c)) → AllByRecursion P cs → AllByRecursion Q (map f cs)
+again_each : (P Q : Column → Type 0) (f : Column → Column) (cs : List Column) → ((c : Column) → P c → Q (f c)) → AllByRecursion P cs →
+    AllByRecursion Q (map f cs)
 again_each P Q f [] step are = tt
 again_each P Q f (c ∷ cs) step are = (step c are.0, again_each P Q f cs step are.1)
 
-again_cheap : (blocks : List Column) (pieces anew : List Piece) (cs : List Column) → AreCheap cs → AreCheap (map (renumbered blocks pieces anew) cs)
+again_cheap : (blocks : List Column) (pieces anew : List Piece) (cs : List Column) → AreCheap cs →
+    AreCheap (map (renumbered blocks pieces anew) cs)
 again_cheap blocks pieces anew [] cheap = tt
 again_cheap blocks pieces anew (c ∷ cs) cheap = (cheap.0, again_cheap blocks pieces anew cs cheap.1)
 
@@ -129,7 +144,8 @@ pub record FitsTables (day : DayFacts) (blocks duties : List Column) : Type 0 wh
   pub cheap_duties : AreCheap duties
 
 -- A plan's blocks and duties in printed order have their ranges: each column keeps its class and its worth, and as many items.
-pub in_ranges : (c : Case) (blocks duties : Plan) → IsPlan (blocks_in c false) blocks.columns → IsPlan (duties_in c (pieces_in c blocks.columns) false) duties.columns →
+pub in_ranges : (c : Case) (blocks duties : Plan) → IsPlan (blocks_in c false) blocks.columns →
+    IsPlan (duties_in c (pieces_in c blocks.columns) false) duties.columns →
     length blocks.columns ≤ 3000 → length (pieces_in c blocks.columns) ≤ 3000 → AreCheap blocks.columns → AreCheap duties.columns →
     FitsTables c.day (printed blocks.columns) (duties_again c blocks duties)
 in_ranges c blocks duties block_plan duty_plan few_blocks few_pieces cheap_blocks cheap_duties =
@@ -145,23 +161,39 @@ in_ranges c blocks duties block_plan duty_plan few_blocks few_pieces cheap_block
     let Trips : Column → Type 0 = λ block. AllBelow (length c.day.trips) block.items in
     record {
       few_blocks = omega (arith, order_long blocks.columns, few_blocks);
-      pools = subst Pools (length-map c.day.params.pools (λ (pool : Pool). pool.cap)) (All-from_recursion Block (printed blocks.columns) (order_each Block blocks.columns (classes_below (blocks_in c false) blocks.columns block_plan.worths)));
-      trips = All-from_recursion Trips (printed blocks.columns) (order_each Trips blocks.columns (items_below (blocks_in c false) blocks.columns (blocks_listed (record { day = c.day; counts = false })) block_plan.worths));
+      pools = subst Pools (length-map c.day.params.pools (λ (pool : Pool). pool.cap))
+          (All-from_recursion Block (printed blocks.columns)
+          (order_each Block blocks.columns (classes_below (blocks_in c false) blocks.columns block_plan.worths)));
+      trips = All-from_recursion Trips (printed blocks.columns)
+          (order_each Trips blocks.columns
+          (items_below (blocks_in c false) blocks.columns (blocks_listed (record { day = c.day; counts = false })) block_plan.worths));
       cheap_blocks = order_cheap blocks.columns cheap_blocks;
-      few_duties = omega (arith, order_long (map f duties.columns), length-map duties.columns f, few_pieces, has_few_columns p listed duties.columns duty_plan);
+      few_duties = omega (
+        arith,
+        order_long (map f duties.columns),
+        length-map duties.columns f,
+        few_pieces,
+        has_few_columns p listed duties.columns duty_plan,
+      );
       groups = subst Groups (length-map c.day.params.groups (λ (group : Group). group.cap))
-          (All-from_recursion Class (printed (map f duties.columns)) (order_each Class (map f duties.columns) (again_each Class Class f duties.columns (λ d h. h) (classes_below p duties.columns duty_plan.worths))));
+          (All-from_recursion Class (printed (map f duties.columns))
+          (order_each Class (map f duties.columns)
+          (again_each Class Class f duties.columns (λ d h. h) (classes_below p duties.columns duty_plan.worths))));
       parts = All-from_recursion Few (printed (map f duties.columns))
           (order_each Few (map f duties.columns) (again_each Few Few f duties.columns
-          (λ d h. let same : length (map (new_piece blocks.columns old (pieces_in c (printed blocks.columns))) d.items) ≡ length d.items = length-map d.items (new_piece blocks.columns old (pieces_in c (printed blocks.columns))) in omega (arith, same, h))
+          (λ d h. let same : length (map (new_piece blocks.columns old (pieces_in c (printed blocks.columns))) d.items) ≡ length d.items =
+          length-map d.items (new_piece blocks.columns old (pieces_in c (printed blocks.columns))) in omega (arith, same, h))
           (few_items p duties.columns few_pieces listed duty_plan.worths)));
-      cheap_duties = order_cheap (map f duties.columns) (again_cheap blocks.columns old (pieces_in c (printed blocks.columns)) duties.columns cheap_duties);
+      cheap_duties = order_cheap (map f duties.columns)
+          (again_cheap blocks.columns old (pieces_in c (printed blocks.columns)) duties.columns cheap_duties);
     }
 
 -- the same of the blocks and duties that the tables say
-pub has_ranges : (c : Case) (text : PlanText) (blocks duties : Plan) → HasDuties c text blocks duties → length blocks.columns ≤ 3000 → length (pieces_in c blocks.columns) ≤ 3000 →
+pub has_ranges : (c : Case) (text : PlanText) (blocks duties : Plan) → HasDuties c text blocks duties → length blocks.columns ≤ 3000 →
+    length (pieces_in c blocks.columns) ≤ 3000 →
     AreCheap blocks.columns → AreCheap duties.columns → FitsTables c.day (printed blocks.columns) (duties_again c blocks duties)
-has_ranges c text blocks duties has few_blocks few_pieces cheap_blocks cheap_duties = in_ranges c blocks duties has.has_blocks.lawful.1 has.lawful.1 few_blocks few_pieces cheap_blocks cheap_duties
+has_ranges c text blocks duties has few_blocks few_pieces cheap_blocks cheap_duties =
+    in_ranges c blocks duties has.has_blocks.lawful.1 has.lawful.1 few_blocks few_pieces cheap_blocks cheap_duties
 
 -- few columns with few items each have few items in all
 items_few : (cs : List Column) → AllByRecursion (λ (c : Column). length c.items ≤ 3000) cs → length (all_items cs) ≤ 3000 * length cs

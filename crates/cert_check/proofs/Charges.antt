@@ -32,21 +32,31 @@ found-on : (zs : List ℤ) (from class : ℕ) → position_from is_below from zs
 found-on [] from class e = absurd (cc)
 found-on (z ∷ zs) from class e = by (found-on zs (from + 1) class) (int_lt z (pos 0)) refl e
   where
-    by : (position_from is_below (from + 1) zs ≡ Some class → (k : ℕ) × (class ≡ from + 1 + k) × IsAt zs k) → (t : Bool) → int_lt z (pos 0) ≡ t →
+    by : (position_from is_below (from + 1) zs ≡ Some class → (k : ℕ) × (class ≡ from + 1 + k) × IsAt zs k) →
+        (t : Bool) → int_lt z (pos 0) ≡ t →
         (if t then Some from else position_from is_below (from + 1) zs) ≡ Some class → (k : ℕ) × (class ≡ from + k) × IsAt (z ∷ zs) k
     by later true test e =
         let same : from ≡ class = cc in
         let low : z <ℤ pos 0 = grind (arith, ints) in
         (0, omega (arith, same), record { there = omega arith; below = low; first = λ k h. absurd (omega (arith, h)) })
     by later false test e =
-        let (k, same, at) = later e in
-        (suc k, omega (arith, same), record { there = (let h = at.there in omega (arith, h)); below = at.below; first = more-charged z zs k test at.first })
+        let (k, same, at) = later e in (
+          suc k,
+          omega (arith, same),
+          record {
+            there = (let h = at.there in omega (arith, h));
+            below = at.below;
+            first =
+                more-charged z zs k test at.first;
+          },
+        )
 
 none-on : (zs : List ℤ) (from : ℕ) → position_from is_below from zs ≡ None → Charged zs (length zs)
 none-on [] from e = λ class low. absurd (omega (arith, low))
 none-on (z ∷ zs) from e = by (none-on zs (from + 1)) (int_lt z (pos 0)) refl e
   where
-    by : (position_from is_below (from + 1) zs ≡ None → Charged zs (length zs)) → (t : Bool) → int_lt z (pos 0) ≡ t → (if t then Some from else position_from is_below (from + 1) zs) ≡ None → Charged (z ∷ zs) (length (z ∷ zs))
+    by : (position_from is_below (from + 1) zs ≡ None → Charged zs (length zs)) → (t : Bool) → int_lt z (pos 0) ≡ t →
+        (if t then Some from else position_from is_below (from + 1) zs) ≡ None → Charged (z ∷ zs) (length (z ∷ zs))
     by later true test e = absurd (cc)
     by later false test e = more-charged z zs (length zs) test (later e)
 
@@ -64,10 +74,13 @@ none-negative part e = none-on part.class_prices 0 e
 few : (numbers : List ℕ) (prices : List ℤ) → length numbers ≤ 32 → length prices ≡ length numbers → length prices ≤ 32
 few numbers prices low same = omega (arith, low, same)
 
-pub few-classes : (day : DayFacts) (pieces : ℕ) (parts : List CertPart) → length day.params.pools ≤ 32 → length day.params.groups ≤ 32 → AreParts (shape_of day pieces) parts → HaveFewClasses parts
+pub few-classes : (day : DayFacts) (pieces : ℕ) (parts : List CertPart) → length day.params.pools ≤ 32 → length day.params.groups ≤ 32 →
+    AreParts (shape_of day pieces) parts → HaveFewClasses parts
 few-classes day pieces (one ∷ two ∷ three ∷ four ∷ []) pools groups are =
-    let low : length (map (λ (pool : Pool). pool.number) day.params.pools) ≤ 32 = omega (arith, pools, length-map day.params.pools (λ (pool : Pool). pool.number)) in
-    let low' : length (map (λ (group : Group). group.number) day.params.groups) ≤ 32 = omega (arith, groups, length-map day.params.groups (λ (group : Group). group.number)) in (
+    let low : length (map (λ (pool : Pool). pool.number) day.params.pools) ≤ 32 =
+    omega (arith, pools, length-map day.params.pools (λ (pool : Pool). pool.number)) in
+    let low' : length (map (λ (group : Group). group.number) day.params.groups) ≤ 32 =
+    omega (arith, groups, length-map day.params.groups (λ (group : Group). group.number)) in (
       few (map (λ (pool : Pool). pool.number) day.params.pools) one.class_prices low are.0.part_is.class_prices,
       (
         few (map (λ (pool : Pool). pool.number) day.params.pools) two.class_prices low are.1.part_is.class_prices,

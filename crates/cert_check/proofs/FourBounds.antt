@@ -46,7 +46,8 @@ entries-long : {A B : Type 0} (f : ℕ → B → A) (row : ℕ) (xs : List B) �
 entries-long f row [] = refl
 entries-long f row (x ∷ xs) = ap suc (entries-long f (row + 1) xs)
 
-faults-rest : {A : Type 0} (t : List ℕ) (k : ℕ) (o : Option A) (es : List (Option A)) → entry_faults t k (o ∷ es) ≡ [] → (is_some o ≡ true) × (entry_faults t (k + 1) es ≡ [])
+faults-rest : {A : Type 0} (t : List ℕ) (k : ℕ) (o : Option A) (es : List (Option A)) → entry_faults t k (o ∷ es) ≡ [] →
+    (is_some o ≡ true) × (entry_faults t (k + 1) es ≡ [])
 faults-rest t k None es none = absurd (cc)
 faults-rest t k (Some m) es none = (refl, none)
 
@@ -56,12 +57,14 @@ early row [] is = absurd (cc)
 early row (art ∷ []) is = absurd (cc)
 early row (art ∷ bound ∷ []) is = by (nat_lt row 4) refl is
   where
-    by : (t : Bool) → t ≡ nat_lt row 4 → is_some (option_and_then (λ own. not_below bound) (if t then own_number row art else None)) ≡ true → row < 4
+    by : (t : Bool) → t ≡ nat_lt row 4 →
+        is_some (option_and_then (λ own. not_below bound) (if t then own_number row art else None)) ≡ true → row < 4
     by true test is = grind (arith, nat_tests)
     by false test is = absurd (cc)
 early row (art ∷ bound ∷ more ∷ rest) is = absurd (cc)
 
-at-most : (t : List ℕ) (k row : ℕ) (rows : List (List (Option ℤ))) → row ≤ 4 → entry_faults t k (entries_from bound_entry row rows) ≡ [] → row + length rows ≤ 4
+at-most : (t : List ℕ) (k row : ℕ) (rows : List (List (Option ℤ))) → row ≤ 4 → entry_faults t k (entries_from bound_entry row rows) ≡ [] →
+    row + length rows ≤ 4
 at-most t k row [] low none = omega arith
 at-most t k row (zs ∷ rows) low none =
     let (is, rest) = faults-rest t k (bound_entry row zs) (entries_from bound_entry (row + 1) rows) none in
@@ -81,6 +84,7 @@ four-bounds day tables text read =
     let rows = rows_of bounds tables in
     let most = at-most bounds.name 1 0 rows (omega arith) are.right in
     let least = at-least (length rows) (place bounds.name 0) are.enough in
-    let same : length (given_of (bound_entries tables)) ≡ length rows = given-long bounds.name 1 (bound_entries tables) are.right ∙ entries-long bound_entry 0 rows in
+    let same : length (given_of (bound_entries tables)) ≡ length rows =
+    given-long bounds.name 1 (bound_entries tables) are.right ∙ entries-long bound_entry 0 rows in
     let given : length (given_of (bound_entries tables)) ≡ length text.bounds = ap (λ (bs : List ℕ). length bs) are.given in
     omega (arith, most, least, same, given)

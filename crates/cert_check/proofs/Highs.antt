@@ -39,7 +39,8 @@ at-least : (zs : List ℤ) → ((class : ℕ) → class < length zs → pos 0 �
 at-least [] charged = tt
 at-least (z ∷ zs) charged = (charged zero (omega arith), at-least zs (λ class low. charged (suc class) (omega (arith, low))))
 
-bounding : (items : ℕ) (numbers caps : List ℕ) (part : CertPart) → items ≤ 3000 → length caps ≤ 32 → length numbers ≡ length caps → IsPart items (length numbers) part →
+bounding : (items : ℕ) (numbers caps : List ℕ) (part : CertPart) → items ≤ 3000 → length caps ≤ 32 → length numbers ≡ length caps →
+    IsPart items (length numbers) part →
     AreCharged part (length part.class_prices) → IsBounding caps part
 bounding items numbers caps part few classes same is charged = record {
   few = (let prices = is.prices in omega (arith, few, prices));
@@ -50,7 +51,8 @@ bounding items numbers caps part few classes same is charged = record {
 }
 
 -- The four parts of a certificate whose class prices are at least 0 have the numbers of which bounds are made.
-pub parts-bounding : (day : DayFacts) (pieces : ℕ) (p : FourParts) → length day.trips ≤ 3000 → pieces ≤ 3000 → length day.params.pools ≤ 32 → length day.params.groups ≤ 32 →
+pub parts-bounding : (day : DayFacts) (pieces : ℕ) (p : FourParts) → length day.trips ≤ 3000 → pieces ≤ 3000 →
+    length day.params.pools ≤ 32 → length day.params.groups ≤ 32 →
     AreParts (shape_of day pieces) (listed p) → AllCharged (listed p) → AreBounding (pool_caps day) (group_caps day) p
 parts-bounding day pieces p few few_pieces pools groups are charged =
     let numbers = map (λ (pool : Pool). pool.number) day.params.pools in
@@ -62,18 +64,23 @@ parts-bounding day pieces p few few_pieces pools groups are charged =
     let low : length (pool_caps day) ≤ 32 = omega (arith, caps, pools) in
     let low' : length (group_caps day) ≤ 32 = omega (arith, caps', groups) in
     record {
-      block_number = bounding (length day.trips) numbers (pool_caps day) p.block_number.now few low (long ∙ sym caps) are.0.part_is charged.0;
+      block_number = bounding (length day.trips) numbers (pool_caps day) p.block_number.now few low
+          (long ∙ sym caps) are.0.part_is charged.0;
       block_cost = bounding (length day.trips) numbers (pool_caps day) p.block_cost.now few low (long ∙ sym caps) are.1.part_is charged.1.0;
-      duty_number = bounding pieces numbers' (group_caps day) p.duty_number.now few_pieces low' (long' ∙ sym caps') are.2.part_is charged.1.1.0;
-      duty_cost = bounding pieces numbers' (group_caps day) p.duty_cost.now few_pieces low' (long' ∙ sym caps') are.3.part_is charged.1.1.1.0;
+      duty_number = bounding pieces numbers' (group_caps day) p.duty_number.now few_pieces low' (long' ∙ sym caps')
+          are.2.part_is charged.1.1.0;
+      duty_cost = bounding pieces numbers' (group_caps day) p.duty_cost.now few_pieces low' (long' ∙ sym caps')
+          are.3.part_is charged.1.1.1.0;
     }
 
 -- no bound is too high
-pub all-low : (c : Case) (blocks : Plan) (bounds : List ℕ) (p : FourParts) → AreLow bounds (pool_caps c.day) (group_caps c.day) p → AreShown c blocks bounds zero (listed p)
+pub all-low : (c : Case) (blocks : Plan) (bounds : List ℕ) (p : FourParts) → AreLow bounds (pool_caps c.day) (group_caps c.day) p →
+    AreShown c blocks bounds zero (listed p)
 all-low c blocks bounds p low = (low.0, (low.1, (low.2, (low.3, tt))))
 
 -- the first that is
-pub first-high : (c : Case) (blocks : Plan) (bounds : List ℕ) (p : FourParts) (found : TooHigh) → IsFirstHigh bounds (pool_caps c.day) (group_caps c.day) p found →
+pub first-high : (c : Case) (blocks : Plan) (bounds : List ℕ) (p : FourParts) (found : TooHigh) →
+    IsFirstHigh bounds (pool_caps c.day) (group_caps c.day) p found →
     IsFirstTooHigh c blocks bounds zero (listed p) found.pass found.printed found.shown
 first-high c blocks bounds p found (inl one) = inr one
 first-high c blocks bounds p found (inr (low, inl two)) = inl (low, inr two)

@@ -11,5 +11,6 @@ use Rattle.cert_check.specs.Reasons.{duties_again, tables_in}
 
 -- the tables that are made of it
 pub tables_made : (c : Case) (text : PlanText) (blocks duties : Plan) (answer : Answer) (made : List Table) →
-    answer ≡ answer_in c (printed blocks.columns) (duties_again c blocks duties) text.bounds → made ≡ answer_tables c.day c.rec_frt answer → made ≡ tables_in c text blocks duties
+    answer ≡ answer_in c (printed blocks.columns) (duties_again c blocks duties) text.bounds → made ≡ answer_tables c.day c.rec_frt answer →
+    made ≡ tables_in c text blocks duties
 tables_made c text blocks duties answer made answer_is made_are = made_are ∙ ap (λ (a : Answer). answer_tables c.day c.rec_frt a) answer_is

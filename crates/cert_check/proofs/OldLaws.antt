@@ -1,6 +1,6 @@
--- The answer on a plan and its certificate says what is answered of the plan by itself. Where its blocks are a plan, they are the lists that
--- the tables say but for their worths, and pieces are cut by classes and trips alone: so both see the same pieces and the same duties. A
--- trip, a block or a piece is then against the plan in both, and every later reason, as a yes, says that none is.
+-- The answer on a plan and its certificate says what is answered of the plan by itself. Where its blocks are a plan, they are the lists
+-- that the tables say but for their worths, and pieces are cut by classes and trips alone: so both see the same pieces and the same
+-- duties. A trip, a block or a piece is then against the plan in both, and every later reason, as a yes, says that none is.
 use Rattle.std.proofs.Common.{◌≡◌, ℕ, ◌+◌, ◌++◌, false, List, [], ◌∷◌, length, map, refl, sym, ap, ◌∙◌, subst}
 use Rattle.std.specs.Prelude.{Some, slice_get}
 use Rattle.plan_core.specs.declared.types.Piece.{Piece}
@@ -20,7 +20,8 @@ use Rattle.cert_check.specs.Old.{AnswersSayOld, HasLawfulBlocks, HasTripsOnce, I
 use Rattle.cert_check.specs.Reasons.{HasBlocks, HasDuties}
 
 -- lists that are the same but for their worths have the same pieces
-same-cut : (day : DayFacts) (number : ℕ) (as' bs : List Column) → HaveSameLists as' bs → pieces_by_block day number as' ≡ pieces_by_block day number bs
+same-cut : (day : DayFacts) (number : ℕ) (as' bs : List Column) → HaveSameLists as' bs →
+    pieces_by_block day number as' ≡ pieces_by_block day number bs
 same-cut day number [] [] h = refl
 same-cut day number [] (b ∷ bs) h = absurd h
 same-cut day number (a ∷ as') [] h = absurd h
@@ -62,7 +63,8 @@ good c text blocks has once =
 good-duties : (c : Case) (text : PlanText) (blocks duties : Plan) → HasDuties c text blocks duties → IsGood c
 good-duties c text blocks duties has =
     let lists = duty_lists c blocks.columns text in
-    good c text blocks has.has_blocks (λ item below. ap (times item) (same-items lists duties.columns has.lawful.0) ∙ has.lawful.1.once item below)
+    good c text blocks has.has_blocks (λ item below. ap (times item) (same-items lists duties.columns has.lawful.0)
+    ∙ has.lawful.1.once item below)
 
 pub says-old : (c : Case) → AnswersSayOld c
 says-old c (Yes vehicles block_cost duty_count duty_cost) (text, blocks, duties, cert, accepted, one, two, three, four) =
@@ -74,14 +76,22 @@ says-old c (No (reasons.PoolOver pool used cap)) is = tt
 says-old c (No (reasons.PieceTimes block index times)) (text, blocks, has, item, piece, at, block_is, index_is, verdict) =
     let pieces = same-pieces c text blocks has in
     let P : List Piece → Type 0 = λ l. slice_get l item ≡ Some piece in
-    let Q : List Piece → Type 0 = λ l. IsFirstTimes (length l) (map (duty_list c.day.params.groups l) text.duties) item times in
-    (text, has.said, (trips-once c text blocks has, lawful-blocks c text blocks has, (item, piece, subst P pieces at, block_is, index_is, subst Q pieces verdict)))
+    let Q : List Piece → Type 0 = λ l. IsFirstTimes (length l) (map (duty_list c.day.params.groups l) text.duties) item times in (
+      text,
+      has.said,
+      (
+        trips-once c text blocks has,
+        lawful-blocks c text blocks has,
+        (item, piece, subst P pieces at, block_is, index_is, subst Q pieces verdict),
+      ),
+    )
 says-old c (No (reasons.DutyUnlawful duty)) (text, blocks, has, spot, duty_is, verdict) = good c text blocks has verdict.0
 says-old c (No (reasons.GroupOver group used cap)) (text, blocks, has, class, at, cap_is, verdict) = good c text blocks has verdict.0
 says-old c (No (reasons.PlanDiffers table row)) (text, blocks, duties, has, is) = good-duties c text blocks duties has
 says-old c (No (reasons.CertForm at)) (text, blocks, duties, has, said) = good-duties c text blocks duties has.has_duties
 says-old c (No (reasons.NegativeClassPrice pass class)) (text, blocks, duties, cert, has, is) =
     good-duties c text blocks duties has.has_tables.has_duties
-says-old c (No (reasons.Uncovered pass gap)) (text, blocks, duties, cert, has, is) = good-duties c text blocks duties has.has_cert.has_tables.has_duties
+says-old c (No (reasons.Uncovered pass gap)) (text, blocks, duties, cert, has, is) =
+    good-duties c text blocks duties has.has_cert.has_tables.has_duties
 says-old c (No (reasons.BoundTooHigh pass print show)) (text, blocks, duties, cert, has, is) =
     good-duties c text blocks duties has.is_charged.has_cert.has_tables.has_duties

@@ -1,6 +1,7 @@
 -- What is known of the lists of an earlier plan. Each block has a worth, so it is not empty and its class and trips are there; each trip
 -- stands once, so there are no more blocks, and no more trips in all of them, than trips of the day. The number of places does not enter:
--- were there as many places in each class as there are blocks, the blocks with their worths would be a plan, and a plan is known to be short.
+-- were there as many places in each class as there are blocks, the blocks with their worths would be a plan, and a plan is known to be
+-- short.
 use Rattle.std.proofs.Common.{◌≡◌, ℕ, ◌<◌, ◌≤◌, suc, zero, false, IsTrue, All, List, [], ◌∷◌, length, map, refl, sym, ap, ◌∙◌, subst, arith}
 use Rattle.std.proofs.lemmas.List.{length-map}
 use Rattle.std.proofs.lemmas.List.Elements.{All-cons, All-nil}
@@ -33,7 +34,8 @@ some-worth None worth h = absurd (cc)
 some-worth (Some w) worth h = refl
 
 -- blocks of their pools have worths
-pub old-worths : (day : DayFacts) (columns : List Column) → HaveWorths (blocks_of day false) columns (length columns) → All (HasWorth day) columns
+pub old-worths : (day : DayFacts) (columns : List Column) → HaveWorths (blocks_of day false) columns (length columns) →
+    All (HasWorth day) columns
 old-worths day [] h = All-nil (HasWorth day)
 old-worths day (c ∷ cs) h =
     let has = h 0 c (omega arith) refl in
@@ -56,7 +58,8 @@ old-lists day (c ∷ cs) h =
 abbrev with_places : Problem → ℕ → Problem
 with_places p most = record { items = p.items; caps = map (λ (cap : ℕ). most) p.caps; worth = p.worth }
 
-places-at : (most : ℕ) (caps : List ℕ) (class : ℕ) → class < length (map (λ (cap : ℕ). most) caps) → slice_index (map (λ (cap : ℕ). most) caps) class ≡ most
+places-at : (most : ℕ) (caps : List ℕ) (class : ℕ) → class < length (map (λ (cap : ℕ). most) caps) →
+    slice_index (map (λ (cap : ℕ). most) caps) class ≡ most
 places-at most [] class below = absurd (omega arith)
 places-at most (cap ∷ caps) zero below = refl
 places-at most (cap ∷ caps) (suc class) below = places-at most caps class (omega arith)
@@ -88,7 +91,8 @@ pub record AreFew (p : Problem) (lists : List Column) : Type 0 where
   pub few_lists : length lists ≤ p.items
   pub few_items : length (all_items lists) ≤ p.items
 
-pub are-few : (p : Problem) (lists : List Column) → HasListedColumns p → StandOnce p lists → HaveWorths p lists (length lists) → AreFew p lists
+pub are-few : (p : Problem) (lists : List Column) → HasListedColumns p → StandOnce p lists →
+    HaveWorths p lists (length lists) → AreFew p lists
 are-few p lists listed once worths =
     let most = length lists in
     let q = with_places p most in
@@ -118,14 +122,17 @@ old-few day columns few once worths =
     (omega arith, omega arith)
 
 -- what a step asks for holds where it finds no reason
-pub step-passed : (day : DayFacts) (text : PlanText) (passed : Type 0) (found : Option Reason) → IsStepOf day text passed found → found ≡ None → passed
+pub step-passed : (day : DayFacts) (text : PlanText) (passed : Type 0) (found : Option Reason) →
+    IsStepOf day text passed found → found ≡ None → passed
 step-passed day text passed None step none = step
 step-passed day text passed (Some reason) step none = absurd (cc)
 
 -- what is answered of what the tables say is answered of the tables
-of-text : (day : DayFacts) (plan : List Table) (text : PlanText) (answer : OldPlan) → read_of day plan ≡ Ok text → IsTextAnswer day text answer →
+of-text : (day : DayFacts) (plan : List Table) (text : PlanText) (answer : OldPlan) → read_of day plan ≡ Ok text →
+    IsTextAnswer day text answer →
     IsOldAnswer day plan answer
-of-text day plan text (Good said) is (same, good) = (is ∙ ap (λ (t : PlanText). Ok t) same, subst (λ (t : PlanText). IsOldPlan day t) same good)
+of-text day plan text (Good said) is (same, good) =
+    (is ∙ ap (λ (t : PlanText). Ok t) same, subst (λ (t : PlanText). IsOldPlan day t) same good)
 of-text day plan text (Bad (reasons.TripTimes fid times)) is against = (text, is, against)
 of-text day plan text (Bad (reasons.BlockUnlawful block)) is against = (text, is, against)
 of-text day plan text (Bad (reasons.PieceTimes block index times)) is against = (text, is, against)

@@ -15,7 +15,8 @@ use Rattle.cert_check.specs.Judging.{same_worths}
 one-column : (a b : Column) → a.class ≡ b.class → a.items ≡ b.items → a.worth ≡ b.worth → a ≡ b
 one-column a b class items worth =
     let make : ℕ → ℕ → List ℕ → Column = λ c w is. record { class = c; worth = w; items = is } in
-    ap (λ (c : ℕ). make c a.worth a.items) class ∙ (ap (λ (w : ℕ). make b.class w a.items) worth ∙ ap (λ (is : List ℕ). make b.class b.worth is) items)
+    ap (λ (c : ℕ). make c a.worth a.items) class
+    ∙ (ap (λ (w : ℕ). make b.class w a.items) worth ∙ ap (λ (is : List ℕ). make b.class b.worth is) items)
 
 same-all : (as' bs : List Column) → HaveSameLists as' bs → same_worths as' bs ≡ true → as' ≡ bs
 same-all [] [] same worths = refl
@@ -36,14 +37,17 @@ own-worths [] = refl
 own-worths (c ∷ cs) = and_from (nat_eq c.worth c.worth) (same_worths cs cs) (eq-eqb c.worth c.worth refl) (own-worths cs)
 
 -- a plan that is found with the worths that the lists have
-pub plan-found : (p : Problem) (cs : List Column) (found : Plan) → IsVerdict p cs (Lawful found) → same_worths cs found.columns ≡ true → IsPlan p cs
+pub plan-found : (p : Problem) (cs : List Column) (found : Plan) → IsVerdict p cs (Lawful found) →
+    same_worths cs found.columns ≡ true → IsPlan p cs
 plan-found p cs found is worths = subst (IsPlan p) (sym (same-all cs found.columns is.0 worths)) is.1
 
 -- lists that are a plan are found as themselves
-pub itself : (p : Problem) (cs : List Column) (verdict : PlanVerdict) → IsVerdict p cs verdict → IsPlan p cs → verdict ≡ Lawful (record { columns = cs })
+pub itself : (p : Problem) (cs : List Column) (verdict : PlanVerdict) → IsVerdict p cs verdict → IsPlan p cs →
+    verdict ≡ Lawful (record { columns = cs })
 itself p cs verdict is plan = plans-found p cs cs verdict (own-lists cs) plan is
 
-pub other-worths : (p : Problem) (cs : List Column) (found : Plan) → IsVerdict p cs (Lawful found) → same_worths cs found.columns ≡ false → IsPlan p cs → ⊥
+pub other-worths : (p : Problem) (cs : List Column) (found : Plan) → IsVerdict p cs (Lawful found) →
+    same_worths cs found.columns ≡ false → IsPlan p cs → ⊥
 other-worths p cs found is worths plan =
     let same : Lawful found ≡ Lawful (record { columns = cs }) = itself p cs (Lawful found) is plan in
     let plans : found ≡ record { columns = cs } = cc in

@@ -17,7 +17,8 @@ pub record IsCertified (c : Case) (vehicles block_cost duty_count duty_cost : �
   pub blocks : Plan
   pub duties : Plan
   pub blocks_shown : IsShown (blocks_in c false) (printed blocks.columns) (slice_index text.bounds 0) (slice_index text.bounds 1)
-  pub duties_shown : IsShown (duties_in c (printed_pieces c blocks) false) (duties_again c blocks duties) (slice_index text.bounds 2) (slice_index text.bounds 3)
+  pub duties_shown : IsShown (duties_in c (printed_pieces c blocks) false) (duties_again c blocks duties) (slice_index text.bounds 2)
+      (slice_index text.bounds 3)
   pub said : text_in c ≡ Ok text
   pub tables : difference_in c text blocks duties ≡ None
   pub vehicles_are : vehicles ≡ length blocks.columns
@@ -27,9 +28,11 @@ pub record IsCertified (c : Case) (vehicles block_cost duty_count duty_cost : �
 
 -- a yes implies it
 abbrev pub YesIsCertified : Case → Type 0
-YesIsCertified c = (vehicles block_cost duty_count duty_cost : ℕ) → IsAnswer c (Yes vehicles block_cost duty_count duty_cost) → IsCertified c vehicles block_cost duty_count duty_cost
+YesIsCertified c = (vehicles block_cost duty_count duty_cost : ℕ) → IsAnswer c (Yes vehicles block_cost duty_count duty_cost) →
+    IsCertified c vehicles block_cost duty_count duty_cost
 
 -- where a plan and its certificate are accepted, no reason holds against them: the answer is a yes
 abbrev pub AcceptedHasNoReason : Case → Type 0
 AcceptedHasNoReason c =
-    (text : PlanText) (blocks duties : Plan) (cert : Cert) → IsAccepted c text blocks duties cert → (reason : Reason) → IsReason c reason → ⊥
+    (text : PlanText) (blocks duties : Plan) (cert : Cert) → IsAccepted c text blocks duties cert →
+    (reason : Reason) → IsReason c reason → ⊥

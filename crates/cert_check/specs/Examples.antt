@@ -1,4 +1,5 @@
--- The pieces and duties of an earlier plan of a day with two trips, from A to B and back, one pool at D and drivers relieved at B, computed.
+-- The pieces and duties of an earlier plan of a day with two trips, from A to B and back, one pool at D and drivers relieved at B,
+-- computed.
 use Rattle.std.specs.Prelude.{◌≡◌, ℕ, pos, false, List, [], ◌∷◌, None, Some, refl}
 use Rattle.plan_core.specs.declared.types.Piece.{Piece}
 use Rattle.plan_core.specs.declared.types.Point.{Point}
@@ -18,7 +19,8 @@ abbrev point : ℕ → ℕ → Point
 point typ nr = record { typ = typ; nr = nr }
 
 abbrev trip : ℕ → Point → ℕ → Point → ℕ → Trip
-trip fid from begin to end = record { fid = fid; line = 1; from = from; begin = record { 0 = pos begin }; to = to; end = record { 0 = pos end } }
+trip fid from begin to end =
+    record { fid = fid; line = 1; from = from; begin = record { 0 = pos begin }; to = to; end = record { 0 = pos end } }
 
 -- the pool has one vehicle
 abbrev pool : Pool
@@ -36,8 +38,17 @@ day = record {
   kind = record { version = 1; kind = 1; day = 20260302; weekday = 1 };
   rows = 0 ∷ 1 ∷ [];
   trips = trip 1 (point 1 1) 28800 (point 1 2) 32400 ∷ trip 2 (point 1 2) 33000 (point 1 1) 36600 ∷ [];
-  params = record { settings = record { area = 1; group = 1; turn = 300; max_wait = 7200; handover = 300 }; pools = pool ∷ []; groups = group ∷ []; admissions = []; reliefs = point 1 2 ∷ []; ways = [] };
-  deads = (ends (point 2 9) (point 1 1), 600) ∷ (ends (point 1 1) (point 2 9), 600) ∷ (ends (point 2 9) (point 1 2), 900) ∷ (ends (point 1 2) (point 2 9), 900) ∷ [];
+  params = record {
+    settings = record { area = 1; group = 1; turn = 300; max_wait = 7200; handover = 300 };
+    pools = pool ∷ [];
+    groups =
+        group ∷ [];
+    admissions = [];
+    reliefs = point 1 2 ∷ [];
+    ways = [];
+  };
+  deads = (ends (point 2 9) (point 1 1), 600) ∷ (ends (point 1 1) (point 2 9), 600) ∷ (ends (point 2 9) (point 1 2), 900)
+      ∷ (ends (point 1 2) (point 2 9), 900) ∷ [];
 }
 
 abbrev block : List ℕ → Column
@@ -54,13 +65,23 @@ part block index = (block, index)
 
 abbrev piece : ℕ → ℕ → Point → ℕ → Point → ℕ → ℕ → Piece
 piece block index from begin to end driving =
-    record { block = block; index = index; from = from; begin = record { 0 = pos begin }; to = to; end = record { 0 = pos end }; driving = driving }
+    record {
+      block = block;
+      index = index;
+      from = from;
+      begin = record { 0 = pos begin };
+      to = to;
+      end =
+          record { 0 = pos end };
+      driving = driving;
+    }
 
 -- both trips in one block, which is cut at B, and one duty with both pieces
 abbrev whole : PlanText
 whole = text (block (0 ∷ 1 ∷ []) ∷ []) (duty (part 1 1 ∷ part 1 2 ∷ []) ∷ [])
 
-whole_pieces : old_pieces day whole ≡ piece 1 1 (point 2 9) 28200 (point 1 2) 32400 4200 ∷ piece 1 2 (point 1 2) 33000 (point 2 9) 37200 4200 ∷ []
+whole_pieces : old_pieces day whole ≡ piece 1 1 (point 2 9) 28200 (point 1 2) 32400 4200
+    ∷ piece 1 2 (point 1 2) 33000 (point 2 9) 37200 4200 ∷ []
 whole_pieces = refl
 
 whole_duties : old_duties day whole ≡ block (0 ∷ 1 ∷ []) ∷ []
@@ -83,7 +104,8 @@ second_there = refl
 abbrev two : PlanText
 two = text (block (1 ∷ []) ∷ block (0 ∷ []) ∷ []) (duty (part 1 1 ∷ []) ∷ duty (part 2 1 ∷ part 1 1 ∷ []) ∷ [])
 
-two_pieces : old_pieces day two ≡ piece 2 1 (point 2 9) 28200 (point 2 9) 33300 5100 ∷ piece 1 1 (point 2 9) 32100 (point 2 9) 37200 5100 ∷ []
+two_pieces : old_pieces day two ≡ piece 2 1 (point 2 9) 28200 (point 2 9) 33300 5100
+    ∷ piece 1 1 (point 2 9) 32100 (point 2 9) 37200 5100 ∷ []
 two_pieces = refl
 
 -- the pieces are numbered by their begins

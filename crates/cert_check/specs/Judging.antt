@@ -91,8 +91,10 @@ abbrev pub duties_over : Case → List Piece → Bool → DutyFacts
 duties_over c pieces counts = record { pieces = pieces; params = c.day.params; counts = counts }
 
 abbrev pub IsDutyGap : Case → List Piece → Bool → CertPart → Option Gap → Type 0
-IsDutyGap c pieces counts part None = IsMarkCover (duty_marking (duties_over c pieces counts) part.prices.items) part.cover.marks part.class_prices
-IsDutyGap c pieces counts part (Some gap) = IsFirstGap (duty_marking (duties_over c pieces counts) part.prices.items) part.cover.marks part.class_prices gap
+IsDutyGap c pieces counts part None =
+    IsMarkCover (duty_marking (duties_over c pieces counts) part.prices.items) part.cover.marks part.class_prices
+IsDutyGap c pieces counts part (Some gap) =
+    IsFirstGap (duty_marking (duties_over c pieces counts) part.prices.items) part.cover.marks part.class_prices gap
 
 -- where the piece of a block and index stands, one past all where there is none
 abbrev pub is_piece_of : ℕ → ℕ → Piece → Bool
@@ -138,7 +140,16 @@ abbrev pub new_number : List Column → ℕ → ℕ
 new_number blocks number = place_of_first (printed blocks) (first_of_block blocks number) + 1
 
 abbrev no_piece : Piece
-no_piece = record { block = 0; index = 0; from = record { typ = 0; nr = 0 }; begin = record { 0 = pos 0 }; to = record { typ = 0; nr = 0 }; end = record { 0 = pos 0 }; driving = 0 }
+no_piece = record {
+  block = 0;
+  index = 0;
+  from = record { typ = 0; nr = 0 };
+  begin = record { 0 = pos 0 };
+  to =
+      record { typ = 0; nr = 0 };
+  end = record { 0 = pos 0 };
+  driving = 0;
+}
 
 -- the number that a piece has after the blocks are put in printed order and cut anew
 abbrev pub new_piece : List Column → List Piece → List Piece → ℕ → ℕ
@@ -147,7 +158,8 @@ new_piece blocks pieces anew item =
     piece_number anew (new_number blocks p.block) p.index
 
 abbrev pub renumbered : List Column → List Piece → List Piece → Column → Column
-renumbered blocks pieces anew duty = record { class = duty.class; worth = duty.worth; items = map (new_piece blocks pieces anew) duty.items }
+renumbered blocks pieces anew duty =
+    record { class = duty.class; worth = duty.worth; items = map (new_piece blocks pieces anew) duty.items }
 
 -- duties in printed order, over the pieces of blocks in printed order
 abbrev pub printed_duties : Case → List Column → List Column → List Column

@@ -103,7 +103,8 @@ abbrev pub IsGood : Case → Type 0
 IsGood c = (text : PlanText) × IsOldAnswer c.day c.plan (Good text)
 
 -- What is answered of the tables of a plan by themselves, where the plan and its certificate have this answer: the same where they have no
--- form, or a trip, a block or a piece is against them; nothing is said where a pool has too many blocks; and else they are a plan of the day.
+-- form, or a trip, a block or a piece is against them; nothing is said where a pool has too many blocks; and else they are a plan of the
+-- day.
 abbrev pub IsOldOf : Case → Answered → Type 0
 IsOldOf c (No (reasons.PlanForm table row)) = IsOldAnswer c.day c.plan (Bad (reasons.PlanForm table row))
 IsOldOf c (No (reasons.TripTimes fid times)) = IsOldAnswer c.day c.plan (Bad (reasons.TripTimes fid times))

@@ -109,7 +109,8 @@ NoGaps c blocks pass (part ∷ parts) = IsGapOf c blocks pass part None × NoGap
 abbrev pub IsFirstUncovered : Case → Plan → ℕ → List CertPart → ℕ → Gap → Type 0
 IsFirstUncovered c blocks from [] pass gap = ⊥
 IsFirstUncovered c blocks from (part ∷ parts) pass gap =
-    (IsGapOf c blocks from part None × IsFirstUncovered c blocks (suc from) parts pass gap) ⊎ ((pass ≡ suc from) × IsGapOf c blocks from part (Some gap))
+    (IsGapOf c blocks from part None × IsFirstUncovered c blocks (suc from) parts pass gap) ⊎
+    ((pass ≡ suc from) × IsGapOf c blocks from part (Some gap))
 
 pub record IsCovered (c : Case) (text : PlanText) (blocks duties : Plan) (cert : Cert) : Type 0 where
   pub is_charged : IsCharged c text blocks duties cert
@@ -125,7 +126,8 @@ shown_by c blocks pass part = bound_of part.prices.items part.class_prices (caps
 
 abbrev pub AreShown : Case → Plan → List ℕ → ℕ → List CertPart → Type 0
 AreShown c blocks bounds pass [] = Unit {0}
-AreShown c blocks bounds pass (part ∷ parts) = (slice_index bounds pass ≤ shown_by c blocks pass part) × AreShown c blocks bounds (suc pass) parts
+AreShown c blocks bounds pass (part ∷ parts) =
+    (slice_index bounds pass ≤ shown_by c blocks pass part) × AreShown c blocks bounds (suc pass) parts
 
 -- a printed bound is higher than the one that a part shows
 pub record IsTooHigh (print show bound shown : ℕ) : Type 0 where
@@ -158,15 +160,20 @@ IsTableReason c text blocks duties table row =
 abbrev pub IsReason : Case → Reason → Type 0
 IsReason c (reasons.PlanForm table row) = (text_in c) ≡ Err (faults.Form table row)
 IsReason c (reasons.TripTimes fid times) =
-    (text : PlanText) × (text_in c ≡ Ok text) × (item : ℕ) × (slice_get (fids_in c) item ≡ Some fid) × IsVerdict (blocks_in c false) text.blocks.columns (verdicts.Times item times)
+    (text : PlanText) × (text_in c ≡ Ok text) × (item : ℕ) × (slice_get (fids_in c) item ≡ Some fid)
+    × IsVerdict (blocks_in c false) text.blocks.columns (verdicts.Times item times)
 IsReason c (reasons.BlockUnlawful block) =
-    (text : PlanText) × (text_in c ≡ Ok text) × (spot : ℕ) × (block ≡ spot + 1) × IsVerdict (blocks_in c false) text.blocks.columns (verdicts.Unlawful spot)
+    (text : PlanText) × (text_in c ≡ Ok text) × (spot : ℕ) × (block ≡ spot + 1)
+    × IsVerdict (blocks_in c false) text.blocks.columns (verdicts.Unlawful spot)
 IsReason c (reasons.PoolOver pool used cap) =
-    (text : PlanText) × (text_in c ≡ Ok text) × (class : ℕ) × (slice_get (pools_in c) class ≡ Some pool) × (cap ≡ slice_index (blocks_in c false).caps class) ×
+    (text : PlanText) × (text_in c ≡ Ok text) × (class : ℕ) × (slice_get (pools_in c) class ≡ Some pool)
+    × (cap ≡ slice_index (blocks_in c false).caps class) ×
     IsVerdict (blocks_in c false) text.blocks.columns (verdicts.Over class used)
 IsReason c (reasons.PieceTimes block index times) =
-    (text : PlanText) × (blocks : Plan) × HasBlocks c text blocks × (item : ℕ) × (piece : Piece) × (slice_get (pieces_in c blocks.columns) item ≡ Some piece) × (piece.block ≡ block) ×
-    (piece.index ≡ index) × IsVerdict (duties_in c (pieces_in c blocks.columns) false) (duty_lists c blocks.columns text) (verdicts.Times item times)
+    (text : PlanText) × (blocks : Plan) × HasBlocks c text blocks × (item : ℕ) × (piece : Piece)
+    × (slice_get (pieces_in c blocks.columns) item ≡ Some piece) × (piece.block ≡ block) ×
+    (piece.index ≡ index) × IsVerdict (duties_in c (pieces_in c blocks.columns) false) (duty_lists c blocks.columns text)
+    (verdicts.Times item times)
 IsReason c (reasons.DutyUnlawful duty) =
     (text : PlanText) × (blocks : Plan) × HasBlocks c text blocks × (spot : ℕ) × (duty ≡ spot + 1) ×
     IsVerdict (duties_in c (pieces_in c blocks.columns) false) (duty_lists c blocks.columns text) (verdicts.Unlawful spot)
@@ -177,9 +184,11 @@ IsReason c (reasons.GroupOver group used cap) =
 IsReason c (reasons.PlanDiffers table row) =
     (text : PlanText) × (blocks : Plan) × (duties : Plan) × HasDuties c text blocks duties × IsTableReason c text blocks duties table row
 IsReason c (reasons.CertForm at) =
-    (text : PlanText) × (blocks : Plan) × (duties : Plan) × HasTables c text blocks duties × (cert_in c (length (printed_pieces c blocks)) ≡ Err at)
+    (text : PlanText) × (blocks : Plan) × (duties : Plan) × HasTables c text blocks duties
+    × (cert_in c (length (printed_pieces c blocks)) ≡ Err at)
 IsReason c (reasons.NegativeClassPrice pass class) =
-    (text : PlanText) × (blocks : Plan) × (duties : Plan) × (cert : Cert) × HasCert c text blocks duties cert × IsFirstNegative 1 cert.parts pass class
+    (text : PlanText) × (blocks : Plan) × (duties : Plan) × (cert : Cert) × HasCert c text blocks duties cert
+    × IsFirstNegative 1 cert.parts pass class
 IsReason c (reasons.Uncovered pass gap) =
     (text : PlanText) × (blocks : Plan) × (duties : Plan) × (cert : Cert) × IsCharged c text blocks duties cert ×
     IsFirstUncovered c blocks zero cert.parts pass gap
@@ -189,6 +198,7 @@ IsReason c (reasons.BoundTooHigh pass print show) =
 
 abbrev pub IsAnswer : Case → Answered → Type 0
 IsAnswer c (Yes vehicles block_cost duty_count duty_cost) =
-    (text : PlanText) × (blocks : Plan) × (duties : Plan) × (cert : Cert) × IsAccepted c text blocks duties cert × (vehicles ≡ length blocks.columns) ×
+    (text : PlanText) × (blocks : Plan) × (duties : Plan) × (cert : Cert) × IsAccepted c text blocks duties cert
+    × (vehicles ≡ length blocks.columns) ×
     (block_cost ≡ cost blocks.columns) × (duty_count ≡ length duties.columns) × (duty_cost ≡ cost duties.columns)
 IsAnswer c (No reason) = IsReason c reason

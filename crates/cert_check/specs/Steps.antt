@@ -85,7 +85,8 @@ IsFirstHigh bounds pools groups p found =
     IsHigh found 1 (slice_index bounds 0) (bound_by pools p.block_number.now) ⊎
     ((slice_index bounds 0 ≤ bound_by pools p.block_number.now) × (IsHigh found 2 (slice_index bounds 1) (bound_by pools p.block_cost.now) ⊎
     ((slice_index bounds 1 ≤ bound_by pools p.block_cost.now) × (IsHigh found 3 (slice_index bounds 2) (bound_by groups p.duty_number.now) ⊎
-    ((slice_index bounds 2 ≤ bound_by groups p.duty_number.now) × IsHigh found 4 (slice_index bounds 3) (bound_by groups p.duty_cost.now))))))
+    ((slice_index bounds 2 ≤ bound_by groups p.duty_number.now)
+    × IsHigh found 4 (slice_index bounds 3) (bound_by groups p.duty_cost.now))))))
 
 -- no part has 2^32 marks
 abbrev pub HaveFewMarks : List CertPart → Type 0

@@ -11,7 +11,8 @@ hours_first a e n is = let rest : e - a ≡ n = omega arith in ap (λ (k : ℕ).
 hours_next : (a e : ℕ) → a < e → range_with_len a (e - a) ≡ a ∷ range_with_len (a + 1) (e - (a + 1))
 hours_next a e more = let rest : e - a ≡ suc (e - (a + 1)) = omega arith in ap (λ (k : ℕ). range_with_len a k) rest
 
-pub hours_more : (xs whole : List ℕ) (a e : ℕ) → a < e → xs ++ range_with_len a (e - a) ≡ whole → (xs ++ a ∷ []) ++ range_with_len (a + 1) (e - (a + 1)) ≡ whole
+pub hours_more : (xs whole : List ℕ) (a e : ℕ) → a < e → xs ++ range_with_len a (e - a) ≡ whole →
+    (xs ++ a ∷ []) ++ range_with_len (a + 1) (e - (a + 1)) ≡ whole
 hours_more xs whole a e more all =
     append_assoc xs (a ∷ []) (range_with_len (a + 1) (e - (a + 1))) ∙ ap (λ (t : List ℕ). xs ++ t) (sym (hours_next a e more)) ∙ all
 

@@ -8,7 +8,8 @@ use Rattle.chart_page.specs.Layout.{hours_of}
 use Rattle.chart_page.specs.Page.{page_over, page_parts}
 use Rattle.chart_page.specs.Parts.{written}
 
-pub page_so : (table : Table) (sheet : Sheet) (hours : Hours) (starts out : List ℕ) → hours ≡ hours_of sheet → starts ≡ starts_of hours → out ≡ written table (page_over sheet hours starts) → out ≡ written table (page_parts sheet)
+pub page_so : (table : Table) (sheet : Sheet) (hours : Hours) (starts out : List ℕ) → hours ≡ hours_of sheet → starts ≡ starts_of hours →
+    out ≡ written table (page_over sheet hours starts) → out ≡ written table (page_parts sheet)
 page_so table sheet hours starts out same begins is =
     is ∙ ap (λ (s : List ℕ). written table (page_over sheet hours s)) begins
     ∙ ap (λ (h : Hours). written table (page_over sheet h (starts_of h))) same

@@ -7,7 +7,9 @@ use Rattle.chart_page.specs.Parts.{escaped, escaped_byte}
 
 -- what stands for a byte, by whether it is one of the five
 piece_by : (b : ℕ) (amp lt gt quote single : Bool) → (b == 60) ≡ lt → (b == 62) ≡ gt → (b == 34) ≡ quote → (b == 39) ≡ single
-    → list_all (λ c. not (is_markup c)) (if amp then codes "&amp;" else if lt then codes "&lt;" else if gt then codes "&gt;" else if quote then codes "&quot;" else if single then codes "&#39;" else b ∷ []) ≡ true
+    → list_all (λ c. not (is_markup c))
+    (if amp then codes "&amp;" else if lt then codes "&lt;" else if gt then codes "&gt;" else if quote then codes "&quot;" else if
+    single then codes "&#39;" else b ∷ []) ≡ true
 piece_by b true lt gt quote single hl hg hq hs = refl
 piece_by b false true gt quote single hl hg hq hs = refl
 piece_by b false false true quote single hl hg hq hs = refl
@@ -29,7 +31,8 @@ escaped_plain (b ∷ text) =
 
 -- an ampersand does not stand for itself
 lone_by : (b : ℕ) → b ≡ 38 → escaped_byte b ≡ b ∷ [] → ⊥
-lone_by b same itself = let P : ℕ → Type 0 = λ n. escaped_byte n ≡ n ∷ [] → ⊥ in subst P (sym same) (λ (e : escaped_byte 38 ≡ 38 ∷ []). cc) itself
+lone_by b same itself =
+    let P : ℕ → Type 0 = λ n. escaped_byte n ≡ n ∷ [] → ⊥ in subst P (sym same) (λ (e : escaped_byte 38 ≡ 38 ∷ []). cc) itself
 
 pub lone_byte : (b : ℕ) → escaped_byte b ≡ b ∷ [] → b ≢ 38
 lone_byte b itself = λ same. lone_by b same itself

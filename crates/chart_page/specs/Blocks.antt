@@ -92,7 +92,8 @@ abbrev pub pool_parts : BlockRow → Lane → List Part
 pool_parts block lane = share_parts marks.PoolBegin block.pool lane
 
 abbrev pub vehicle_of : List VehicleRow → ℕ → Option ℕ
-vehicle_of vehicles number = option_map (λ (vehicle : VehicleRow). vehicle.typ) (find (λ (vehicle : VehicleRow). vehicle.number == number) vehicles)
+vehicle_of vehicles number =
+    option_map (λ (vehicle : VehicleRow). vehicle.typ) (find (λ (vehicle : VehicleRow). vehicle.number == number) vehicles)
 
 abbrev pub typ_part : Option ℕ → Part
 typ_part (Some typ) = Number typ
@@ -100,7 +101,8 @@ typ_part None = Own marks.NoVehicle
 
 abbrev pub block_name : List VehicleRow → BlockRow → Lane → List Part
 block_name vehicles block lane =
-    Own marks.NameOpen ∷ Number lane.place ∷ Own marks.BlockName ∷ Number block.number ∷ Own marks.Cost ∷ Number block.cost ∷ Own marks.TextClose ∷
+    Own marks.NameOpen ∷ Number lane.place ∷ Own marks.BlockName ∷ Number block.number ∷ Own marks.Cost
+    ∷ Number block.cost ∷ Own marks.TextClose ∷
     Own marks.NameOpen ∷ Number lane.place ∷ Own marks.VehicleName ∷ typ_part (vehicle_of vehicles block.number) ∷ Own marks.TextClose ∷ []
 
 abbrev pub block_parts : List VehicleRow → BlockRow → Lane → List Part

@@ -48,7 +48,8 @@ grid_text table hours rows = flat_map (λ hour. written table (grid_line rows ho
 
 abbrev pub hour_name : ℕ → ℕ → List Part
 hour_name first hour =
-    Own marks.HourOpen ∷ Number (240 + 90 * (hour - first)) ∷ Own marks.HourBegin ∷ Clock (min hour 1000000 * 3600) ∷ Own marks.TextClose ∷ []
+    Own marks.HourOpen ∷ Number (240 + 90 * (hour - first)) ∷ Own marks.HourBegin ∷ Clock (min hour 1000000 * 3600)
+    ∷ Own marks.TextClose ∷ []
 
 abbrev pub hours_text : Table → List ℕ → ℕ → List ℕ
 hours_text table hours first = flat_map (λ hour. written table (hour_name first hour)) hours

@@ -37,7 +37,8 @@ hours_of sheet =
     let legs = sheet.blocks.legs in
     let duties = sheet.duties.duties in
     let pieces = sheet.duties.pieces in
-    hours_between (first_of_pieces pieces (first_of_duties duties (first_of_legs legs 4294967295))) (last_of_pieces pieces (last_of_duties duties (last_of_legs legs 0)))
+    hours_between (first_of_pieces pieces (first_of_duties duties (first_of_legs legs 4294967295)))
+    (last_of_pieces pieces (last_of_duties duties (last_of_legs legs 0)))
 
 abbrev pub count_below : List ℕ → ℕ → ℕ
 count_below keys key = count_by (λ other. nat_lt other key) keys

@@ -17,12 +17,14 @@ column-get [] i d h is = absurd (omega arith)
 column-get (c ∷ cs) i d h is = is ∙ get_or-any (c ∷ cs) i d no_column h
 
 -- one more place
-pub along-more : (pool : List Column) (asked : List ℤ) (places : List ℕ) (i : ℕ) (now new : List Price) (goal : List Price) → i < length places →
+pub along-more : (pool : List Column) (asked : List ℤ) (places : List ℕ) (i : ℕ) (now new : List Price) (goal : List Price) →
+    i < length places →
     new ≡ lowered_prices now (column_at pool (get_or places i 0)) (number_at asked (column_at pool (get_or places i 0)).class) →
     lowered_along pool asked (drop i places) now ≡ goal → lowered_along pool asked (drop (i + 1) places) new ≡ goal
 along-more pool asked places i now new goal h is so_far =
     let cons : drop i places ≡ get_or places i 0 ∷ drop (i + 1) places = rw add-one (drop-cons places i 0 h) in
-    let step : lowered_along pool asked (get_or places i 0 ∷ drop (i + 1) places) now ≡ goal = ap (λ (l : List ℕ). lowered_along pool asked l now) (sym cons) ∙ so_far in
+    let step : lowered_along pool asked (get_or places i 0 ∷ drop (i + 1) places) now ≡ goal =
+    ap (λ (l : List ℕ). lowered_along pool asked l now) (sym cons) ∙ so_far in
     ap (λ (l : List Price). lowered_along pool asked (drop (i + 1) places) l) is ∙ step
 
 pub along-end : (pool : List Column) (asked : List ℤ) (places : List ℕ) (i : ℕ) (now goal : List Price) → length places ≤ i →

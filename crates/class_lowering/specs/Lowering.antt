@@ -21,7 +21,8 @@ value_with prices c asked = value prices c +ℤ asked
 -- column bears its share of that
 abbrev pub lowered_price : List Price → Column → ℤ → ℕ → ℤ
 lowered_price prices c asked item =
-    cond (int_lt (value_with prices c asked) (pos 0)) (lowered_by c.items (pos (share_of (value_with prices c asked) (length c.items))) prices item) (price_at prices item)
+    cond (int_lt (value_with prices c asked) (pos 0))
+    (lowered_by c.items (pos (share_of (value_with prices c asked) (length c.items))) prices item) (price_at prices item)
 
 -- all prices after a column whose class asks so much
 abbrev pub lowered_prices : List Price → Column → ℤ → List Price

@@ -23,14 +23,18 @@ pub asked_push : (zs : List ℤ) (z : ℤ) → AreAsked zs → pos 0 ≤ℤ z �
 asked_push [] z h low high = (low, high, tt)
 asked_push (y ∷ ys) z h low high = (h.0, h.1, asked_push ys z h.2 low high)
 
-least_range : (f : ℕ → ℤ) (a n : ℕ) → ((k : ℕ) → k < a + n → neg_ℤ (pos 30000000000000000) ≤ℤ f k) → ((k : ℕ) → k < a + n → f k ≤ℤ pos 0) → AreLeasts (map f (range_with_len a n))
+least_range : (f : ℕ → ℤ) (a n : ℕ) → ((k : ℕ) → k < a + n → neg_ℤ (pos 30000000000000000) ≤ℤ f k) → ((k : ℕ) → k < a + n → f k ≤ℤ pos 0) →
+    AreLeasts (map f (range_with_len a n))
 least_range f a zero low high = tt
-least_range f a (suc n) low high = (low a (omega arith), high a (omega arith), least_range f (a + 1) n (λ k below. low k (omega arith)) (λ k below. high k (omega arith)))
+least_range f a (suc n) low high =
+    (low a (omega arith), high a (omega arith), least_range f (a + 1) n (λ k below. low k (omega arith)) (λ k below. high k (omega arith)))
 
 -- the least values of a pricing step are in the range of an estimate
-pub priced_leasts : (p : Problem) (prices : List Price) → LeastIsBounded p → LeastIsOfLists p → p.items ≤ 3000 → AllWithin 10000000000000 prices → AreLeasts (priced_least p prices)
+pub priced_leasts : (p : Problem) (prices : List Price) → LeastIsBounded p → LeastIsOfLists p → p.items ≤ 3000 →
+    AllWithin 10000000000000 prices → AreLeasts (priced_least p prices)
 priced_leasts p prices bounded lists few within =
-    least_range (least_of p prices) 0 (length p.caps) (λ k below. bounded prices k few within (omega arith)) (λ k below. (lists prices k (omega arith)).most)
+    least_range (least_of p prices) 0 (length p.caps) (λ k below. bounded prices k few within (omega arith))
+    (λ k below. (lists prices k (omega arith)).most)
 
 -- columns of a problem have items
 pub have_items : (p : Problem) (cs : List Column) → HasListedColumns p → AreColumns p cs → HaveItems cs

@@ -28,17 +28,20 @@ keys_from-places prices k (c ∷ cs) = ap (λ l. k ∷ l) (keys_from-places pric
 abbrev IsKeyOf : List Price → (ℕ → Column) → Key → Type 0
 IsKeyOf prices at key = key.value ≡ value prices (at key.place)
 
-keys_from-values : (prices : List Price) (at : ℕ → Column) (k : ℕ) (cs : List Column) → ((i : ℕ) → i < length cs → at (k + i) ≡ column_at cs i) →
+keys_from-values : (prices : List Price) (at : ℕ → Column) (k : ℕ) (cs : List Column) →
+    ((i : ℕ) → i < length cs → at (k + i) ≡ column_at cs i) →
     All (IsKeyOf prices at) (keys_from prices k cs)
 keys_from-values prices at k [] h = All-nil (IsKeyOf prices at)
 keys_from-values prices at k (c ∷ cs) h =
     let first : at k ≡ c = (let e : k ≡ k + 0 = omega arith in ap at e ∙ h 0 (omega arith)) in
     let later : (i : ℕ) → i < length cs → at (suc k + i) ≡ column_at cs i =
     λ i below. (let e : suc k + i ≡ k + suc i = omega arith in ap at e ∙ h (suc i) (omega arith)) in
-    All-cons (IsKeyOf prices at) (record { value = value prices c; place = k }) (keys_from prices (suc k) cs) (ap (value prices) (sym first)) (keys_from-values prices at (suc k) cs later)
+    All-cons (IsKeyOf prices at) (record { value = value prices c; place = k }) (keys_from prices (suc k) cs)
+    (ap (value prices) (sym first)) (keys_from-values prices at (suc k) cs later)
 
 keys_of-values : (prices : List Price) (pool : List Column) → All (IsKeyOf prices (column_at pool)) (keys_of prices pool)
-keys_of-values prices pool = keys_from-values prices (column_at pool) 0 pool (λ i below. (let e : 0 + i ≡ i = omega arith in ap (column_at pool) e))
+keys_of-values prices pool =
+    keys_from-values prices (column_at pool) 0 pool (λ i below. (let e : 0 + i ≡ i = omega arith in ap (column_at pool) e))
 
 abbrev no_key : Key
 no_key = record { value = pos 0; place = 0 }
@@ -52,7 +55,8 @@ length-places : (keys : List Key) → length (map place_of keys) ≡ length keys
 length-places [] = refl
 length-places (k ∷ ks) = ap suc (length-places ks)
 
-pub by_value : (prices : List Price) (pool : List Column) (keys : List Key) (places : List ℕ) → IsPermutation (keys_of prices pool) keys → IsSortedBy is_before keys →
+pub by_value : (prices : List Price) (pool : List Column) (keys : List Key) (places : List ℕ) → IsPermutation (keys_of prices pool) keys →
+    IsSortedBy is_before keys →
     places ≡ map place_of keys → IsByValue prices pool places
 by_value prices pool keys places moved sorted is =
     let P : List ℕ → Type 0 = λ l. IsByValue prices pool l in
@@ -70,12 +74,15 @@ by_value prices pool keys places moved sorted is =
           let b = get_or keys k no_key in
           ap (λ i. comes_before prices pool i (get_or (map place_of keys) k d)) (get_or-places keys (k + 1) d next) ∙
           ap (λ i. comes_before prices pool a.place i) (get_or-places keys k d here) ∙
-          ap (λ z. is_lt (ordering_then (int_cmp z (value prices (column_at pool b.place))) (nat_cmp a.place b.place))) (sym (at (k + 1) next)) ∙
+          ap (λ z. is_lt (ordering_then (int_cmp z (value prices (column_at pool b.place))) (nat_cmp a.place b.place)))
+          (sym (at (k + 1) next)) ∙
           ap (λ z. is_lt (ordering_then (int_cmp a.value z) (nat_cmp a.place b.place))) (sym (at k here)) ∙
           sorted k no_key low (omega arith);
     })
 
-pub by_value_if : (prices : List Price) (pool : List Column) (keys : List Key) (shown : List Key) (result : Result (List ℕ) Memory) → IsPermutation (keys_of prices pool) keys → IsSortedBy is_before keys →
+pub by_value_if : (prices : List Price) (pool : List Column) (keys : List Key) (shown : List Key) (result : Result (List ℕ) Memory) →
+    IsPermutation (keys_of prices pool) keys → IsSortedBy is_before keys →
     shown ≡ keys → IfOk result (λ places. places ≡ map place_of shown) → IfOk result (λ places. IsByValue prices pool places)
-by_value_if prices pool keys shown (Ok places) moved sorted same is = by_value prices pool keys places moved sorted (is ∙ ap (map place_of) same)
+by_value_if prices pool keys shown (Ok places) moved sorted same is =
+    by_value prices pool keys places moved sorted (is ∙ ap (map place_of) same)
 by_value_if prices pool keys shown (Err e) moved sorted same is = is

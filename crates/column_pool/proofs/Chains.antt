@@ -43,7 +43,8 @@ last_in-bucket b (c ∷ cs) k e =
           later k (omega arith) some (λ j is. last_in-bucket b cs j is)
     ]
   where
-    later : (j : ℕ) → last_in b cs ≡ j → (last_in b cs ≡ 0 → ⊥) → ((i : ℕ) → last_in b cs ≡ suc i → bucket_in (column_at cs i) ≡ b) → bucket_in (column_at (c ∷ cs) j) ≡ b
+    later : (j : ℕ) → last_in b cs ≡ j → (last_in b cs ≡ 0 → ⊥) → ((i : ℕ) → last_in b cs ≡ suc i → bucket_in (column_at cs i) ≡ b) →
+        bucket_in (column_at (c ∷ cs) j) ≡ b
     later zero is some rest = absurd (some is)
     later (suc i) is some rest = rest i is
 
@@ -87,7 +88,8 @@ is_known-last column (c ∷ cs) =
             | inr apart ↦
                 let miss : (bucket_in c == b) ≡ false = grind (arith, nat_tests) in
                 let zero_of : last_in b (c ∷ cs) ≡ 0 = rw (test, miss) refl in
-                ap (λ t. t || is_known cs column) (not_same column c apart) ∙ empty ∙ sym (ap (λ n. is_known (take n (c ∷ cs)) column) zero_of)
+                ap (λ t. t || is_known cs column) (not_same column c apart) ∙ empty
+                ∙ sym (ap (λ n. is_known (take n (c ∷ cs)) column) zero_of)
           ]
       | inr some ↦
           let test : (last_in b cs == 0) ≡ false = grind (arith, nat_tests) in
@@ -95,11 +97,13 @@ is_known-last column (c ∷ cs) =
           ap (λ t. is_same column c || t) rest ∙ sym (ap (λ n. is_known (take n (c ∷ cs)) column) more)
     ]
 
-pub last_in-push : (b : ℕ) (cs : List Column) (c : Column) → last_in b (cs ++ c ∷ []) ≡ cond (bucket_in c == b) (suc (length cs)) (last_in b cs)
+pub last_in-push : (b : ℕ) (cs : List Column) (c : Column) →
+    last_in b (cs ++ c ∷ []) ≡ cond (bucket_in c == b) (suc (length cs)) (last_in b cs)
 last_in-push b [] c = refl
 last_in-push b (d ∷ ds) c =
     let rest : last_in b (ds ++ c ∷ []) ≡ cond (bucket_in c == b) (suc (length ds)) (last_in b ds) = last_in-push b ds c in
-    elim (bucket_in c == b) as (λ t. last_in b (ds ++ c ∷ []) ≡ cond t (suc (length ds)) (last_in b ds) → last_in b ((d ∷ ds) ++ c ∷ []) ≡ cond t (suc (suc (length ds))) (last_in b (d ∷ ds))) [
+    elim (bucket_in c == b) as (λ t. last_in b (ds ++ c ∷ []) ≡ cond t (suc (length ds)) (last_in b ds) →
+    last_in b ((d ∷ ds) ++ c ∷ []) ≡ cond t (suc (suc (length ds))) (last_in b (d ∷ ds))) [
       | true ↦ λ is. let test : (last_in b (ds ++ c ∷ []) == 0) ≡ false = grind (arith, nat_tests) in rw test (ap suc is)
       | false ↦ λ is. ap (λ n. cond (n == 0) (cond (bucket_in d == b) 1 0) (suc n)) is
     ] rest
@@ -153,8 +157,10 @@ take-all [] = refl
 take-all (c ∷ cs) = ap (λ l. c ∷ l) (take-all cs)
 
 -- the table after one more column
-pub indexed-push : (cs : List Column) (heads earlier : List ℕ) (c : Column) (head : ℕ) → IsIndexed cs heads earlier → length cs < 200000 → length heads ≡ 262144 →
-    is_known cs c ≡ false → bucket_in c < 262144 → head ≡ last_in (bucket_in c) cs → IsIndexed (cs ++ c ∷ []) (set heads (bucket_in c) (suc (length cs))) (earlier ++ head ∷ [])
+pub indexed-push : (cs : List Column) (heads earlier : List ℕ) (c : Column) (head : ℕ) → IsIndexed cs heads earlier →
+    length cs < 200000 → length heads ≡ 262144 →
+    is_known cs c ≡ false → bucket_in c < 262144 → head ≡ last_in (bucket_in c) cs →
+    IsIndexed (cs ++ c ∷ []) (set heads (bucket_in c) (suc (length cs))) (earlier ++ head ∷ [])
 indexed-push cs heads earlier c head index room width new_one inside is =
     let b = bucket_in c in
     let there : b < length heads = omega arith in
@@ -198,7 +204,8 @@ indexed-push cs heads earlier c head index room width new_one inside is =
                 let end : k ≡ length earlier = (let same = index.len in omega arith) in
                 let column : column_at (cs ++ c ∷ []) k ≡ c = ap (column_at (cs ++ c ∷ [])) last ∙ column_at-pushed cs c in
                 let front : take k (cs ++ c ∷ []) ≡ cs = take-push cs c k (omega arith) ∙ ap (λ n. take n cs) last ∙ take-all cs in
-                number_at-pushed earlier head k end ∙ is ∙ ap (λ l. last_in b l) (sym front) ∙ ap (λ d. last_in (bucket_in d) (take k (cs ++ c ∷ []))) (sym column)
+                number_at-pushed earlier head k end ∙ is ∙ ap (λ l. last_in b l) (sym front)
+                ∙ ap (λ d. last_in (bucket_in d) (take k (cs ++ c ∷ []))) (sym column)
           ];
     }
 
@@ -224,21 +231,28 @@ pub is_known-step : (column : Column) (cs : List Column) (at next : ℕ) → at 
     is_known (take (suc at) cs) column ≡ is_known (take next cs) column
 is_known-step column cs at next inside here other is =
     let next_is : next ≡ last_in (bucket_in column) (take at cs) = is ∙ ap (λ b. last_in b (take at cs)) here in
-    let short : last_in (bucket_in column) (take at cs) ≤ at = (let low = last_in-le (bucket_in column) (take at cs) in let long = length-take-le at cs (omega arith) in omega arith) in
-    let front : take (suc at) cs ≡ take at cs ++ column_at cs at ∷ [] = (let e : suc at ≡ at + 1 = omega arith in ap (λ n. take n cs) e ∙ take_more cs at no_column inside) in
+    let short : last_in (bucket_in column) (take at cs) ≤ at =
+    (let low = last_in-le (bucket_in column) (take at cs) in let long = length-take-le at cs (omega arith) in omega arith) in
+    let front : take (suc at) cs ≡ take at cs ++ column_at cs at ∷ [] =
+    (let e : suc at ≡ at + 1 = omega arith in ap (λ n. take n cs) e ∙ take_more cs at no_column inside) in
     let split = is_known-push (take at cs) (column_at cs at) column in
-    ap (λ l. is_known l column) front ∙ split ∙ ap (λ t. is_known (take at cs) column || t) other ∙ or_false (is_known (take at cs) column) ∙
-    is_known-last column (take at cs) ∙ ap (λ l. is_known l column) (take-take (last_in (bucket_in column) (take at cs)) at cs short) ∙ ap (λ n. is_known (take n cs) column) (sym next_is)
+    ap (λ l. is_known l column) front ∙ split ∙ ap (λ t. is_known (take at cs) column || t) other
+    ∙ or_false (is_known (take at cs) column) ∙
+    is_known-last column (take at cs) ∙ ap (λ l. is_known l column) (take-take (last_in (bucket_in column) (take at cs)) at cs short)
+    ∙ ap (λ n. is_known (take n cs) column) (sym next_is)
   where
     or_false : (t : Bool) → (t || false) ≡ t
     or_false true = refl
     or_false false = refl
 
 -- the column at the place is the same one
-pub is_known-found : (column : Column) (cs : List Column) (at : ℕ) → at < length cs → is_same column (column_at cs at) ≡ true → is_known (take (suc at) cs) column ≡ true
+pub is_known-found : (column : Column) (cs : List Column) (at : ℕ) → at < length cs → is_same column (column_at cs at) ≡ true →
+    is_known (take (suc at) cs) column ≡ true
 is_known-found column cs at inside same =
-    let front : take (suc at) cs ≡ take at cs ++ column_at cs at ∷ [] = (let e : suc at ≡ at + 1 = omega arith in ap (λ n. take n cs) e ∙ take_more cs at no_column inside) in
-    ap (λ l. is_known l column) front ∙ is_known-push (take at cs) (column_at cs at) column ∙ ap (λ t. is_known (take at cs) column || t) same ∙ or_true (is_known (take at cs) column)
+    let front : take (suc at) cs ≡ take at cs ++ column_at cs at ∷ [] =
+    (let e : suc at ≡ at + 1 = omega arith in ap (λ n. take n cs) e ∙ take_more cs at no_column inside) in
+    ap (λ l. is_known l column) front ∙ is_known-push (take at cs) (column_at cs at) column
+    ∙ ap (λ t. is_known (take at cs) column || t) same ∙ or_true (is_known (take at cs) column)
   where
     or_true : (t : Bool) → (t || true) ≡ true
     or_true true = refl

@@ -24,7 +24,8 @@ refilled n old new len same =
     ap (λ (l : List (List Link)). take n (new ++ l)) none ∙ ap (λ (l : List (List Link)). take n l) (append-nil new) ∙ take_all n new few
 
 -- one more link into an item
-All-put : (Q : ℕ → Link → Type 0) (into : List (List Link)) (item : ℕ) (link : Link) → item < length into → ((j : ℕ) → All (Q j) (get_or into j [])) → Q item link →
+All-put : (Q : ℕ → Link → Type 0) (into : List (List Link)) (item : ℕ) (link : Link) → item < length into →
+    ((j : ℕ) → All (Q j) (get_or into j [])) → Q item link →
     (j : ℕ) → All (Q j) (get_or (set into item (get_or into item [] ++ link ∷ [])) j [])
 All-put Q into item link inside all here j =
     let more : List Link = get_or into item [] ++ link ∷ [] in
@@ -32,14 +33,16 @@ All-put Q into item link inside all here j =
       | inl same ↦
           let R : ℕ → Type 0 = λ k. All (Q k) (get_or (set into item more) k []) in
           let S : List Link → Type 0 = λ l. All (Q item) l in
-          subst R (sym same) (subst S (sym (get_or-set_same into item more [] inside)) (All-push (Q item) (get_or into item []) link (all item) here))
+          subst R (sym same) (subst S (sym (get_or-set_same into item more [] inside))
+          (All-push (Q item) (get_or into item []) link (all item) here))
       | inr apart ↦
           let S : List Link → Type 0 = λ l. All (Q j) l in
           subst S (sym (get_or-set_other into item j more [] apart)) (all j)
     ]
 
 pub links-put : (p : Problem) (class item : ℕ) (c new : ClassLinks) (link : Link) → AreLinks p class c → new.single ≡ c.single →
-    new.into.items ≡ set c.into.items item (get_or c.into.items item [] ++ link ∷ []) → item < p.items → IsReach item link → IsLinkInto p class item link → AreLinks p class new
+    new.into.items ≡ set c.into.items item (get_or c.into.items item [] ++ link ∷ []) → item < p.items → IsReach item link →
+    IsLinkInto p class item link → AreLinks p class new
 links-put p class item c new link are single into below reach rise =
     let same = are.ranged.one_list in
     let inside : item < length c.into.items = omega arith in
@@ -48,15 +51,18 @@ links-put p class item c new link are single into below reach rise =
     record {
       ranged = record {
         one_single = ap (λ (l : List (Option ℤ)). length l) single ∙ are.ranged.one_single;
-        one_list = ap (λ (l : List (List Link)). length l) into ∙ length-set c.into.items item (get_or c.into.items item [] ++ link ∷ []) ∙ are.ranged.one_list;
+        one_list = ap (λ (l : List (List Link)). length l) into ∙ length-set c.into.items item (get_or c.into.items item [] ++ link ∷ [])
+            ∙ are.ranged.one_list;
         singles = λ i. (let R : List (Option ℤ) → Type 0 = λ l. IsRanged (get_or l i None) in subst R (sym single) (are.ranged.singles i));
         reach = λ j. (let R : List (List Link) → Type 0 = λ l. All (IsReach j) (get_or l j []) in subst R (sym into) (all_reach j));
       };
-      singles = λ i h. (let R : List (Option ℤ) → Type 0 = λ l. IsSingle p class i (get_or l i None) in subst R (sym single) (are.singles i h));
+      singles = λ i h. (let R : List (Option ℤ) → Type 0 = λ l. IsSingle p class i (get_or l i None) in
+          subst R (sym single) (are.singles i h));
       rises = λ j. (let R : List (List Link) → Type 0 = λ l. All (IsLinkInto p class j) (get_or l j []) in subst R (sym into) (all_rise j));
     }
 
-pub links-same : (p : Problem) (class : ℕ) (c new : ClassLinks) → AreLinks p class c → new.single ≡ c.single → new.into.items ≡ c.into.items → AreLinks p class new
+pub links-same : (p : Problem) (class : ℕ) (c new : ClassLinks) → AreLinks p class c → new.single ≡ c.single →
+    new.into.items ≡ c.into.items → AreLinks p class new
 links-same p class c new are single into =
     record {
       ranged = record {
@@ -65,11 +71,14 @@ links-same p class c new are single into =
         singles = λ i. (let R : List (Option ℤ) → Type 0 = λ l. IsRanged (get_or l i None) in subst R (sym single) (are.ranged.singles i));
         reach = λ j. (let R : List (List Link) → Type 0 = λ l. All (IsReach j) (get_or l j []) in subst R (sym into) (are.ranged.reach j));
       };
-      singles = λ i h. (let R : List (Option ℤ) → Type 0 = λ l. IsSingle p class i (get_or l i None) in subst R (sym single) (are.singles i h));
-      rises = λ j. (let R : List (List Link) → Type 0 = λ l. All (IsLinkInto p class j) (get_or l j []) in subst R (sym into) (are.rises j));
+      singles = λ i h. (let R : List (Option ℤ) → Type 0 = λ l. IsSingle p class i (get_or l i None) in
+          subst R (sym single) (are.singles i h));
+      rises = λ j. (let R : List (List Link) → Type 0 = λ l. All (IsLinkInto p class j) (get_or l j []) in
+          subst R (sym into) (are.rises j));
     }
 
-pub class-at : (p : Problem) (web : Web) (class : ℕ) (c d : ClassLinks) → IsWeb p web → class < length p.caps → c ≡ get_or web.classes.items class d → AreLinks p class c
+pub class-at : (p : Problem) (web : Web) (class : ℕ) (c d : ClassLinks) → IsWeb p web → class < length p.caps →
+    c ≡ get_or web.classes.items class d → AreLinks p class c
 class-at p web class c d are h is =
     let R : ClassLinks → Type 0 = λ x. AreLinks p class x in
     subst R (sym is) (are.links class d h)
@@ -101,7 +110,8 @@ front-at (y ∷ ys) x zero d h = refl
 front-at (y ∷ ys) x (suc k) d h = front-at ys x k d (omega arith)
 
 -- one more class
-pub classes-push : (p : Problem) (xs : List ClassLinks) (x : ClassLinks) (n : ℕ) → length xs ≡ n → ((k : ℕ) (d : ClassLinks) → k < n → AreLinks p k (get_or xs k d)) → AreLinks p n x →
+pub classes-push : (p : Problem) (xs : List ClassLinks) (x : ClassLinks) (n : ℕ) → length xs ≡ n →
+    ((k : ℕ) (d : ClassLinks) → k < n → AreLinks p k (get_or xs k d)) → AreLinks p n x →
     (k : ℕ) (d : ClassLinks) → k < n + 1 → AreLinks p k (get_or (xs ++ x ∷ []) k d)
 classes-push p xs x n len so_far here k d h =
     let P : ClassLinks → Type 0 = λ c. AreLinks p k c in

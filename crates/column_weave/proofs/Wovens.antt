@@ -18,7 +18,8 @@ fit-push : (n k : ℕ) (cs : List Column) (c : Column) → AreFit n k cs → Are
 fit-push n k [] c are one = one
 fit-push n k (x ∷ xs) c are one = (are.0, fit-push n k xs c are.1 one)
 
-pub woven-push : (p : Problem) (prices : List Price) (free : List ℕ) (asked : List ℤ) (class : ℕ) (z : ℤ) (cs new : List Column) (c : Column) →
+pub woven-push : (p : Problem) (prices : List Price) (free : List ℕ) (asked : List ℤ) (class : ℕ) (z : ℤ)
+    (cs new : List Column) (c : Column) →
     0 < slice_index free class → z ≡ number_at asked class → IsWoven p prices class z c → new ≡ cs ++ c ∷ [] →
     AreWoven p prices free asked cs → AreWoven p prices free asked new
 woven-push p prices free asked class z cs new c place asks is pushed are =

@@ -18,7 +18,8 @@ use Rattle.command_words.specs.MadeRequests.{IsMadeRequest, makes}
 some_same : {A : Type 0} (x y : A) → Some x ≡ Some y → x ≡ y
 some_same {A = A} x y e = let f : Option A → A = λ o. unwrap_or o x in ap f e
 
-and_then_some : {A B : Type 0} (f : A → Option B) (o : Option A) (y : B) → option_and_then f o ≡ Some y → (x : A) × (o ≡ Some x) × (f x ≡ Some y)
+and_then_some : {A B : Type 0} (f : A → Option B) (o : Option A) (y : B) → option_and_then f o ≡ Some y →
+    (x : A) × (o ≡ Some x) × (f x ≡ Some y)
 and_then_some f None y e = absurd (cc)
 and_then_some f (Some x) y e = (x, refl, e)
 
@@ -32,21 +33,32 @@ and_last false b e = absurd (cc)
 
 -- The request.
 -- what options set has at most 3,000 trips
-few_said : (allowed : Allowed) (words : List (List ℕ)) (settings : Settings) → settings_said allowed words ≡ Some settings → settings.trips ≤ 3000
+few_said : (allowed : Allowed) (words : List (List ℕ)) (settings : Settings) → settings_said allowed words ≡ Some settings →
+    settings.trips ≤ 3000
 few_said allowed words settings e =
     let (given, is, made) = and_then_some (settings_if allowed) (given_after none_given (said words)) settings e in
     let (tests, same) = if_some (is_allowed allowed given && are_in_range (settings_of given)) (settings_of given) settings made in
     let ranges = and_last (is_allowed allowed given) (are_in_range (settings_of given)) tests in
-    let trips = and_last (in_range (settings_of given).effort) (nat_le 1 (settings_of given).trips && nat_le (settings_of given).trips 3000) ranges in
-    let few : nat_le (settings_of given).trips 3000 ≡ true = and_last (nat_le 1 (settings_of given).trips) (nat_le (settings_of given).trips 3000) trips in
+    let trips = and_last (in_range (settings_of given).effort)
+    (nat_le 1 (settings_of given).trips && nat_le (settings_of given).trips 3000) ranges in
+    let few : nat_le (settings_of given).trips 3000 ≡ true =
+    and_last (nat_le 1 (settings_of given).trips) (nat_le (settings_of given).trips 3000) trips in
     let low : (settings_of given).trips ≤ 3000 = grind (arith, nat_tests) in
     let P : Settings → Type 0 = λ settings. settings.trips ≤ 3000 in
     subst P same low
 
 -- a request by a command that makes no day makes none
-day_makes_none : (command : Command) (settings : Settings) (words : List (List ℕ)) (r : Request) → makes command ≡ false → day_request command settings words ≡ Some r → makes r.command ≡ false
+day_makes_none : (command : Command) (settings : Settings) (words : List (List ℕ)) (r : Request) → makes command ≡ false →
+    day_request command settings words ≡ Some r → makes r.command ≡ false
 day_makes_none command settings words r none e =
-    let made : Request = record { command = command; effort = settings.effort; flow = settings.flow; day = digits_value 10 (first_word words); names = drop 1 words } in
+    let made : Request = record {
+      command = command;
+      effort = settings.effort;
+      flow = settings.flow;
+      day =
+          digits_value 10 (first_word words);
+      names = drop 1 words;
+    } in
     let (test, same) = if_some (are_day_and_files words) made r e in
     let P : Request → Type 0 = λ r. makes r.command ≡ false in
     subst P same none
@@ -75,11 +87,13 @@ week_makes_none effort words r e =
     let P : Request → Type 0 = λ r. makes r.command ≡ false in
     subst P same refl
 
-seeded : (settings : Settings) (o : Option ℕ) (r : Request) → option_map (make_request settings) o ≡ Some r → (seed : ℕ) × (make_request settings seed ≡ r)
+seeded : (settings : Settings) (o : Option ℕ) (r : Request) → option_map (make_request settings) o ≡ Some r →
+    (seed : ℕ) × (make_request settings seed ≡ r)
 seeded settings None r e = absurd (cc)
 seeded settings (Some seed) r e = (seed, some_same (make_request settings seed) r e)
 
-named : (name : CommandName) (settings : Settings) (words : List (List ℕ)) (r : Request) → settings.trips ≤ 3000 → request_for name settings words ≡ Some r → makes r.command ≡ true → IsMadeRequest r
+named : (name : CommandName) (settings : Settings) (words : List (List ℕ)) (r : Request) → settings.trips ≤ 3000 →
+    request_for name settings words ≡ Some r → makes r.command ≡ true → IsMadeRequest r
 named names.Trips settings words r few e makes_one = let none = day_makes_none commands.Trips settings words r refl e in absurd (cc)
 named names.Day settings words r few e makes_one = let none = day_makes_none commands.Day settings words r refl e in absurd (cc)
 named names.Plan settings words r few e makes_one = let none = day_makes_none commands.Plan settings words r refl e in absurd (cc)
@@ -90,11 +104,22 @@ named names.Week settings words r few e makes_one = let none = week_makes_none s
 named names.Make settings words r few e makes_one =
     let (seed, is) = seeded settings (seed_said words) r e in
     let P : Request → Type 0 = λ r. IsMadeRequest r in
-    subst P is (record { seed = seed; trips = settings.trips; run = settings.run; few = few; command_is = refl; day_is = refl; names_are = refl })
+    subst P is (record {
+      seed = seed;
+      trips = settings.trips;
+      run = settings.run;
+      few = few;
+      command_is =
+          refl;
+      day_is = refl;
+      names_are = refl;
+    })
 
 pub made_request : (words : List (List ℕ)) (r : Request) → asked words ≡ Some r → makes r.command ≡ true → IsMadeRequest r
 made_request [] r e makes_one = absurd (cc)
 made_request (word ∷ words) r e makes_one =
     let (name, is_name, e1) = and_then_some (λ (name : CommandName). asked_of name words) (name_of word) r e in
-    let (settings, is_said, e2) = and_then_some (λ (settings : Settings). request_for name settings (plain_words words)) (settings_said (allowed_of name) (before_end words)) r e1 in
+    let (settings, is_said, e2) =
+    and_then_some (λ (settings : Settings). request_for name settings (plain_words words))
+    (settings_said (allowed_of name) (before_end words)) r e1 in
     named name settings (plain_words words) r (few_said (allowed_of name) (before_end words) settings is_said) e2 makes_one

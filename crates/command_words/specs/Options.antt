@@ -117,7 +117,8 @@ none_given = record { workers = None; rounds = None; lower = None; exchange = No
 
 -- no option of planning is given
 abbrev pub plans_nothing : Given → Bool
-plans_nothing given = is_none given.workers && (is_none given.rounds && (is_none given.lower && (is_none given.exchange && (not given.climb && not given.flow))))
+plans_nothing given = is_none given.workers
+    && (is_none given.rounds && (is_none given.lower && (is_none given.exchange && (not given.climb && not given.flow))))
 
 -- no option of making a day is given
 abbrev pub makes_nothing : Given → Bool
@@ -144,7 +145,8 @@ effort_of given = record {
 abbrev pub in_range : Effort → Bool
 in_range effort =
     (nat_le 1 effort.workers && nat_le effort.workers 64)
-    && ((nat_le 1 effort.rounds && nat_le effort.rounds 200) && ((nat_le 1 effort.lower && nat_le effort.lower 50) && nat_le effort.exchange 1000))
+    && ((nat_le 1 effort.rounds && nat_le effort.rounds 200)
+    && ((nat_le 1 effort.lower && nat_le effort.lower 50) && nat_le effort.exchange 1000))
 
 -- what options set: an effort; whether the flow is asked for; 240 trips of a made day unless said; and whether that day is planned
 abbrev pub settings_of : Given → Settings

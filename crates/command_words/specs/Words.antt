@@ -54,7 +54,8 @@ seed_word word = list_all is_ascii_digit word && (nat_le 1 (length word) && nat_
 
 -- a moment of the operating day: one to six ASCII digits that spell at most 172,800
 abbrev pub moment_word : List ℕ → Bool
-moment_word word = list_all is_ascii_digit word && ((nat_le 1 (length word) && nat_le (length word) 6) && nat_le (digits_value 10 word) 172800)
+moment_word word = list_all is_ascii_digit word
+    && ((nat_le 1 (length word) && nat_le (length word) 6) && nat_le (digits_value 10 word) 172800)
 
 -- there are no words
 abbrev pub no_words : List (List ℕ) → Bool
@@ -102,7 +103,14 @@ day_said words = first_word (plain_words (drop 1 words))
 abbrev pub day_request : Command → Settings → List (List ℕ) → Option Request
 day_request command settings words =
     if are_day_and_files words
-    then Some (record { command = command; effort = settings.effort; flow = settings.flow; day = digits_value 10 (first_word words); names = drop 1 words })
+    then Some (record {
+      command = command;
+      effort = settings.effort;
+      flow = settings.flow;
+      day =
+          digits_value 10 (first_word words);
+      names = drop 1 words;
+    })
     else None
 
 -- A request to check a plan and its certificate: a day, the plan, the certificate, and 1 to 64 files. The files are read first.
@@ -112,7 +120,14 @@ check_request effort (day ∷ []) = None
 check_request effort (day ∷ plan ∷ []) = None
 check_request effort (day ∷ plan ∷ cert ∷ files) =
     if are_day_and_files (day ∷ files) && (file_word plan && file_word cert)
-    then Some (record { command = commands.Check; effort = effort; flow = false; day = digits_value 10 day; names = files ++ plan ∷ cert ∷ [] })
+    then Some (record {
+      command = commands.Check;
+      effort = effort;
+      flow = false;
+      day = digits_value 10 day;
+      names =
+          files ++ plan ∷ cert ∷ [];
+    })
     else None
 
 -- A request to plan the rest of a day anew: a day, a moment, the plan, and 1 to 64 files. The files are read first.
@@ -122,7 +137,14 @@ replan_request effort (day ∷ []) = None
 replan_request effort (day ∷ moment ∷ []) = None
 replan_request effort (day ∷ moment ∷ plan ∷ files) =
     if are_day_and_files (day ∷ files) && (moment_word moment && file_word plan)
-    then Some (record { command = commands.Replan (digits_value 10 moment); effort = effort; flow = false; day = digits_value 10 day; names = files ++ plan ∷ [] })
+    then Some (record {
+      command = commands.Replan (digits_value 10 moment);
+      effort = effort;
+      flow = false;
+      day =
+          digits_value 10 day;
+      names = files ++ plan ∷ [];
+    })
     else None
 
 -- the day of a calendar that is made
@@ -146,7 +168,8 @@ is_roster (file ∷ others) = file_word file && no_words others
 
 -- a request for a roster, which has days of its own
 abbrev pub week_request : Effort → List (List ℕ) → Option Request
-week_request effort words = if is_roster words then Some (record { command = commands.Week; effort = effort; flow = false; day = 0; names = words }) else None
+week_request effort words =
+    if is_roster words then Some (record { command = commands.Week; effort = effort; flow = false; day = 0; names = words }) else None
 
 -- a request by the name of its command, what its options set, and its plain words
 abbrev pub request_for : CommandName → Settings → List (List ℕ) → Option Request
@@ -161,7 +184,8 @@ request_for Week settings words = week_request settings.effort words
 
 -- what the words behind the name of a command ask for
 abbrev pub asked_of : CommandName → List (List ℕ) → Option Request
-asked_of name words = option_and_then (λ settings. request_for name settings (plain_words words)) (settings_said (allowed_of name) (before_end words))
+asked_of name words = option_and_then (λ settings. request_for name settings (plain_words words))
+    (settings_said (allowed_of name) (before_end words))
 
 -- What words ask for: a command by the very first of them, then its options in any place, and a day and files, with a plan and its
 -- certificate where these are checked, and with a moment and a plan where the rest of a day is planned anew; a seed; or a roster.

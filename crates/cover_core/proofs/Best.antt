@@ -54,7 +54,8 @@ IsIn-filter_map {X = X} {Y = Y} h x y (z ∷ zs) e i =
           ] refl
     ]
 
-pub IsEach-filter_map : {X Y : Type 0} (P : Y → Type 0) (h : X → Option Y) → ((x : X) (y : Y) → h x ≡ Some y → P y) → (xs : List X) → IsEach P (filter_map h xs)
+pub IsEach-filter_map : {X Y : Type 0} (P : Y → Type 0) (h : X → Option Y) → ((x : X) (y : Y) → h x ≡ Some y → P y) →
+    (xs : List X) → IsEach P (filter_map h xs)
 IsEach-filter_map P h all [] = tt
 IsEach-filter_map P h all (x ∷ xs) =
     let rest = IsEach-filter_map P h all xs in
@@ -81,7 +82,8 @@ pub rising_from-has : (n k : ℕ) (xs : List ℕ) → Rises xs → StartsFrom k 
 rising_from-has zero k [] r s b = inl refl
 rising_from-has zero k (x ∷ xs) r s b = let below = b.0 in absurd (omega arith)
 rising_from-has (suc n) k [] r s b =
-    IsIn-right [] (map (λ (list : List ℕ). k ∷ list) (rising_from n (suc k))) (rising_from n (suc k)) (rising_from-has n (suc k) [] tt tt tt)
+    IsIn-right [] (map (λ (list : List ℕ). k ∷ list) (rising_from n (suc k))) (rising_from n (suc k))
+    (rising_from-has n (suc k) [] tt tt tt)
 rising_from-has (suc n) k (x ∷ xs) r s b =
     let moved : k + suc n ≡ suc k + n = omega arith in
     let P : ℕ → Type 0 = λ m. AllBelow m (x ∷ xs) in
@@ -91,10 +93,12 @@ rising_from-has (suc n) k (x ∷ xs) r s b =
           let starts : StartsFrom (suc k) xs = rw same (StartsFrom-tail x xs r) in
           let rest = rising_from-has n (suc k) xs (Rises-rest x xs r) starts below.1 in
           let Q : ℕ → Type 0 = λ y. IsIn (y ∷ xs) (rising_from (suc n) k) in
-          subst Q same (IsIn-left (k ∷ xs) (map (λ (list : List ℕ). k ∷ list) (rising_from n (suc k))) (rising_from n (suc k)) (IsIn-map (λ (list : List ℕ). k ∷ list) xs (rising_from n (suc k)) rest))
+          subst Q same (IsIn-left (k ∷ xs) (map (λ (list : List ℕ). k ∷ list) (rising_from n (suc k))) (rising_from n (suc k))
+          (IsIn-map (λ (list : List ℕ). k ∷ list) xs (rising_from n (suc k)) rest))
       | inr apart ↦
           let starts : suc k ≤ x = omega arith in
-          IsIn-right (x ∷ xs) (map (λ (list : List ℕ). k ∷ list) (rising_from n (suc k))) (rising_from n (suc k)) (rising_from-has n (suc k) (x ∷ xs) r starts below)
+          IsIn-right (x ∷ xs) (map (λ (list : List ℕ). k ∷ list) (rising_from n (suc k))) (rising_from n (suc k))
+          (rising_from-has n (suc k) (x ∷ xs) r starts below)
     ]
 
 pub column_cmp_total : (prices : List Price) → IsTotalOrder (column_cmp prices)
@@ -123,7 +127,8 @@ earliest-some prices [] c i e = i
 earliest-some prices (x ∷ xs) c i e = cc
 
 -- what holds of each column holds of the earliest
-pub earliest-each : (P : Column → Type 0) (prices : List Price) (cs : List Column) (c : Column) → IsEach P cs → earliest prices cs ≡ Some c → P c
+pub earliest-each : (P : Column → Type 0) (prices : List Price) (cs : List Column) (c : Column) → IsEach P cs →
+    earliest prices cs ≡ Some c → P c
 earliest-each P prices [] c h e = absurd (cc)
 earliest-each P prices (x ∷ xs) c h e =
     elim (earliest prices xs) as (λ o. earliest prices xs ≡ o → Some (option_map_or (earlier prices x) o x) ≡ Some c → P c) [
@@ -143,7 +148,8 @@ earliest-first prices (x ∷ xs) c d e i =
       | None ↦ λ is e'.
           let same : x ≡ c = ap (λ (o : Option Column). unwrap_or o x) e' in
           elim i [
-            | inl here ↦ let P : Column → Type 0 = λ y. IsFirst prices y d in subst P same (let Q : Column → Type 0 = λ y. IsFirst prices x y in subst Q here (IsFirst-same prices x))
+            | inl here ↦ let P : Column → Type 0 = λ y. IsFirst prices y d in
+                subst P same (let Q : Column → Type 0 = λ y. IsFirst prices x y in subst Q here (IsFirst-same prices x))
             | inr there ↦ absurd (earliest-some prices xs d there is)
           ]
       | Some b ↦ λ is e'.
@@ -176,10 +182,13 @@ is_in_group-true group (x ∷ xs) h = grind (arith, nat_tests)
 
 column_of-some : (p : Problem) (class group : ℕ) (list : List ℕ) (c : Column) → column_of p class group list ≡ Some c → IsOf p class group c
 column_of-some p class group list c e =
-    elim (is_in_group group list) as (λ t. is_in_group group list ≡ t → cond t (option_map (λ worth. record { class = class; worth = worth; items = list }) (p.worth class list)) None ≡ Some c → IsOf p class group c) [
+    elim (is_in_group group list) as (λ t. is_in_group group list ≡ t →
+    cond t (option_map (λ worth. record { class = class; worth = worth; items = list }) (p.worth class list)) None ≡ Some c →
+    IsOf p class group c) [
       | false ↦ λ is e'. absurd (cc)
       | true ↦ λ is e'.
-          elim (p.worth class list) as (λ o. p.worth class list ≡ o → option_map (λ worth. record { class = class; worth = worth; items = list }) o ≡ Some c → IsOf p class group c) [
+          elim (p.worth class list) as (λ o. p.worth class list ≡ o →
+          option_map (λ worth. record { class = class; worth = worth; items = list }) o ≡ Some c → IsOf p class group c) [
             | None ↦ λ has e2. absurd (cc)
             | Some worth ↦ λ has e2.
                 let made : Column = record { class = class; worth = worth; items = list } in
@@ -191,7 +200,8 @@ column_of-some p class group list c e =
 
 pub group_columns-each : (p : Problem) (class group : ℕ) → IsEach (IsOf p class group) (group_columns p class group)
 group_columns-each p class group =
-    IsEach-filter_map (IsOf p class group) (column_of p class group) (λ list c e. column_of-some p class group list c e) (rising_from p.items 0)
+    IsEach-filter_map (IsOf p class group) (column_of p class group) (λ list c e. column_of-some p class group list c e)
+    (rising_from p.items 0)
 
 abbrev pub made_of : ℕ → ℕ → List ℕ → Column
 made_of class worth list = record { class = class; worth = worth; items = list }
@@ -218,7 +228,8 @@ not_greater-value x y o h =
     by_ranked (x <ℤ y) (x ≡ y) (y <ℤ x) (int_cmp x y) (int_ranked x y (int_cmp x y) refl)
     (λ is less. omega (arith, ints))
     (λ is same. omega (arith, ints))
-    (λ is greater. absurd (let e : is_gt (ordering_then Greater o) ≡ false = (let P : Ordering → Type 0 = λ r. is_gt (ordering_then r o) ≡ false in subst P is h) in cc))
+    (λ is greater. absurd (let e : is_gt (ordering_then Greater o) ≡ false =
+    (let P : Ordering → Type 0 = λ r. is_gt (ordering_then r o) ≡ false in subst P is h) in cc))
 
 not_greater-list : (x y : ℤ) (o : Ordering) → x ≡ y → is_gt (ordering_then (int_cmp x y) o) ≡ false → is_gt o ≡ false
 not_greater-list x y o same h =
@@ -234,9 +245,12 @@ IsFirst-list prices a b same h = not_greater-list (value prices a) (value prices
 pub best-first : (p : Problem) → HasListedColumns p → (prices : List Price) (class group : ℕ) (column : Column) → class < length p.caps →
     best_of p prices class group ≡ Some column → IsFirstLeast p prices class group column
 best-first p listed prices class group column below e =
-    let of_it : IsOf p class group column = earliest-each (IsOf p class group) prices (group_columns p class group) column (group_columns-each p class group) e in
-    let before : (list : List ℕ) (worth : ℕ) → p.worth class list ≡ Some worth → InGroup group list → IsFirst prices column (made_of class worth list) =
-    λ list worth has in_it. earliest-first prices (group_columns p class group) column (made_of class worth list) e (group_columns-has p class group list worth listed has in_it) in
+    let of_it : IsOf p class group column =
+    earliest-each (IsOf p class group) prices (group_columns p class group) column (group_columns-each p class group) e in
+    let before : (list : List ℕ) (worth : ℕ) → p.worth class list ≡ Some worth → InGroup group list →
+    IsFirst prices column (made_of class worth list) =
+    λ list worth has in_it. earliest-first prices (group_columns p class group) column (made_of class worth list) e
+    (group_columns-has p class group list worth listed has in_it) in
     record {
       listed = (
         (let P : ℕ → Type 0 = λ k. k < length p.caps in subst P (sym of_it.0) below),
@@ -251,7 +265,8 @@ best-first p listed prices class group column below e =
 pub best-none : (p : Problem) → HasListedColumns p → (prices : List Price) (class group : ℕ) → best_of p prices class group ≡ None →
     (list : List ℕ) (worth : ℕ) → p.worth class list ≡ Some worth → InGroup group list → ⊥
 best-none p listed prices class group e list worth has in_it =
-    earliest-some prices (group_columns p class group) (made_of class worth list) (group_columns-has p class group list worth listed has in_it) e
+    earliest-some prices (group_columns p class group) (made_of class worth list)
+    (group_columns-has p class group list worth listed has in_it) e
 
 -- the order tells lists apart
 slice_cmp-apart : (xs ys : List ℕ) → slice_cmp nat_cmp xs ys ≡ Equal → xs ≡ ys
@@ -294,13 +309,16 @@ same_columns a b class worth items =
 pub IsFirstLeast-one : (p : Problem) (prices : List Price) (class group : ℕ) (a b : Column) →
     IsFirstLeast p prices class group a → IsFirstLeast p prices class group b → a ≡ b
 IsFirstLeast-one p prices class group a b fa fb =
-    let worth_a : p.worth class a.items ≡ Some a.worth = (let P : ℕ → Type 0 = λ k. p.worth k a.items ≡ Some a.worth in subst P fa.of_class fa.listed.1) in
-    let worth_b : p.worth class b.items ≡ Some b.worth = (let P : ℕ → Type 0 = λ k. p.worth k b.items ≡ Some b.worth in subst P fb.of_class fb.listed.1) in
+    let worth_a : p.worth class a.items ≡ Some a.worth =
+    (let P : ℕ → Type 0 = λ k. p.worth k a.items ≡ Some a.worth in subst P fa.of_class fa.listed.1) in
+    let worth_b : p.worth class b.items ≡ Some b.worth =
+    (let P : ℕ → Type 0 = λ k. p.worth k b.items ≡ Some b.worth in subst P fb.of_class fb.listed.1) in
     let down : value prices a ≤ℤ value prices b = fa.least b.items b.worth worth_b fb.of_group in
     let up : value prices b ≤ℤ value prices a = fb.least a.items a.worth worth_a fa.of_group in
     let same : value prices b ≡ value prices a = omega (arith, ints) in
     let lists : a.items ≡ b.items =
-    IsNotAfter-both a.items b.items (fa.first b.items b.worth worth_b fb.of_group same) (fb.first a.items a.worth worth_a fa.of_group (sym same)) in
+    IsNotAfter-both a.items b.items (fa.first b.items b.worth worth_b fb.of_group same)
+    (fb.first a.items a.worth worth_a fa.of_group (sym same)) in
     let worths : Some a.worth ≡ Some b.worth = sym worth_a ∙ ap (p.worth class) lists ∙ worth_b in
     same_columns a b (fa.of_class ∙ sym fb.of_class) (ap (λ (o : Option ℕ). unwrap_or o a.worth) worths) lists
 
@@ -309,9 +327,11 @@ pub best-only : (p : Problem) → HasListedColumns p → (prices : List Price) (
 best-only p listed prices class group column below f =
     elim (best_of p prices class group) as (λ o. best_of p prices class group ≡ o → o ≡ Some column) [
       | None ↦ λ is.
-          let has : p.worth class column.items ≡ Some column.worth = (let P : ℕ → Type 0 = λ k. p.worth k column.items ≡ Some column.worth in subst P f.of_class f.listed.1) in
+          let has : p.worth class column.items ≡ Some column.worth =
+          (let P : ℕ → Type 0 = λ k. p.worth k column.items ≡ Some column.worth in subst P f.of_class f.listed.1) in
           absurd (best-none p listed prices class group is column.items column.worth has f.of_group)
-      | Some b ↦ λ is. ap (λ (c : Column). Some c) (IsFirstLeast-one p prices class group b column (best-first p listed prices class group b below is) f)
+      | Some b ↦ λ is. ap (λ (c : Column). Some c)
+          (IsFirstLeast-one p prices class group b column (best-first p listed prices class group b below is) f)
     ] refl
 
 pub best_is_first_least : (p : Problem) → HasListedColumns p → BestIsFirstLeast p
@@ -324,15 +344,18 @@ best_is_first_least p listed prices class group below = record {
         | None ↦ λ is. refl
         | Some b ↦ λ is.
             let f = best-first p listed prices class group b below is in
-            let has : p.worth class b.items ≡ Some b.worth = (let P : ℕ → Type 0 = λ k. p.worth k b.items ≡ Some b.worth in subst P f.of_class f.listed.1) in
+            let has : p.worth class b.items ≡ Some b.worth =
+            (let P : ℕ → Type 0 = λ k. p.worth k b.items ≡ Some b.worth in subst P f.of_class f.listed.1) in
             absurd (empty b.items b.worth has f.of_group)
       ] refl;
 }
 
-within-some : (limit : ℤ) (prices : List Price) (o : Option Column) (c : Column) → within limit prices o ≡ Some c → (o ≡ Some c) × (value prices c ≤ℤ limit)
+within-some : (limit : ℤ) (prices : List Price) (o : Option Column) (c : Column) → within limit prices o ≡ Some c →
+    (o ≡ Some c) × (value prices c ≤ℤ limit)
 within-some limit prices None c e = absurd (cc)
 within-some limit prices (Some b) c e =
-    elim (int_le (value prices b) limit) as (λ t. int_le (value prices b) limit ≡ t → cond t (Some b) None ≡ Some c → (Some b ≡ Some c) × (value prices c ≤ℤ limit)) [
+    elim (int_le (value prices b) limit) as (λ t. int_le (value prices b) limit ≡ t → cond t (Some b) None ≡ Some c →
+    (Some b ≡ Some c) × (value prices c ≤ℤ limit)) [
       | false ↦ λ is e'. absurd (cc)
       | true ↦ λ is e'.
           let same : b ≡ c = ap (λ (o : Option Column). unwrap_or o b) e' in
@@ -345,7 +368,8 @@ within-keeps limit prices c h = let test : int_le (value prices c) limit ≡ tru
 
 within-none : (limit : ℤ) (prices : List Price) (c : Column) → within limit prices (Some c) ≡ None → limit <ℤ value prices c
 within-none limit prices c e =
-    elim (int_le (value prices c) limit) as (λ t. int_le (value prices c) limit ≡ t → cond t (Some c) None ≡ None → limit <ℤ value prices c) [
+    elim (int_le (value prices c) limit) as (λ t. int_le (value prices c) limit ≡ t → cond t (Some c) None ≡ None →
+    limit <ℤ value prices c) [
       | true ↦ λ is e'. absurd (cc)
       | false ↦ λ is e'. grind (arith, ints)
     ] refl e
@@ -357,10 +381,12 @@ pub within_is_limited : (p : Problem) → HasListedColumns p → WithinIsLimited
 within_is_limited p listed prices class group limit below =
     let best = best_is_first_least p listed prices class group below in
     record {
-      found = λ column e. let parts = within-some limit prices (best_of p prices class group) column e in (best.is_first_least column parts.0, parts.1);
+      found = λ column e. let parts = within-some limit prices (best_of p prices class group) column e in
+          (best.is_first_least column parts.0, parts.1);
       onto = λ column f small. ap (within limit prices) (best.only column f) ∙ within-keeps limit prices column small;
       all_above = λ e list worth has in_it.
-          elim (best_of p prices class group) as (λ o. best_of p prices class group ≡ o → within limit prices o ≡ None → limit <ℤ value_of prices worth list) [
+          elim (best_of p prices class group) as (λ o. best_of p prices class group ≡ o → within limit prices o ≡ None →
+          limit <ℤ value_of prices worth list) [
             | None ↦ λ is e'. absurd (best.no_list is list worth has in_it)
             | Some b ↦ λ is e'.
                 let high = within-none limit prices b e' in
@@ -372,7 +398,8 @@ within_is_limited p listed prices class group limit below =
             | None ↦ λ is. refl
             | Some b ↦ λ is.
                 let f = best.is_first_least b is in
-                let has : p.worth class b.items ≡ Some b.worth = (let P : ℕ → Type 0 = λ k. p.worth k b.items ≡ Some b.worth in subst P f.of_class f.listed.1) in
+                let has : p.worth class b.items ≡ Some b.worth =
+                (let P : ℕ → Type 0 = λ k. p.worth k b.items ≡ Some b.worth in subst P f.of_class f.listed.1) in
                 within-drops limit prices b (above b.items b.worth has f.of_group)
           ] refl;
     }

@@ -29,7 +29,8 @@ not_empty : (xs : List ℕ) → (xs ≡ [] → ⊥) → 1 ≤ length xs
 not_empty [] h = absurd (h refl)
 not_empty (x ∷ xs) h = omega arith
 
-all_items-length : (p : Problem) (columns : List Column) → HasListedColumns p → AreColumns p columns → length columns ≤ length (all_items columns)
+all_items-length : (p : Problem) (columns : List Column) → HasListedColumns p → AreColumns p columns →
+    length columns ≤ length (all_items columns)
 all_items-length p [] listed h = omega arith
 all_items-length p (c ∷ cs) listed h =
     let some = not_empty c.items (listed c.class c.items c.worth h.0.1).0 in
@@ -40,7 +41,8 @@ all_items-length p (c ∷ cs) listed h =
 pub has_few_columns : (p : Problem) → HasListedColumns p → HasFewColumns p
 has_few_columns p listed columns plan =
     let below : AllBelow p.items (all_items columns) = all_items-below p columns listed plan.worths in
-    let spread : sum_each one_each (all_items columns) ≡ sum_first (λ i. pos (times i (all_items columns)) *ℤ one_each i) p.items = sum_each-times one_each p.items (all_items columns) below in
+    let spread : sum_each one_each (all_items columns) ≡ sum_first (λ i. pos (times i (all_items columns)) *ℤ one_each i) p.items =
+    sum_each-times one_each p.items (all_items columns) below in
     let once : sum_first (λ i. pos (times i (all_items columns)) *ℤ one_each i) p.items ≡ sum_first one_each p.items =
     sum_first-same _ _ _ (λ i h. let one : times i (all_items columns) ≡ 1 = plan.once i h in rw one (omega (arith, ints))) in
     let many = all_items-length p columns listed plan.worths in
@@ -49,14 +51,23 @@ has_few_columns p listed columns plan =
 sum-first : (caps : List ℕ) → sum_first (λ k. pos (get_or caps k 0) *ℤ one_each k) (length caps) ≡ pos (sum caps)
 sum-first [] = refl
 sum-first (cap ∷ caps) =
-    omega (arith, ints, sum-first caps, sum_first-front (λ k. pos (get_or (cap ∷ caps) k 0) *ℤ one_each k) (length caps), sum_by-cons (λ (n : ℕ). n) cap caps)
+    omega (
+      arith,
+      ints,
+      sum-first caps,
+      sum_first-front (λ k. pos (get_or (cap ∷ caps) k 0) *ℤ one_each k) (length caps),
+      sum_by-cons (λ (n : ℕ). n) cap caps,
+    )
 
 pub keeps_caps : (p : Problem) → KeepsCaps p
 keeps_caps p columns plan =
     let below : AllBelow (length p.caps) (all_classes columns) = all_classes-below p columns plan.worths in
-    let places : sum_each one_each (all_classes columns) ≡ sum_first (λ k. pos (times k (all_classes columns)) *ℤ one_each k) (length p.caps) = sum_each-times one_each (length p.caps) (all_classes columns) below in
-    let capped : sum_first (λ k. pos (times k (all_classes columns)) *ℤ one_each k) (length p.caps) ≤ℤ sum_first (λ k. pos (get_or p.caps k 0) *ℤ one_each k) (length p.caps) =
-    sum_first-mono _ _ _ (λ k h. product-mono (times k (all_classes columns)) (get_or p.caps k 0) (one_each k) (plan.caps k h) (omega (arith, ints))) in
+    let places : sum_each one_each (all_classes columns) ≡ sum_first (λ k. pos (times k (all_classes columns)) *ℤ one_each k)
+    (length p.caps) = sum_each-times one_each (length p.caps) (all_classes columns) below in
+    let capped : sum_first (λ k. pos (times k (all_classes columns)) *ℤ one_each k) (length p.caps) ≤ℤ sum_first
+    (λ k. pos (get_or p.caps k 0) *ℤ one_each k) (length p.caps) =
+    sum_first-mono _ _ _ (λ k h. product-mono (times k (all_classes columns)) (get_or p.caps k 0) (one_each k)
+    (plan.caps k h) (omega (arith, ints))) in
     omega (arith, ints, one_each-length (all_classes columns), all_classes-length columns, sum-first p.caps)
 
 -- the columns with each worth 1
@@ -90,14 +101,17 @@ counted-plan : (p q : Problem) (cs : List Column) → IsCountOf p q → IsPlan p
 counted-plan p q cs count plan = record {
   worths = counted-are p q cs count plan.worths;
   once = λ item below. rw (counted-items cs) (plan.once item (let P : ℕ → Type 0 = λ n. item < n in subst P count.items below));
-  caps = λ class below. rw (counted-classes cs, count.caps) (plan.caps class (let P : List ℕ → Type 0 = λ caps. class < length caps in subst P count.caps below));
+  caps = λ class below. rw (counted-classes cs, count.caps)
+      (plan.caps class (let P : List ℕ → Type 0 = λ caps. class < length caps in subst P count.caps below));
 }
 
 pub count_duality : (p : Problem) → HasListedColumns p → CountDuality p
 count_duality p listed q prices zs count prices-length zs-length paid columns plan =
-    let below : AllBelow q.items (all_items (counted_columns columns)) = rw (counted-items columns, count.items) (all_items-below p columns listed plan.worths) in
+    let below : AllBelow q.items (all_items (counted_columns columns)) =
+    rw (counted-items columns, count.items) (all_items-below p columns listed plan.worths) in
     let bound : bound_of prices zs q.caps ≤ cost (counted_columns columns) =
-    weak_duality-below q prices zs (prices-length ∙ sym count.items) (zs-length ∙ ap length (sym count.caps)) paid (counted_columns columns) below (counted-plan p q columns count plan) in
+    weak_duality-below q prices zs (prices-length ∙ sym count.items) (zs-length ∙ ap length (sym count.caps)) paid (counted_columns columns)
+    below (counted-plan p q columns count plan) in
     let here : bound_of prices zs p.caps ≡ bound_of prices zs q.caps = ap (bound_of prices zs) (sym count.caps) in
     omega (arith, counted-cost columns)
 

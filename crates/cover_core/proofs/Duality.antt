@@ -17,17 +17,24 @@ pub all_prices-is : (prices : List Price) → all_prices prices ≡ sum_first (p
 all_prices-is [] = refl
 all_prices-is (x ∷ xs) = omega (arith, ints, all_prices-is xs, sum_first-front (price_at (x ∷ xs)) (length xs))
 
-pub rent-is : (caps : List ℕ) (zs : List ℤ) → length zs ≡ length caps → rent caps zs ≡ sum_first (λ k. pos (get_or caps k 0) *ℤ number_at zs k) (length caps)
+pub rent-is : (caps : List ℕ) (zs : List ℤ) → length zs ≡ length caps →
+    rent caps zs ≡ sum_first (λ k. pos (get_or caps k 0) *ℤ number_at zs k) (length caps)
 rent-is [] zs h = refl
 rent-is (cap ∷ caps) [] h = absurd (omega arith)
 rent-is (cap ∷ caps) (z ∷ zs) h =
-    omega (arith, ints, rent-is caps zs (omega arith), sum_first-front (λ k. pos (get_or (cap ∷ caps) k 0) *ℤ number_at (z ∷ zs) k) (length caps))
+    omega (
+      arith,
+      ints,
+      rent-is caps zs (omega arith),
+      sum_first-front (λ k. pos (get_or (cap ∷ caps) k 0) *ℤ number_at (z ∷ zs) k) (length caps),
+    )
 
 pub AllBelow-append : (n : ℕ) (xs ys : List ℕ) → AllBelow n xs → AllBelow n ys → AllBelow n (xs ++ ys)
 AllBelow-append n [] ys h k = k
 AllBelow-append n (x ∷ xs) ys h k = (h.0, AllBelow-append n xs ys h.1 k)
 
-pub all_items-below : (p : Problem) (columns : List Column) → HasListedColumns p → AreColumns p columns → AllBelow p.items (all_items columns)
+pub all_items-below : (p : Problem) (columns : List Column) → HasListedColumns p → AreColumns p columns →
+    AllBelow p.items (all_items columns)
 all_items-below p [] l h = tt
 all_items-below p (c ∷ cs) l h =
     AllBelow-append p.items c.items (all_items cs) (l c.class c.items c.worth h.0.1).2 (all_items-below p cs l h.1)
@@ -41,8 +48,10 @@ pub charges : (p : Problem) (prices : List Price) (zs : List ℤ) (columns : Lis
     sum_each (price_at prices) (all_items columns) ≤ℤ (pos (1000 * cost columns) +ℤ sum_each (number_at zs) (all_classes columns))
 charges p prices zs [] paid h = omega (arith, ints)
 charges p prices zs (c ∷ cs) paid h =
-    let r : sum_each (price_at prices) (all_items cs) ≤ℤ (pos (1000 * cost cs) +ℤ sum_each (number_at zs) (all_classes cs)) = charges p prices zs cs paid h.1 in
-    let one : price_of prices c.items ≤ℤ (pos (1000 * c.worth) +ℤ number_at zs c.class) = paid.covered c.class c.items c.worth h.0.0 h.0.1 in
+    let r : sum_each (price_at prices) (all_items cs) ≤ℤ (pos (1000 * cost cs) +ℤ sum_each (number_at zs) (all_classes cs)) =
+    charges p prices zs cs paid h.1 in
+    let one : price_of prices c.items ≤ℤ (pos (1000 * c.worth) +ℤ number_at zs c.class) =
+    paid.covered c.class c.items c.worth h.0.0 h.0.1 in
     omega (arith, ints, sum_each-append (price_at prices) c.items (all_items cs), price_of-is prices c.items)
 
 pub thousandth-le : (z : ℤ) (n : ℕ) → z ≤ℤ pos (1000 * n) → thousandth z ≤ n
@@ -50,17 +59,23 @@ thousandth-le (pos m) n h = let k : m ≤ 1000 * n = omega (arith, ints) in omeg
 thousandth-le (negsuc m) n h = omega arith
 
 -- the columns need no law of the problem: their items are known to be there
-pub weak_duality-below : (p : Problem) (prices : List Price) (zs : List ℤ) → length prices ≡ p.items → length zs ≡ length p.caps → IsPaid p prices zs →
+pub weak_duality-below : (p : Problem) (prices : List Price) (zs : List ℤ) → length prices ≡ p.items →
+    length zs ≡ length p.caps → IsPaid p prices zs →
     (columns : List Column) → AllBelow p.items (all_items columns) → IsPlan p columns → bound_of prices zs p.caps ≤ cost columns
 weak_duality-below p prices zs prices-length zs-length paid columns below plan =
     let classes-below : AllBelow (length p.caps) (all_classes columns) = all_classes-below p columns plan.worths in
-    let total : all_prices prices ≡ sum_first (price_at prices) p.items = all_prices-is prices ∙ ap (sum_first (price_at prices)) prices-length in
-    let spread : sum_each (price_at prices) (all_items columns) ≡ sum_first (λ i. pos (times i (all_items columns)) *ℤ price_at prices i) p.items = sum_each-times _ _ _ below in
+    let total : all_prices prices ≡ sum_first (price_at prices) p.items =
+    all_prices-is prices ∙ ap (sum_first (price_at prices)) prices-length in
+    let spread : sum_each (price_at prices) (all_items columns) ≡ sum_first (λ i. pos (times i (all_items columns)) *ℤ price_at prices i)
+    p.items = sum_each-times _ _ _ below in
     let once : sum_first (λ i. pos (times i (all_items columns)) *ℤ price_at prices i) p.items ≡ sum_first (price_at prices) p.items =
     sum_first-same _ _ _ (λ i h. let one : times i (all_items columns) ≡ 1 = plan.once i h in rw one (omega (arith, ints))) in
-    let places : sum_each (number_at zs) (all_classes columns) ≡ sum_first (λ k. pos (times k (all_classes columns)) *ℤ number_at zs k) (length p.caps) = sum_each-times _ _ _ classes-below in
-    let capped : sum_first (λ k. pos (times k (all_classes columns)) *ℤ number_at zs k) (length p.caps) ≤ℤ sum_first (λ k. pos (get_or p.caps k 0) *ℤ number_at zs k) (length p.caps) =
-    sum_first-mono _ _ _ (λ k h. product-mono (times k (all_classes columns)) (get_or p.caps k 0) (number_at zs k) (plan.caps k h) (paid.charged k h)) in
+    let places : sum_each (number_at zs) (all_classes columns) ≡ sum_first (λ k. pos (times k (all_classes columns)) *ℤ number_at zs k)
+    (length p.caps) = sum_each-times _ _ _ classes-below in
+    let capped : sum_first (λ k. pos (times k (all_classes columns)) *ℤ number_at zs k) (length p.caps) ≤ℤ sum_first
+    (λ k. pos (get_or p.caps k 0) *ℤ number_at zs k) (length p.caps) =
+    sum_first-mono _ _ _ (λ k h. product-mono (times k (all_classes columns)) (get_or p.caps k 0) (number_at zs k)
+    (plan.caps k h) (paid.charged k h)) in
     let costs = charges p prices zs columns paid plan.worths in
     thousandth-le _ _ (omega (arith, ints, rent-is p.caps zs zs-length))
 

@@ -20,4 +20,5 @@ fit-at n k cs i c h e f = subst (IsFit n k) (sym e) (fit-get n k cs i c h f)
 
 pub AreFit-wider : (n k m : ℕ) (cs : List Column) → k ≤ m → AreFit n k cs → AreFit n m cs
 AreFit-wider n k m [] h f = tt
-AreFit-wider n k m (c ∷ cs) h f = let below = f.0.3 in let class : c.class < m = omega arith in ((f.0.0, f.0.1, f.0.2, class), AreFit-wider n k m cs h f.1)
+AreFit-wider n k m (c ∷ cs) h f =
+    let below = f.0.3 in let class : c.class < m = omega arith in ((f.0.0, f.0.1, f.0.2, class), AreFit-wider n k m cs h f.1)

@@ -21,7 +21,8 @@ held-cons i c cs = times-append i c.items (all_items cs)
 
 pub held-append : (i : ℕ) (cs ds : List Column) → times i (all_items (cs ++ ds)) ≡ times i (all_items cs) + times i (all_items ds)
 held-append i [] ds = omega arith
-held-append i (c ∷ cs) ds = omega (arith, held-append i cs ds, times-append i c.items (all_items cs), times-append i c.items (all_items (cs ++ ds)))
+held-append i (c ∷ cs) ds =
+    omega (arith, held-append i cs ds, times-append i c.items (all_items cs), times-append i c.items (all_items (cs ++ ds)))
 
 pub held-push : (i : ℕ) (cs : List Column) (c : Column) → times i (all_items (cs ++ c ∷ [])) ≡ times i (all_items cs) + times i c.items
 held-push i cs c = omega (arith, held-append i cs (c ∷ []), held-cons i c [])
@@ -30,7 +31,8 @@ pub placed-append : (k : ℕ) (cs ds : List Column) → times k (all_classes (cs
 placed-append k [] ds = omega arith
 placed-append k (c ∷ cs) ds = omega (arith, placed-append k cs ds)
 
-pub placed-push : (k : ℕ) (cs : List Column) (c : Column) → times k (all_classes (cs ++ c ∷ [])) ≡ times k (all_classes cs) + cond (k == c.class) 1 0
+pub placed-push : (k : ℕ) (cs : List Column) (c : Column) →
+    times k (all_classes (cs ++ c ∷ [])) ≡ times k (all_classes cs) + cond (k == c.class) 1 0
 placed-push k cs c = omega (arith, placed-append k cs (c ∷ []))
 
 pub AreColumns-push : (p : Problem) (cs : List Column) (c : Column) → AreColumns p cs → IsColumn p c → AreColumns p (cs ++ c ∷ [])
@@ -85,7 +87,8 @@ once-more j item old new e free h =
     ]
 
 -- a part in which each item stands is a plan
-pub whole_part : (p : Problem) (cs : List Column) → IsPart p cs → ((item : ℕ) → item < p.items → times item (all_items cs) ≡ 1) → IsPlan p cs
+pub whole_part : (p : Problem) (cs : List Column) → IsPart p cs →
+    ((item : ℕ) → item < p.items → times item (all_items cs) ≡ 1) → IsPlan p cs
 whole_part p cs part all = record { worths = part.worths; once = all; caps = part.caps }
 
 -- in a list that rises no item stands twice

@@ -14,7 +14,8 @@ few-at p class few there = All-get_or (λ cap. cap ≤ 10000) p.caps class 0 the
 
 -- the worth of a column is the problem's worth of its list
 pub modest-column : (p : Problem) (c : Column) → HasModestWorths p → IsColumn p c → c.worth ≤ 4000000000
-modest-column p c modest is = let Modest : Option ℕ → Type 0 = λ worth. IfSome worth (λ w. w ≤ 4000000000) in subst Modest is.1 (modest c.class c.items is.0)
+modest-column p c modest is = let Modest : Option ℕ → Type 0 = λ worth. IfSome worth (λ w. w ≤ 4000000000) in
+    subst Modest is.1 (modest c.class c.items is.0)
 
 -- the columns of a plan are worth little where all worths are modest
 pub modest-columns : (p : Problem) (cs : List Column) → HasModestWorths p → AreColumns p cs → AreCheap cs

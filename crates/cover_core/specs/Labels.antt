@@ -53,8 +53,10 @@ Beats good value_at h k = good h.1 k.1 × ((value_at h.1 <ℤ value_at k.1) ⊎ 
 -- and its list closes with a value that is no greater, and smaller where it was
 pub record IsValued {S : Type 0} (w : Labelling S) (good : S → S → Type 0) (value_at : S → ℤ) (close : S → Option ℤ) : Type 0 where
   pub at_most : (a b : S) → good a b → value_at a ≤ℤ value_at b
-  pub apart : (a b a' b' : S) (item : ℕ) → good a b → value_at a <ℤ value_at b → w.extend a item ≡ Some a' → w.extend b item ≡ Some b' → value_at a' <ℤ value_at b'
-  pub closes : (a b : S) (v : ℤ) → good a b → close b ≡ Some v → (u : ℤ) × (close a ≡ Some u) × (u ≤ℤ v) × (value_at a <ℤ value_at b → u <ℤ v)
+  pub apart : (a b a' b' : S) (item : ℕ) → good a b → value_at a <ℤ value_at b → w.extend a item ≡ Some a' → w.extend b item ≡ Some b' →
+      value_at a' <ℤ value_at b'
+  pub closes : (a b : S) (v : ℤ) → good a b → close b ≡ Some v →
+      (u : ℤ) × (close a ≡ Some u) × (u ≤ℤ v) × (value_at a <ℤ value_at b → u <ℤ v)
 
 -- of all lists that close this one closes with the least value, and of those with that value it comes first
 pub record IsFirstClosed {S : Type 0} (w : Labelling S) (close : S → Option ℤ) (list : List ℕ) (least : ℤ) : Type 0 where

@@ -20,35 +20,45 @@ at_most-from x v h =
     (λ is greater. omega (arith, ints)) in
     grind (arith, ints)
 
-count-front : (x : ℤ) (front : List ℤ) → ((k : ℕ) (d : ℤ) → k < length front → is_lt (int_cmp x (get_or front k d)) ≡ false) → count_by (λ v. int_le v x) front ≡ length front
+count-front : (x : ℤ) (front : List ℤ) → ((k : ℕ) (d : ℤ) → k < length front → is_lt (int_cmp x (get_or front k d)) ≡ false) →
+    count_by (λ v. int_le v x) front ≡ length front
 count-front x [] h = refl
 count-front x (v ∷ vs) h =
     let first : int_le v x ≡ true = at_most-from x v (h 0 (pos 0) (omega arith)) in
     let rest : count_by (λ v. int_le v x) vs ≡ length vs = count-front x vs (λ k d below. h (suc k) d (omega arith)) in
-    let whole : count_by (λ v. int_le v x) (v ∷ vs) ≡ cond {A = ℕ} (int_le v x) 1 0 + count_by (λ v. int_le v x) vs = sum_by-cons (λ y. cond {A = ℕ} (int_le y x) 1 0) v vs in
+    let whole : count_by (λ v. int_le v x) (v ∷ vs) ≡ cond {A = ℕ} (int_le v x) 1 0 + count_by (λ v. int_le v x) vs =
+    sum_by-cons (λ y. cond {A = ℕ} (int_le y x) 1 0) v vs in
     let one : cond {A = ℕ} (int_le v x) 1 0 ≡ 1 = ap (λ (b : Bool). cond {A = ℕ} b 1 0) first in
     omega arith
 
 pub count-split : (values front back : List ℤ) (x : ℤ) (place : ℕ) → IsPermutation values (front ++ x ∷ back) → length front ≡ place →
     ((k : ℕ) (d : ℤ) → k < length front → is_lt (int_cmp x (get_or front k d)) ≡ false) → place < count_by (λ v. int_le v x) values
 count-split values front back x place moved len split =
-    let same : count_by (λ v. int_le v x) (front ++ x ∷ back) ≡ count_by (λ v. int_le v x) values = sum_by-IsPermutation (λ y. cond {A = ℕ} (int_le y x) 1 0) values (front ++ x ∷ back) moved in
-    let parts : count_by (λ v. int_le v x) (front ++ x ∷ back) ≡ count_by (λ v. int_le v x) front + count_by (λ v. int_le v x) (x ∷ back) = sum_by-append (λ y. cond {A = ℕ} (int_le y x) 1 0) front (x ∷ back) in
+    let same : count_by (λ v. int_le v x) (front ++ x ∷ back) ≡ count_by (λ v. int_le v x) values =
+    sum_by-IsPermutation (λ y. cond {A = ℕ} (int_le y x) 1 0) values (front ++ x ∷ back) moved in
+    let parts : count_by (λ v. int_le v x) (front ++ x ∷ back) ≡ count_by (λ v. int_le v x) front + count_by (λ v. int_le v x) (x ∷ back) =
+    sum_by-append (λ y. cond {A = ℕ} (int_le y x) 1 0) front (x ∷ back) in
     let before = count-front x front split in
-    let whole : count_by (λ v. int_le v x) (x ∷ back) ≡ cond {A = ℕ} (int_le x x) 1 0 + count_by (λ v. int_le v x) back = sum_by-cons (λ y. cond {A = ℕ} (int_le y x) 1 0) x back in
+    let whole : count_by (λ v. int_le v x) (x ∷ back) ≡ cond {A = ℕ} (int_le x x) 1 0 + count_by (λ v. int_le v x) back =
+    sum_by-cons (λ y. cond {A = ℕ} (int_le y x) 1 0) x back in
     let here : int_le x x ≡ true = (let low : x ≤ℤ x = omega (arith, ints) in grind (arith, ints)) in
     let one : cond {A = ℕ} (int_le x x) 1 0 ≡ 1 = ap (λ (b : Bool). cond {A = ℕ} b 1 0) here in
     omega arith
 
 -- the values of a class that are at most a limit
-pub count-class : (class : ℕ) (limit : ℤ) (keys : List Key) → count_by (λ v. int_le v limit) (class_values class keys) ≡ count_by (is_at_most class limit) keys
+pub count-class : (class : ℕ) (limit : ℤ) (keys : List Key) →
+    count_by (λ v. int_le v limit) (class_values class keys) ≡ count_by (is_at_most class limit) keys
 count-class class limit [] = refl
 count-class class limit (k ∷ ks) =
     let rest : count_by (λ v. int_le v limit) (class_values class ks) ≡ count_by (is_at_most class limit) ks = count-class class limit ks in
-    let whole : count_by (is_at_most class limit) (k ∷ ks) ≡ cond {A = ℕ} ((k.class == class) && int_le k.value limit) 1 0 + count_by (is_at_most class limit) ks = sum_by-cons (λ y. cond {A = ℕ} ((y.class == class) && int_le y.value limit) 1 0) k ks in
-    elim (k.class == class) as (λ b. count_by (is_at_most class limit) (k ∷ ks) ≡ cond {A = ℕ} (b && int_le k.value limit) 1 0 + count_by (is_at_most class limit) ks →
-    count_by (λ v. int_le v limit) (cond b (k.value ∷ class_values class ks) (class_values class ks)) ≡ count_by (is_at_most class limit) (k ∷ ks)) [
-      | true ↦ λ is. sum_by-cons (λ y. cond {A = ℕ} (int_le y limit) 1 0) k.value (class_values class ks) ∙ ap (λ n. cond {A = ℕ} (int_le k.value limit) 1 0 + n) rest ∙ sym is
+    let whole : count_by (is_at_most class limit) (k ∷ ks) ≡ cond {A = ℕ} ((k.class == class) && int_le k.value limit) 1 0
+    + count_by (is_at_most class limit) ks = sum_by-cons (λ y. cond {A = ℕ} ((y.class == class) && int_le y.value limit) 1 0) k ks in
+    elim (k.class == class) as
+    (λ b. count_by (is_at_most class limit) (k ∷ ks) ≡ cond {A = ℕ} (b && int_le k.value limit) 1 0 + count_by (is_at_most class limit) ks →
+    count_by (λ v. int_le v limit) (cond b (k.value ∷ class_values class ks) (class_values class ks))
+    ≡ count_by (is_at_most class limit) (k ∷ ks)) [
+      | true ↦ λ is. sum_by-cons (λ y. cond {A = ℕ} (int_le y limit) 1 0) k.value (class_values class ks)
+          ∙ ap (λ n. cond {A = ℕ} (int_le k.value limit) 1 0 + n) rest ∙ sym is
       | false ↦ λ is. omega arith
     ] whole
 
@@ -69,8 +79,10 @@ number_at-last (y ∷ ys) z zero h = absurd (omega arith)
 number_at-last (y ∷ ys) z (suc i) h = number_at-last ys z i (omega arith)
 
 -- one more limit
-pub limits-more : (keys : List Key) (caps : List ℕ) (limits : List ℤ) (z : ℤ) (class : ℕ) → length limits ≡ class → IsLimit keys class (get_or caps class 0) z →
-    ((k : ℕ) → k < class → IsLimit keys k (get_or caps k 0) (number_at limits k)) → (k : ℕ) → k < class + 1 → IsLimit keys k (get_or caps k 0) (number_at (limits ++ z ∷ []) k)
+pub limits-more : (keys : List Key) (caps : List ℕ) (limits : List ℤ) (z : ℤ) (class : ℕ) → length limits ≡ class →
+    IsLimit keys class (get_or caps class 0) z →
+    ((k : ℕ) → k < class → IsLimit keys k (get_or caps k 0) (number_at limits k)) → (k : ℕ) → k < class + 1 →
+    IsLimit keys k (get_or caps k 0) (number_at (limits ++ z ∷ []) k)
 limits-more keys caps limits z class len here so_far k below =
     elim (cases_eq k class) [
       | inl same ↦

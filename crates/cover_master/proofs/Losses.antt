@@ -42,17 +42,21 @@ front-none k xs r h =
     let sum = rw test at more in
     omega arith
 
-lowered_by-times : (xs ys : List ℕ) (share : ℤ) (prices : List Price) (i : ℕ) → times i xs ≡ times i ys → lowered_by xs share prices i ≡ lowered_by ys share prices i
+lowered_by-times : (xs ys : List ℕ) (share : ℤ) (prices : List Price) (i : ℕ) → times i xs ≡ times i ys →
+    lowered_by xs share prices i ≡ lowered_by ys share prices i
 lowered_by-times xs ys share prices i e = ap (λ n. cond (nat_lt 0 n) (clamped (price_at prices i -ℤ share)) (price_at prices i)) e
 
-lowered_by-some : (xs : List ℕ) (share : ℤ) (prices : List Price) (i : ℕ) → 0 < times i xs → lowered_by xs share prices i ≡ clamped (price_at prices i -ℤ share)
+lowered_by-some : (xs : List ℕ) (share : ℤ) (prices : List Price) (i : ℕ) → 0 < times i xs →
+    lowered_by xs share prices i ≡ clamped (price_at prices i -ℤ share)
 lowered_by-some xs share prices i h = let test : nat_lt 0 (times i xs) ≡ true = grind (arith, nat_tests) in rw test refl
 
-lowered_by-none : (xs : List ℕ) (share : ℤ) (prices : List Price) (i : ℕ) → times i xs ≡ 0 → lowered_by xs share prices i ≡ price_at prices i
+lowered_by-none : (xs : List ℕ) (share : ℤ) (prices : List Price) (i : ℕ) → times i xs ≡ 0 →
+    lowered_by xs share prices i ≡ price_at prices i
 lowered_by-none xs share prices i e = let test : nat_lt 0 (times i xs) ≡ false = grind (arith, nat_tests) in rw test refl
 
 -- one more item is lowered
-pub lowered-more : (old now : List Price) (items : List ℕ) (k : ℕ) (share : ℤ) (x : Price) → k < length items → Rises items → get_or items k 0 < length now →
+pub lowered-more : (old now : List Price) (items : List ℕ) (k : ℕ) (share : ℤ) (x : Price) → k < length items → Rises items →
+    get_or items k 0 < length now →
     x.0 ≡ clamped (price_at now (get_or items k 0) -ℤ share) → ((i : ℕ) → price_at now i ≡ lowered_by (take k items) share old i) →
     (i : ℕ) → price_at (set now (get_or items k 0) x) i ≡ lowered_by (take (k + 1) items) share old i
 lowered-more old now items k share x inside rises there is so_far i =
@@ -66,7 +70,8 @@ lowered-more old now items k share x inside rises there is so_far i =
           let sum = rw test at more in
           let some : 0 < times i (take (k + 1) items) = omega arith in
           let here : price_at (set now item x) i ≡ x.0 = ap (λ n. price_at (set now item x) n) same ∙ price_at-set_same now item x there in
-          here ∙ is ∙ ap (λ z. clamped (z -ℤ share)) (was ∙ ap (λ n. price_at old n) (sym same)) ∙ sym (lowered_by-some (take (k + 1) items) share old i some)
+          here ∙ is ∙ ap (λ z. clamped (z -ℤ share)) (was ∙ ap (λ n. price_at old n) (sym same))
+          ∙ sym (lowered_by-some (take (k + 1) items) share old i some)
       | inr apart ↦
           let test : (i == item) ≡ false = grind (arith, nat_tests) in
           let sum = rw test at more in
@@ -74,17 +79,21 @@ lowered-more old now items k share x inside rises there is so_far i =
           price_at-set_other now item i x apart ∙ so_far i ∙ lowered_by-times (take k items) (take (k + 1) items) share old i same
     ]
 
-pub lowered_by-within : (items : List ℕ) (share : ℤ) (prices : List Price) (i : ℕ) → AllWithin 10000000000000 prices → IsWithin 10000000000000 (lowered_by items share prices i)
+pub lowered_by-within : (items : List ℕ) (share : ℤ) (prices : List Price) (i : ℕ) → AllWithin 10000000000000 prices →
+    IsWithin 10000000000000 (lowered_by items share prices i)
 lowered_by-within items share prices i h =
     elim (nat_lt 0 (times i items)) as (λ b. IsWithin 10000000000000 (cond b (clamped (price_at prices i -ℤ share)) (price_at prices i))) [
       | true ↦ clamped-within (price_at prices i -ℤ share)
       | false ↦ price_at-within 10000000000000 prices i h
     ]
 
-pub lowered_prices-within : (prices : List Price) (c : Column) → AllWithin 10000000000000 prices → AllWithin 10000000000000 (lowered_prices prices c)
+pub lowered_prices-within : (prices : List Price) (c : Column) → AllWithin 10000000000000 prices →
+    AllWithin 10000000000000 (lowered_prices prices c)
 lowered_prices-within prices c h =
     prices_from-within 10000000000000 (length prices) 0 (lowered_price prices c) (λ i.
-    elim (int_lt (value prices c) (pos 0)) as (λ b. IsWithin 10000000000000 (cond b (lowered_by c.items (pos (share_of (value prices c) (length c.items))) prices i) (price_at prices i))) [
+    elim (int_lt (value prices c) (pos 0)) as
+    (λ b. IsWithin 10000000000000
+    (cond b (lowered_by c.items (pos (share_of (value prices c) (length c.items))) prices i) (price_at prices i))) [
       | true ↦ lowered_by-within c.items (pos (share_of (value prices c) (length c.items))) prices i h
       | false ↦ price_at-within 10000000000000 prices i h
     ])

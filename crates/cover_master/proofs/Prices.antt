@@ -24,7 +24,8 @@ pub moved-is : (prices : List Price) (size : ℤ) (cover : List ℕ) (item : ℕ
 moved-is prices size cover item v x e same = e ∙ ap (λ (z : ℤ). clamped (z +ℤ (size *ℤ (pos 1 -ℤ pos (get_or cover item 0))))) same
 
 -- one more price of a rule
-pub pushed-more : (f : ℕ → ℤ) (new : List Price) (item : ℕ) (p : Price) → length new ≡ item → p.0 ≡ f item → ((k : ℕ) → k < item → price_at new k ≡ f k) →
+pub pushed-more : (f : ℕ → ℤ) (new : List Price) (item : ℕ) (p : Price) → length new ≡ item → p.0 ≡ f item →
+    ((k : ℕ) → k < item → price_at new k ≡ f k) →
     (k : ℕ) → k < item + 1 → price_at (new ++ p ∷ []) k ≡ f k
 pushed-more f new item p len is so_far k below =
     elim (cases_eq k item) [

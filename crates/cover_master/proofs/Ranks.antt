@@ -74,7 +74,8 @@ before-earlier x y sorted apart =
       | inl same ↦
           let test : (x.class == y.class) ≡ true = eqb-same x.class y.class same in
           let back : is_lt (place_cmp y x) ≡ false = ap is_lt (sym (key_cmp-same y x (sym same))) ∙ sorted in
-          let differ : place_cmp y x ≡ Equal → ⊥ = λ e. apart (sym (nat_cmp-equal y.place x.place (then-equal (int_cmp y.value x.value) (nat_cmp y.place x.place) e))) in
+          let differ : place_cmp y x ≡ Equal → ⊥ =
+          λ e. apart (sym (nat_cmp-equal y.place x.place (then-equal (int_cmp y.value x.value) (nat_cmp y.place x.place) e))) in
           let less : is_lt (place_cmp x y) ≡ true = below-other (place_cmp x y) (place_cmp y x) (place_total.antisymm x y) back differ in
           rw (test, less) refl
       | inr other ↦
@@ -109,17 +110,20 @@ no-gain-after k x g e =
 counted : (p : Key → Bool) (x : Key) (xs : List Key) → count_by p (x ∷ xs) ≡ cond (p x) 1 0 + count_by p xs
 counted p x xs = sum_by-cons (λ y. cond (p y) 1 0) x xs
 
-pub count-gains : (k : Key) (xs : List Key) → is_gain k ≡ true → count_by (comes_before k) (filter is_gain xs) ≡ count_by (comes_before k) xs
+pub count-gains : (k : Key) (xs : List Key) → is_gain k ≡ true →
+    count_by (comes_before k) (filter is_gain xs) ≡ count_by (comes_before k) xs
 count-gains k [] g = refl
 count-gains k (x ∷ xs) g =
     let rest : count_by (comes_before k) (filter is_gain xs) ≡ count_by (comes_before k) xs = count-gains k xs g in
     let whole = counted (comes_before k) x xs in
-    elim (is_gain x) as (λ b. is_gain x ≡ b → count_by (comes_before k) (cond b (x ∷ filter is_gain xs) (filter is_gain xs)) ≡ count_by (comes_before k) (x ∷ xs)) [
+    elim (is_gain x) as (λ b. is_gain x ≡ b → count_by (comes_before k) (cond b (x ∷ filter is_gain xs) (filter is_gain xs))
+    ≡ count_by (comes_before k) (x ∷ xs)) [
       | true ↦ λ e. counted (comes_before k) x (filter is_gain xs) ∙ ap (λ n. cond (comes_before k x) 1 0 + n) rest ∙ sym whole
       | false ↦ λ e.
           let none : comes_before k x ≡ false = no-gain-after k x g e in
           let zero_more : cond {A = ℕ} (comes_before k x) 1 0 ≡ 0 = ap (λ (b : Bool). cond {A = ℕ} b 1 0) none in
-          let sum : count_by (comes_before k) (x ∷ xs) ≡ count_by (comes_before k) xs = whole ∙ ap (λ n. n + count_by (comes_before k) xs) zero_more ∙ zero-add (count_by (comes_before k) xs) in
+          let sum : count_by (comes_before k) (x ∷ xs) ≡ count_by (comes_before k) xs =
+          whole ∙ ap (λ n. n + count_by (comes_before k) xs) zero_more ∙ zero-add (count_by (comes_before k) xs) in
           rest ∙ sym sum
     ] refl
 
@@ -134,14 +138,18 @@ places-above prices i place (c ∷ cs) h =
     let test : at_place i key ≡ false = eqb-apart place i (λ e. omega arith) in
     let none : cond {A = ℕ} (at_place i key) 1 0 ≡ 0 = ap (λ (b : Bool). cond {A = ℕ} b 1 0) test in
     let rest : count_by (at_place i) (keys_from prices (suc place) cs) ≡ 0 = places-above prices i (suc place) cs (omega arith) in
-    let whole : count_by (at_place i) (keys_from prices place (c ∷ cs)) ≡ cond (at_place i key) 1 0 + count_by (at_place i) (keys_from prices (suc place) cs) = counted (at_place i) key (keys_from prices (suc place) cs) in
+    let whole : count_by (at_place i) (keys_from prices place (c ∷ cs))
+    ≡ cond (at_place i key) 1 0 + count_by (at_place i) (keys_from prices (suc place) cs) =
+    counted (at_place i) key (keys_from prices (suc place) cs) in
     omega arith
 
 pub places-once : (prices : List Price) (i place : ℕ) (cs : List Column) → count_by (at_place i) (keys_from prices place cs) ≤ 1
 places-once prices i place [] = omega arith
 places-once prices i place (c ∷ cs) =
     let key : Key = record { class = c.class; value = value prices c; place = place } in
-    let whole : count_by (at_place i) (keys_from prices place (c ∷ cs)) ≡ cond (at_place i key) 1 0 + count_by (at_place i) (keys_from prices (suc place) cs) = counted (at_place i) key (keys_from prices (suc place) cs) in
+    let whole : count_by (at_place i) (keys_from prices place (c ∷ cs))
+    ≡ cond (at_place i key) 1 0 + count_by (at_place i) (keys_from prices (suc place) cs) =
+    counted (at_place i) key (keys_from prices (suc place) cs) in
     elim (cases_eq place i) [
       | inl same ↦
           let one : cond {A = ℕ} (at_place i key) 1 0 ≡ 1 = ap (λ (b : Bool). cond {A = ℕ} b 1 0) (eqb-same place i same) in
@@ -159,22 +167,30 @@ count-filter p q (x ∷ xs) =
     let rest : count_by p (filter q xs) ≤ count_by p xs = count-filter p q xs in
     let whole : count_by p (x ∷ xs) ≡ cond (p x) 1 0 + count_by p xs = counted p x xs in
     let one : count_by p (x ∷ filter q xs) ≡ cond (p x) 1 0 + count_by p (filter q xs) = counted p x (filter q xs) in
-    elim (q x) as (λ b. count_by p (cond b (x ∷ filter q xs) (filter q xs)) ≤ count_by p (x ∷ xs)) [ true ↦ omega arith | false ↦ omega arith ]
+    elim (q x) as (λ b. count_by p (cond b (x ∷ filter q xs) (filter q xs)) ≤ count_by p (x ∷ xs)) [
+      | true ↦
+          omega arith
+      | false ↦ omega arith
+    ]
 
 abbrev pub no_key : Key
 no_key = record { class = 0; value = pos 0; place = 0 }
 
-count-more : (p : Key → Bool) (xs : List Key) (t : ℕ) → t < length xs → count_by p (take (suc t) xs) ≡ count_by p (take t xs) + cond (p (get_or xs t no_key)) 1 0
+count-more : (p : Key → Bool) (xs : List Key) (t : ℕ) → t < length xs →
+    count_by p (take (suc t) xs) ≡ count_by p (take t xs) + cond (p (get_or xs t no_key)) 1 0
 count-more p xs t h = ap (λ n. count_by p (take n xs)) (sym (add-one t)) ∙ sum_by_more (λ x. cond (p x) 1 0) xs t no_key h
 
-count-same : (p q : Key → Bool) (xs : List Key) (t : ℕ) → t ≤ length xs → ((i : ℕ) → i < t → p (get_or xs i no_key) ≡ q (get_or xs i no_key)) → count_by p (take t xs) ≡ count_by q (take t xs)
+count-same : (p q : Key → Bool) (xs : List Key) (t : ℕ) → t ≤ length xs →
+    ((i : ℕ) → i < t → p (get_or xs i no_key) ≡ q (get_or xs i no_key)) → count_by p (take t xs) ≡ count_by q (take t xs)
 count-same p q xs zero h same = refl
 count-same p q xs (suc t) h same =
     let below : t < length xs = omega arith in
     let rest = count-same p q xs t (omega arith) (λ i lt. same i (omega arith)) in
-    count-more p xs t below ∙ ap (λ n. n + cond (p (get_or xs t no_key)) 1 0) rest ∙ ap (λ b. count_by q (take t xs) + cond b 1 0) (same t (omega arith)) ∙ sym (count-more q xs t below)
+    count-more p xs t below ∙ ap (λ n. n + cond (p (get_or xs t no_key)) 1 0) rest
+    ∙ ap (λ b. count_by q (take t xs) + cond b 1 0) (same t (omega arith)) ∙ sym (count-more q xs t below)
 
-count-none : (p : Key → Bool) (xs : List Key) (t n : ℕ) → t ≤ n → n ≤ length xs → ((i : ℕ) → t ≤ i → i < n → p (get_or xs i no_key) ≡ false) → count_by p (take n xs) ≡ count_by p (take t xs)
+count-none : (p : Key → Bool) (xs : List Key) (t n : ℕ) → t ≤ n → n ≤ length xs →
+    ((i : ℕ) → t ≤ i → i < n → p (get_or xs i no_key) ≡ false) → count_by p (take n xs) ≡ count_by p (take t xs)
 count-none p xs t zero h k none = let same : 0 ≡ t = omega arith in ap (λ m. count_by p (take m xs)) same
 count-none p xs t (suc n) h k none =
     elim (cases_eq t (suc n)) [
@@ -200,7 +216,8 @@ count-one p xs i (suc t) h k first =
     ]
 
 -- two that pass are counted twice
-count-two : (p : Key → Bool) (xs : List Key) (i t : ℕ) → i < t → t < length xs → p (get_or xs i no_key) ≡ true → p (get_or xs t no_key) ≡ true → 2 ≤ count_by p (take (suc t) xs)
+count-two : (p : Key → Bool) (xs : List Key) (i t : ℕ) → i < t → t < length xs → p (get_or xs i no_key) ≡ true →
+    p (get_or xs t no_key) ≡ true → 2 ≤ count_by p (take (suc t) xs)
 count-two p xs i t h k first second =
     let more = count-more p xs t k in
     let sum = rw second at more in
@@ -254,16 +271,19 @@ count-candidates limits k xs g c = onto (filter is_gain xs) ∙ count-gains k xs
         let p : Key → Bool = is_candidate limits in
         let rest : count_by (comes_before k) (filter p ys) ≡ count_by (comes_before k) ys = onto ys in
         let whole = counted (comes_before k) x ys in
-        elim (p x) as (λ b. p x ≡ b → count_by (comes_before k) (cond b (x ∷ filter p ys) (filter p ys)) ≡ count_by (comes_before k) (x ∷ ys)) [
+        elim (p x) as (λ b. p x ≡ b → count_by (comes_before k) (cond b (x ∷ filter p ys) (filter p ys))
+        ≡ count_by (comes_before k) (x ∷ ys)) [
           | true ↦ λ e. counted (comes_before k) x (filter p ys) ∙ ap (λ n. cond (comes_before k x) 1 0 + n) rest ∙ sym whole
           | false ↦ λ e.
               let none : comes_before k x ≡ false = no-candidate-after limits k x c e in
               let zero_more : cond {A = ℕ} (comes_before k x) 1 0 ≡ 0 = ap (λ (b : Bool). cond {A = ℕ} b 1 0) none in
-              let sum : count_by (comes_before k) (x ∷ ys) ≡ count_by (comes_before k) ys = whole ∙ ap (λ n. n + count_by (comes_before k) ys) zero_more ∙ zero-add (count_by (comes_before k) ys) in
+              let sum : count_by (comes_before k) (x ∷ ys) ≡ count_by (comes_before k) ys =
+              whole ∙ ap (λ n. n + count_by (comes_before k) ys) zero_more ∙ zero-add (count_by (comes_before k) ys) in
               rest ∙ sym sum
         ] refl
 
-module _ (prices : List Price) (pool : List Column) (caps : List ℕ) (sorted : List Key) (candidates : AreCandidates prices pool caps sorted) (up : IsSortedBy is_before sorted) where
+module _ (prices : List Price) (pool : List Column) (caps : List ℕ) (sorted : List Key) (candidates : AreCandidates prices pool caps sorted)
+    (up : IsSortedBy is_before sorted) where
   apart : (i t : ℕ) → i < t → t < length sorted → (get_or sorted i no_key).place ≡ (get_or sorted t no_key).place → ⊥
   apart i t h k e =
       let place = (get_or sorted t no_key).place in
@@ -271,28 +291,46 @@ module _ (prices : List Price) (pool : List Column) (caps : List ℕ) (sorted : 
       let second : at_place place (get_or sorted t no_key) ≡ true = eqb-same place place refl in
       let two = count-two (at_place place) sorted i t h k first second in
       let part = count-take (at_place place) sorted (suc t) (omega arith) in
-      let same : count_by (at_place place) sorted ≡ count_by (at_place place) (filter (is_candidate candidates.limits) (gain_keys prices pool)) = sum_by-IsPermutation (λ x. cond (at_place place x) 1 0) (filter (is_candidate candidates.limits) (gain_keys prices pool)) sorted candidates.all in
+      let same : count_by (at_place place) sorted
+      ≡ count_by (at_place place) (filter (is_candidate candidates.limits) (gain_keys prices pool)) =
+      sum_by-IsPermutation (λ x. cond (at_place place x) 1 0) (filter (is_candidate candidates.limits) (gain_keys prices pool))
+      sorted candidates.all in
       let fewer = count-filter (at_place place) is_gain (keys_of prices pool) in
       let fewest = count-filter (at_place place) (is_candidate candidates.limits) (gain_keys prices pool) in
       let once = places-once prices place 0 pool in
       omega arith
 
   pub gain-at : (t : ℕ) → t < length sorted → is_gain (get_or sorted t no_key) ≡ true
-  gain-at t h = All-get_or (λ k. is_gain k ≡ true) sorted t no_key h (All-permutation (λ k. is_gain k ≡ true) (filter (is_candidate candidates.limits) (gain_keys prices pool)) sorted candidates.all (All-filter (is_candidate candidates.limits) (λ k. is_gain k ≡ true) (gain_keys prices pool) (filter_passes is_gain (keys_of prices pool))))
+  gain-at t h = All-get_or (λ k. is_gain k ≡ true) sorted t no_key h
+      (All-permutation (λ k. is_gain k ≡ true) (filter (is_candidate candidates.limits) (gain_keys prices pool)) sorted candidates.all
+      (All-filter (is_candidate candidates.limits) (λ k. is_gain k ≡ true) (gain_keys prices pool)
+      (filter_passes is_gain (keys_of prices pool))))
 
   candidate-at : (t : ℕ) → t < length sorted → is_candidate candidates.limits (get_or sorted t no_key) ≡ true
   candidate-at t h =
-      All-get_or (λ k. is_candidate candidates.limits k ≡ true) sorted t no_key h (All-permutation (λ k. is_candidate candidates.limits k ≡ true) (filter (is_candidate candidates.limits) (gain_keys prices pool)) sorted candidates.all (filter_passes (is_candidate candidates.limits) (gain_keys prices pool)))
+      All-get_or (λ k. is_candidate candidates.limits k ≡ true) sorted t no_key h
+      (All-permutation (λ k. is_candidate candidates.limits k ≡ true) (filter (is_candidate candidates.limits) (gain_keys prices pool))
+      sorted candidates.all (filter_passes (is_candidate candidates.limits) (gain_keys prices pool)))
 
   -- the rank of a column is how many of its class stand before it
-  pub rank-at : (t : ℕ) → t < length sorted → rank (keys_of prices pool) (get_or sorted t no_key) ≡ count_by (λ x. x.class == (get_or sorted t no_key).class) (take t sorted)
+  pub rank-at : (t : ℕ) → t < length sorted →
+      rank (keys_of prices pool) (get_or sorted t no_key) ≡ count_by (λ x. x.class == (get_or sorted t no_key).class) (take t sorted)
   rank-at t h =
       let key : Key = get_or sorted t no_key in
-      let some : count_by (comes_before key) (filter (is_candidate candidates.limits) (gain_keys prices pool)) ≡ count_by (comes_before key) (keys_of prices pool) = count-candidates candidates.limits key (keys_of prices pool) (gain-at t h) (candidate-at t h) in
-      let same : count_by (comes_before key) sorted ≡ count_by (comes_before key) (filter (is_candidate candidates.limits) (gain_keys prices pool)) = sum_by-IsPermutation (λ x. cond (comes_before key x) 1 0) (filter (is_candidate candidates.limits) (gain_keys prices pool)) sorted candidates.all in
-      let whole : count_by (comes_before key) (take (length sorted) sorted) ≡ count_by (comes_before key) sorted = ap (count_by (comes_before key)) (take-length sorted) in
+      let some : count_by (comes_before key) (filter (is_candidate candidates.limits) (gain_keys prices pool))
+      ≡ count_by (comes_before key) (keys_of prices pool) =
+      count-candidates candidates.limits key (keys_of prices pool) (gain-at t h) (candidate-at t h) in
+      let same : count_by (comes_before key) sorted
+      ≡ count_by (comes_before key) (filter (is_candidate candidates.limits) (gain_keys prices pool)) =
+      sum_by-IsPermutation (λ x. cond (comes_before key x) 1 0) (filter (is_candidate candidates.limits) (gain_keys prices pool))
+      sorted candidates.all in
+      let whole : count_by (comes_before key) (take (length sorted) sorted) ≡ count_by (comes_before key) sorted =
+      ap (count_by (comes_before key)) (take-length sorted) in
       let front : count_by (comes_before key) (take (length sorted) sorted) ≡ count_by (comes_before key) (take t sorted) =
-      count-none (comes_before key) sorted t (length sorted) (omega arith) (omega arith) (λ i low high. before-later (get_or sorted i no_key) key (sorted_far is_before before_order sorted up t i no_key low high)) in
+      count-none (comes_before key) sorted t (length sorted) (omega arith) (omega arith)
+      (λ i low high. before-later (get_or sorted i no_key) key (sorted_far is_before before_order sorted up t i no_key low high)) in
       let class : count_by (comes_before key) (take t sorted) ≡ count_by (λ x. x.class == key.class) (take t sorted) =
-      count-same (comes_before key) (λ x. x.class == key.class) sorted t (omega arith) (λ i lt. before-earlier (get_or sorted i no_key) key (sorted_far is_before before_order sorted up i t no_key (omega arith) h) (apart i t lt h)) in
+      count-same (comes_before key) (λ x. x.class == key.class) sorted t (omega arith)
+      (λ i lt. before-earlier (get_or sorted i no_key) key (sorted_far is_before before_order sorted up i t no_key (omega arith) h)
+      (apart i t lt h)) in
       sym some ∙ sym same ∙ sym whole ∙ front ∙ class

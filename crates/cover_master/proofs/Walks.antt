@@ -33,14 +33,21 @@ pub record IsKey (k n : ℕ) (key : Key) : Type 0 where
   pub class : key.class < k
   pub place : key.place < n
 
-keys-there : (prices : List Price) (items k n place : ℕ) (cs : List Column) → place + length cs ≤ n → AreFit items k cs → All (IsKey k n) (keys_from prices place cs)
+keys-there : (prices : List Price) (items k n place : ℕ) (cs : List Column) → place + length cs ≤ n → AreFit items k cs →
+    All (IsKey k n) (keys_from prices place cs)
 keys-there prices items k n place [] h fit = All-nil (IsKey k n)
 keys-there prices items k n place (c ∷ cs) h fit =
-    let here : IsKey k n (record { class = c.class; value = value prices c; place = place }) = record { class = fit.0.3; place = omega arith } in
-    All-cons (IsKey k n) (record { class = c.class; value = value prices c; place = place }) (keys_from prices (suc place) cs) here (keys-there prices items k n (suc place) cs (omega arith) fit.1)
+    let here : IsKey k n (record { class = c.class; value = value prices c; place = place }) = record {
+      class =
+          fit.0.3;
+      place = omega arith;
+    } in
+    All-cons (IsKey k n) (record { class = c.class; value = value prices c; place = place }) (keys_from prices (suc place) cs) here
+    (keys-there prices items k n (suc place) cs (omega arith) fit.1)
 
 -- a column that is no gain adds nothing
-chosen-gains : (pool : List Column) (keys : List Key) (caps : List ℕ) (item : ℕ) (xs : List Key) → sum_by (chosen_times pool keys caps item) (filter is_gain xs) ≡ sum_by (chosen_times pool keys caps item) xs
+chosen-gains : (pool : List Column) (keys : List Key) (caps : List ℕ) (item : ℕ) (xs : List Key) →
+    sum_by (chosen_times pool keys caps item) (filter is_gain xs) ≡ sum_by (chosen_times pool keys caps item) xs
 chosen-gains pool keys caps item [] = refl
 chosen-gains pool keys caps item (x ∷ xs) =
     let f : Key → ℕ = chosen_times pool keys caps item in
@@ -49,7 +56,8 @@ chosen-gains pool keys caps item (x ∷ xs) =
     elim (is_gain x) as (λ b. is_gain x ≡ b → sum_by f (cond b (x ∷ filter is_gain xs) (filter is_gain xs)) ≡ sum_by f (x ∷ xs)) [
       | true ↦ λ e. sum_by-cons f x (filter is_gain xs) ∙ ap (λ n. f x + n) rest ∙ sym whole
       | false ↦ λ e.
-          let none : f x ≡ 0 = ap (λ (b : Bool). cond {A = ℕ} (b && nat_lt (rank keys x) (slice_index caps x.class)) (times item (column_at pool x.place).items) 0) e in
+          let none : f x ≡ 0 = ap (λ (b : Bool). cond {A = ℕ} (b && nat_lt (rank keys x) (slice_index caps x.class))
+          (times item (column_at pool x.place).items) 0) e in
           omega arith
     ] refl
 
@@ -95,7 +103,8 @@ above-limit x y limit above e =
     ]
 
 -- a column of value below 0 that is no candidate is not chosen
-not-chosen : (prices : List Price) (pool : List Column) (caps : List ℕ) (limits : List ℤ) → AreLimits (gain_keys prices pool) caps limits → (x : Key) →
+not-chosen : (prices : List Price) (pool : List Column) (caps : List ℕ) (limits : List ℤ) →
+    AreLimits (gain_keys prices pool) caps limits → (x : Key) →
     is_gain x ≡ true → is_candidate limits x ≡ false → is_chosen (keys_of prices pool) caps x ≡ false
 not-chosen prices pool caps limits are x gain out =
     let limit : ℤ = number_at limits x.class in
@@ -106,7 +115,8 @@ not-chosen prices pool caps limits are x gain out =
           elim (are.1 x.class inside) [
             | inl all ↦ absurd (omega (arith, ints))
             | inr many ↦
-                let before = count-mono (is_at_most x.class limit) (comes_before x) (λ y e. above-limit x y limit above e) (gain_keys prices pool) in
+                let before = count-mono (is_at_most x.class limit) (comes_before x) (λ y e. above-limit x y limit above e)
+                (gain_keys prices pool) in
                 let fewer = count-filter (comes_before x) is_gain (keys_of prices pool) in
                 let rank_high : slice_index caps x.class ≤ rank (keys_of prices pool) x = omega arith in
                 let test : nat_lt (rank (keys_of prices pool) x) (slice_index caps x.class) ≡ false = grind (arith, nat_tests) in
@@ -118,24 +128,30 @@ not-chosen prices pool caps limits are x gain out =
           absurd (omega (arith, ints))
     ]
 
-chosen-candidates : (prices : List Price) (pool : List Column) (caps : List ℕ) (item : ℕ) (limits : List ℤ) → AreLimits (gain_keys prices pool) caps limits →
-    sum_by (chosen_times pool (keys_of prices pool) caps item) (filter (is_candidate limits) (gain_keys prices pool)) ≡ sum_by (chosen_times pool (keys_of prices pool) caps item) (gain_keys prices pool)
+chosen-candidates : (prices : List Price) (pool : List Column) (caps : List ℕ) (item : ℕ) (limits : List ℤ) →
+    AreLimits (gain_keys prices pool) caps limits →
+    sum_by (chosen_times pool (keys_of prices pool) caps item) (filter (is_candidate limits) (gain_keys prices pool))
+    ≡ sum_by (chosen_times pool (keys_of prices pool) caps item) (gain_keys prices pool)
 chosen-candidates prices pool caps item limits are = onto (keys_of prices pool)
   where
-    onto : (xs : List Key) → sum_by (chosen_times pool (keys_of prices pool) caps item) (filter (is_candidate limits) (filter is_gain xs)) ≡ sum_by (chosen_times pool (keys_of prices pool) caps item) (filter is_gain xs)
+    onto : (xs : List Key) → sum_by (chosen_times pool (keys_of prices pool) caps item) (filter (is_candidate limits) (filter is_gain xs))
+        ≡ sum_by (chosen_times pool (keys_of prices pool) caps item) (filter is_gain xs)
     onto [] = refl
     onto (x ∷ xs) =
         let g : Key → ℕ = chosen_times pool (keys_of prices pool) caps item in
         let p : Key → Bool = is_candidate limits in
         let rest : sum_by g (filter p (filter is_gain xs)) ≡ sum_by g (filter is_gain xs) = onto xs in
-        elim (is_gain x) as (λ b. is_gain x ≡ b → sum_by g (filter p (cond b (x ∷ filter is_gain xs) (filter is_gain xs))) ≡ sum_by g (cond b (x ∷ filter is_gain xs) (filter is_gain xs))) [
+        elim (is_gain x) as (λ b. is_gain x ≡ b → sum_by g (filter p (cond b (x ∷ filter is_gain xs) (filter is_gain xs)))
+        ≡ sum_by g (cond b (x ∷ filter is_gain xs) (filter is_gain xs))) [
           | false ↦ λ e. rest
           | true ↦ λ gain.
               let whole : sum_by g (x ∷ filter is_gain xs) ≡ g x + sum_by g (filter is_gain xs) = sum_by-cons g x (filter is_gain xs) in
-              elim (p x) as (λ b. p x ≡ b → sum_by g (cond b (x ∷ filter p (filter is_gain xs)) (filter p (filter is_gain xs))) ≡ sum_by g (x ∷ filter is_gain xs)) [
+              elim (p x) as (λ b. p x ≡ b → sum_by g (cond b (x ∷ filter p (filter is_gain xs)) (filter p (filter is_gain xs)))
+              ≡ sum_by g (x ∷ filter is_gain xs)) [
                 | true ↦ λ e. sum_by-cons g x (filter p (filter is_gain xs)) ∙ ap (λ n. g x + n) rest ∙ sym whole
                 | false ↦ λ out.
-                    let none : g x ≡ 0 = ap (λ (b : Bool). cond {A = ℕ} b (times item (column_at pool x.place).items) 0) (not-chosen prices pool caps limits are x gain out) in
+                    let none : g x ≡ 0 = ap (λ (b : Bool). cond {A = ℕ} b (times item (column_at pool x.place).items) 0)
+                    (not-chosen prices pool caps limits are x gain out) in
                     omega arith
               ] refl
         ] refl
@@ -150,11 +166,17 @@ get_or-past [] i h = refl
 get_or-past (x ∷ xs) zero h = absurd (omega arith)
 get_or-past (x ∷ xs) (suc i) h = get_or-past xs i (omega arith)
 
-module _ (prices : List Price) (pool : List Column) (caps : List ℕ) (sorted : List Key) (candidates : AreCandidates prices pool caps sorted) (up : IsSortedBy is_before sorted) where
-  pub key-there : (items : ℕ) (t : ℕ) → t < length sorted → AreFit items (length caps) pool → IsKey (length caps) (length pool) (get_or sorted t no_key)
+module _ (prices : List Price) (pool : List Column) (caps : List ℕ) (sorted : List Key) (candidates : AreCandidates prices pool caps sorted)
+    (up : IsSortedBy is_before sorted) where
+  pub key-there : (items : ℕ) (t : ℕ) → t < length sorted → AreFit items (length caps) pool →
+      IsKey (length caps) (length pool) (get_or sorted t no_key)
   key-there items t h fit =
-      All-get_or (IsKey (length caps) (length pool)) sorted t no_key h (All-permutation (IsKey (length caps) (length pool)) (filter (is_candidate candidates.limits) (gain_keys prices pool)) sorted candidates.all
-      (All-filter (is_candidate candidates.limits) (IsKey (length caps) (length pool)) (gain_keys prices pool) (All-filter is_gain (IsKey (length caps) (length pool)) (keys_of prices pool) (keys-there prices items (length caps) (length pool) 0 pool (omega arith) fit))))
+      All-get_or (IsKey (length caps) (length pool)) sorted t no_key h
+      (All-permutation (IsKey (length caps) (length pool)) (filter (is_candidate candidates.limits) (gain_keys prices pool))
+      sorted candidates.all
+      (All-filter (is_candidate candidates.limits) (IsKey (length caps) (length pool)) (gain_keys prices pool)
+      (All-filter is_gain (IsKey (length caps) (length pool)) (keys_of prices pool)
+      (keys-there prices items (length caps) (length pool) 0 pool (omega arith) fit))))
 
   -- counted so far: how many columns of the class stand before
   pub chosen-at : (t count : ℕ) → t < length sorted → count ≡ count_by (λ x. x.class == (get_or sorted t no_key).class) (take t sorted) →
@@ -163,60 +185,81 @@ module _ (prices : List Price) (pool : List Column) (caps : List ℕ) (sorted : 
       let key : Key = get_or sorted t no_key in
       let gain : is_gain key ≡ true = gain-at prices pool caps sorted candidates up t h in
       let same : rank (keys_of prices pool) key ≡ count = rank-at prices pool caps sorted candidates up t h ∙ sym e in
-      ap (λ b. b && nat_lt (rank (keys_of prices pool) key) (slice_index caps key.class)) gain ∙ ap (λ n. nat_lt n (slice_index caps key.class)) same
+      ap (λ b. b && nat_lt (rank (keys_of prices pool) key) (slice_index caps key.class)) gain
+      ∙ ap (λ n. nat_lt n (slice_index caps key.class)) same
 
-  pub covered-more : (item t count old : ℕ) → t < length sorted → count ≡ count_by (λ x. x.class == (get_or sorted t no_key).class) (take t sorted) →
+  pub covered-more : (item t count old : ℕ) → t < length sorted →
+      count ≡ count_by (λ x. x.class == (get_or sorted t no_key).class) (take t sorted) →
       old ≡ sum_by (chosen_times pool (keys_of prices pool) caps item) (take t sorted) →
-      old + cond (nat_lt count (slice_index caps (get_or sorted t no_key).class)) (times item (column_at pool (get_or sorted t no_key).place).items) 0 ≡
+      old + cond (nat_lt count (slice_index caps (get_or sorted t no_key).class))
+      (times item (column_at pool (get_or sorted t no_key).place).items) 0 ≡
       sum_by (chosen_times pool (keys_of prices pool) caps item) (take (t + 1) sorted)
   covered-more item t count old h e so_far =
       let key : Key = get_or sorted t no_key in
       let more = sum_by_more (chosen_times pool (keys_of prices pool) caps item) sorted t no_key h in
       let test = chosen-at t count h e in
-      let here : chosen_times pool (keys_of prices pool) caps item key ≡ cond {A = ℕ} (nat_lt count (slice_index caps key.class)) (times item (column_at pool key.place).items) 0 =
+      let here : chosen_times pool (keys_of prices pool) caps item key ≡ cond {A = ℕ} (nat_lt count (slice_index caps key.class))
+      (times item (column_at pool key.place).items) 0 =
       ap (λ (b : Bool). cond {A = ℕ} b (times item (column_at pool key.place).items) 0) test in
       omega arith
 
-  pub covered-all : (item t n : ℕ) → t ≡ length sorted → n ≡ sum_by (chosen_times pool (keys_of prices pool) caps item) (take t sorted) → n ≡ times_chosen pool prices caps item
+  pub covered-all : (item t n : ℕ) → t ≡ length sorted → n ≡ sum_by (chosen_times pool (keys_of prices pool) caps item) (take t sorted) →
+      n ≡ times_chosen pool prices caps item
   covered-all item t n end is =
       let f : Key → ℕ = chosen_times pool (keys_of prices pool) caps item in
       let whole : take t sorted ≡ sorted = ap (λ m. take m sorted) end ∙ take-length sorted in
-      is ∙ ap (sum_by f) whole ∙ sum_by-IsPermutation f (filter (is_candidate candidates.limits) (gain_keys prices pool)) sorted candidates.all ∙
-      chosen-candidates prices pool caps item candidates.limits candidates.are ∙ chosen-gains pool (keys_of prices pool) caps item (keys_of prices pool)
+      is ∙ ap (sum_by f) whole
+      ∙ sum_by-IsPermutation f (filter (is_candidate candidates.limits) (gain_keys prices pool)) sorted candidates.all ∙
+      chosen-candidates prices pool caps item candidates.limits candidates.are
+      ∙ chosen-gains pool (keys_of prices pool) caps item (keys_of prices pool)
 
   pub counted-more : (counts : List ℕ) (t : ℕ) → t < length sorted → (get_or sorted t no_key).class < length counts →
       ((class : ℕ) → class < length counts → get_or counts class 0 ≡ count_by (λ x. x.class == class) (take t sorted)) →
-      (class : ℕ) → class < length counts → get_or (set counts (get_or sorted t no_key).class (get_or counts (get_or sorted t no_key).class 0 + 1)) class 0 ≡ count_by (λ x. x.class == class) (take (t + 1) sorted)
+      (class : ℕ) → class < length counts →
+      get_or (set counts (get_or sorted t no_key).class (get_or counts (get_or sorted t no_key).class 0 + 1)) class 0
+      ≡ count_by (λ x. x.class == class) (take (t + 1) sorted)
   counted-more counts t h inside so_far class below =
       let key : Key = get_or sorted t no_key in
       let n : ℕ = get_or counts key.class 0 in
-      let more : count_by (λ x. x.class == class) (take (t + 1) sorted) ≡ count_by (λ x. x.class == class) (take t sorted) + cond {A = ℕ} (key.class == class) 1 0 = sum_by_more (λ x. cond {A = ℕ} (x.class == class) 1 0) sorted t no_key h in
+      let more : count_by (λ x. x.class == class) (take (t + 1) sorted) ≡ count_by (λ x. x.class == class) (take t sorted) + cond {A =
+      ℕ} (key.class == class) 1 0 = sum_by_more (λ x. cond {A = ℕ} (x.class == class) 1 0) sorted t no_key h in
       let was : get_or counts class 0 ≡ count_by (λ x. x.class == class) (take t sorted) = so_far class below in
       elim (cases_eq class key.class) [
         | inl same ↦
             let here : get_or (set counts key.class (n + 1)) key.class 0 ≡ n + 1 = get_or-set_same counts key.class (n + 1) 0 inside in
-            let there : get_or (set counts key.class (n + 1)) class 0 ≡ n + 1 = ap (λ k. get_or (set counts key.class (n + 1)) k 0) same ∙ here in
+            let there : get_or (set counts key.class (n + 1)) class 0 ≡ n + 1 =
+            ap (λ k. get_or (set counts key.class (n + 1)) k 0) same ∙ here in
             let before : get_or counts class 0 ≡ n = ap (λ k. get_or counts k 0) same in
             let test : (key.class == class) ≡ true = grind (arith, nat_tests) in
             let one : cond {A = ℕ} (key.class == class) 1 0 ≡ 1 = ap (λ (b : Bool). cond {A = ℕ} b 1 0) test in
             omega arith
         | inr apart ↦
-            let other : get_or (set counts key.class (n + 1)) class 0 ≡ get_or counts class 0 = get_or-set_other counts key.class class (n + 1) 0 apart in
-            let test : (key.class == class) ≡ false = (let turned : key.class ≡ class → ⊥ = λ e. apart (sym e) in grind (arith, nat_tests)) in
+            let other : get_or (set counts key.class (n + 1)) class 0 ≡ get_or counts class 0 =
+            get_or-set_other counts key.class class (n + 1) 0 apart in
+            let test : (key.class == class) ≡ false =
+            (let turned : key.class ≡ class → ⊥ = λ e. apart (sym e) in grind (arith, nat_tests)) in
             let none : cond {A = ℕ} (key.class == class) 1 0 ≡ 0 = ap (λ (b : Bool). cond {A = ℕ} b 1 0) test in
             omega arith
       ]
 
   pub few-keys : length sorted ≤ length pool
-  few-keys = omega (arith, length_permutation (filter (is_candidate candidates.limits) (gain_keys prices pool)) sorted candidates.all, length-kept (is_candidate candidates.limits) (gain_keys prices pool), length-kept is_gain (keys_of prices pool), length-keys prices 0 pool)
+  few-keys = omega (
+    arith,
+    length_permutation (filter (is_candidate candidates.limits) (gain_keys prices pool)) sorted candidates.all,
+    length-kept (is_candidate candidates.limits) (gain_keys prices pool),
+    length-kept is_gain (keys_of prices pool),
+    length-keys prices 0 pool,
+  )
 
-  pub low-counts : (counts : List ℕ) (t : ℕ) → t ≤ length sorted → ((class : ℕ) → class < length counts → get_or counts class 0 ≡ count_by (λ x. x.class == class) (take t sorted)) →
+  pub low-counts : (counts : List ℕ) (t : ℕ) → t ≤ length sorted →
+      ((class : ℕ) → class < length counts → get_or counts class 0 ≡ count_by (λ x. x.class == class) (take t sorted)) →
       (class : ℕ) → get_or counts class 0 ≤ t
   low-counts counts t h counted class =
       elim (cases_lt class (length counts)) [
         | inl inside ↦
             let is : get_or counts class 0 ≡ count_by (λ x. x.class == class) (take t sorted) = counted class inside in
-            let most : count_by (λ x. x.class == class) (take t sorted) ≤ length (take t sorted) = count_by-le-length (λ x. x.class == class) (take t sorted) in
+            let most : count_by (λ x. x.class == class) (take t sorted) ≤ length (take t sorted) =
+            count_by-le-length (λ x. x.class == class) (take t sorted) in
             let long = length-take-le t sorted h in
             omega arith
         | inr past ↦ let none : get_or counts class 0 ≡ 0 = get_or-past counts class past in omega arith

@@ -24,7 +24,8 @@ IsLimit keys class cap limit = (limit ≡ negsuc 0) ⊎ (cap ≤ count_by (is_at
 -- one limit for each class
 abbrev pub AreLimits : List Key → List ℕ → List ℤ → Type 0
 AreLimits keys caps limits =
-    (length limits ≡ length caps) × ((class : ℕ) → class < length caps → IsLimit keys class (slice_index caps class) (number_at limits class))
+    (length limits ≡ length caps)
+    × ((class : ℕ) → class < length caps → IsLimit keys class (slice_index caps class) (number_at limits class))
 
 -- the columns of value below 0
 abbrev pub gain_keys : List Price → List Column → List Key

@@ -100,7 +100,8 @@ lowered_by items share prices item = cond (nat_lt 0 (times item items)) (clamped
 -- the price of an item after a column: where the column's value is below 0, each of its items bears its share of it
 abbrev pub lowered_price : List Price → Column → ℕ → ℤ
 lowered_price prices c item =
-    cond (int_lt (value prices c) (pos 0)) (lowered_by c.items (pos (share_of (value prices c) (length c.items))) prices item) (price_at prices item)
+    cond (int_lt (value prices c) (pos 0)) (lowered_by c.items (pos (share_of (value prices c) (length c.items))) prices item)
+    (price_at prices item)
 
 -- all prices after a column
 abbrev pub lowered_prices : List Price → Column → List Price

@@ -24,22 +24,28 @@ module _ (counted costed : Problem) (counts : IsCountOf costed counted) where
   count_is_bound kept duality paid = λ columns plan.
       let P : ℕ → Type 0 = λ n. n ≤ length columns in
       subst P (sym (bound_there kept paid))
-      (duality counted kept.prices.items kept.class_prices counts (prices_there kept paid) (class_prices_there kept paid) paid.paid columns plan)
+      (duality counted kept.prices.items kept.class_prices counts (prices_there kept paid) (class_prices_there kept paid)
+      paid.paid columns plan)
 
-  pub has_none : (numbers : Numbers) (bound places : ℕ) (none : HasNoPlan counted numbers bound places) → NoPlanAbove costed → IsPaidOffer counted none.count → HasNone costed
+  pub has_none : (numbers : Numbers) (bound places : ℕ) (none : HasNoPlan counted numbers bound places) → NoPlanAbove costed →
+      IsPaidOffer counted none.count → HasNone costed
   has_none numbers bound places none above paid =
       let P : ℕ → Type 0 = λ n. places < n in
       let Q : ℕ → Type 0 = λ n. n < bound_of none.count.prices.items none.count.class_prices costed.caps in
-      let over : places < bound_of none.count.prices.items none.count.class_prices costed.caps = subst P (none.bound_is ∙ bound_there none.count paid) none.above in
-      above counted none.count.prices.items none.count.class_prices counts (prices_there none.count paid) (class_prices_there none.count paid) paid.paid
+      let over : places < bound_of none.count.prices.items none.count.class_prices costed.caps =
+      subst P (none.bound_is ∙ bound_there none.count paid) none.above in
+      above counted none.count.prices.items none.count.class_prices counts (prices_there none.count paid)
+      (class_prices_there none.count paid) paid.paid
       (subst Q (none.places_are ∙ ap (λ (l : List ℕ). sum l) counts.caps) over)
 
-  pub count_cause : (numbers : Numbers) (fault : PlanFault) → IsCountCause counted costed numbers fault → IsCause counted costed numbers fault
+  pub count_cause : (numbers : Numbers) (fault : PlanFault) → IsCountCause counted costed numbers fault →
+      IsCause counted costed numbers fault
   count_cause numbers (faults.NoPlan bound places) h = h
   count_cause numbers (faults.NotPlaced item partial) h = absurd h
   count_cause numbers faults.Memory h = tt
 
-  pub cost_cause : (numbers : Numbers) (count : Kept) (fault : PlanFault) → HasPlaces counted numbers count → IsCostCause costed numbers fault → IsCause counted costed numbers fault
+  pub cost_cause : (numbers : Numbers) (count : Kept) (fault : PlanFault) → HasPlaces counted numbers count →
+      IsCostCause costed numbers fault → IsCause counted costed numbers fault
   cost_cause numbers count (faults.NoPlan bound places) has h = absurd h
   cost_cause numbers count (faults.NotPlaced item partial) has h = (record { count = count; counts = has; leaves = h.0 }, h.1, h.2)
   cost_cause numbers count faults.Memory has h = tt

@@ -47,7 +47,8 @@ all_at P [] k rest h = All-head P k rest h
 all_at P (x ∷ xs) k rest h = all_at P xs k rest (All-tail P x (xs ++ k ∷ rest) h)
 
 one_split : (b c : List Kept) (k l : Kept) (a d : List Kept) → b ++ k ∷ a ≡ c ++ l ∷ d →
-    All (λ (o : Kept). o.bound < k.bound) b → All (λ (o : Kept). o.bound ≤ k.bound) a → All (λ (o : Kept). o.bound < l.bound) c → All (λ (o : Kept). o.bound ≤ l.bound) d → k ≡ l
+    All (λ (o : Kept). o.bound < k.bound) b → All (λ (o : Kept). o.bound ≤ k.bound) a → All (λ (o : Kept). o.bound < l.bound) c →
+    All (λ (o : Kept). o.bound ≤ l.bound) d → k ≡ l
 one_split [] [] k l a d h less more less' more' = same_head k l a d h
 one_split [] (y ∷ ys) k l a d h less more less' more' =
     let first : k ≡ y = same_head k y a (ys ++ l ∷ d) h in
@@ -60,11 +61,13 @@ one_split (x ∷ xs) [] k l a d h less more less' more' =
     let first : x ≡ l = same_head x l (xs ++ k ∷ a) d h in
     let below : x.bound < k.bound = All-head (λ (o : Kept). o.bound < k.bound) x xs less in
     let P : List Kept → Type 0 = λ s. All (λ (o : Kept). o.bound ≤ l.bound) s in
-    let above : k.bound ≤ l.bound = all_at (λ (o : Kept). o.bound ≤ l.bound) xs k a (subst P (sym (same_tail x l (xs ++ k ∷ a) d h)) more') in
+    let above : k.bound ≤ l.bound =
+    all_at (λ (o : Kept). o.bound ≤ l.bound) xs k a (subst P (sym (same_tail x l (xs ++ k ∷ a) d h)) more') in
     let same : x.bound ≡ l.bound = ap (λ (o : Kept). o.bound) first in
     absurd (omega arith)
 one_split (x ∷ xs) (y ∷ ys) k l a d h less more less' more' =
-    one_split xs ys k l a d (same_tail x y (xs ++ k ∷ a) (ys ++ l ∷ d) h) (All-tail (λ (o : Kept). o.bound < k.bound) x xs less) more (All-tail (λ (o : Kept). o.bound < l.bound) y ys less') more'
+    one_split xs ys k l a d (same_tail x y (xs ++ k ∷ a) (ys ++ l ∷ d) h) (All-tail (λ (o : Kept). o.bound < k.bound) x xs less) more
+    (All-tail (λ (o : Kept). o.bound < l.bound) y ys less') more'
 
 pub one_kept : (offers : List Kept) (one other : Kept) → IsFirstGreatest offers one → IsFirstGreatest offers other → one ≡ other
 one_kept offers one other h k = one_split h.before k.before one other h.after k.after (sym h.all ∙ k.all) h.less h.no_more k.less k.no_more
@@ -78,8 +81,10 @@ abbrev planned_as : Kept → List Column → KeptPlan
 planned_as cost columns = record { cost = cost; columns = columns }
 
 -- rounding
-pub one_rounding : (p : Problem) (prices : List Price) (pool : List Column) (one other : Rounded) → RoundsTo p prices pool one → RoundsTo p prices pool other → one ≡ other
-one_rounding p prices pool one other h k = sym h.is ∙ (ap (λ (l : List ℕ). rounded p (picked pool l)) (one_by_value prices pool h.places k.places h.by_value k.by_value) ∙ k.is)
+pub one_rounding : (p : Problem) (prices : List Price) (pool : List Column) (one other : Rounded) → RoundsTo p prices pool one →
+    RoundsTo p prices pool other → one ≡ other
+one_rounding p prices pool one other h k =
+    sym h.is ∙ (ap (λ (l : List ℕ). rounded p (picked pool l)) (one_by_value prices pool h.places k.places h.by_value k.by_value) ∙ k.is)
 
 -- exchange steps
 same_kind : (k l : Kind) → rank k ≡ rank l → k ≡ l
@@ -101,13 +106,18 @@ same_fields c d change kind a b i j =
 level : (c d : Candidate) → candidate_cmp c d ≡ Equal → c ≡ d
 level c d h =
     let j = nat_cmp c.j d.j in
-    let e0 = then_equal (int_cmp c.change d.change) (ordering_then (nat_cmp (rank c.kind) (rank d.kind)) (ordering_then (nat_cmp c.a d.a) (ordering_then (nat_cmp c.b d.b) (ordering_then (nat_cmp c.i d.i) (nat_cmp c.j d.j))))) h in
-    let e1 = then_equal (nat_cmp (rank c.kind) (rank d.kind)) (ordering_then (nat_cmp c.a d.a) (ordering_then (nat_cmp c.b d.b) (ordering_then (nat_cmp c.i d.i) (nat_cmp c.j d.j)))) e0.1 in
+    let e0 = then_equal (int_cmp c.change d.change)
+    (ordering_then (nat_cmp (rank c.kind) (rank d.kind))
+    (ordering_then (nat_cmp c.a d.a) (ordering_then (nat_cmp c.b d.b) (ordering_then (nat_cmp c.i d.i) (nat_cmp c.j d.j))))) h in
+    let e1 = then_equal (nat_cmp (rank c.kind) (rank d.kind))
+    (ordering_then (nat_cmp c.a d.a) (ordering_then (nat_cmp c.b d.b) (ordering_then (nat_cmp c.i d.i) (nat_cmp c.j d.j)))) e0.1 in
     let e2 = then_equal (nat_cmp c.a d.a) (ordering_then (nat_cmp c.b d.b) (ordering_then (nat_cmp c.i d.i) (nat_cmp c.j d.j))) e1.1 in
     let e3 = then_equal (nat_cmp c.b d.b) (ordering_then (nat_cmp c.i d.i) (nat_cmp c.j d.j)) e2.1 in
     let e4 = then_equal (nat_cmp c.i d.i) (nat_cmp c.j d.j) e3.1 in
-    same_fields c d (int_cmp-IsAntisymmetric c.change d.change e0.0) (same_kind c.kind d.kind (nat_cmp-IsAntisymmetric (rank c.kind) (rank d.kind) e1.0))
-    (nat_cmp-IsAntisymmetric c.a d.a e2.0) (nat_cmp-IsAntisymmetric c.b d.b e3.0) (nat_cmp-IsAntisymmetric c.i d.i e4.0) (nat_cmp-IsAntisymmetric c.j d.j e4.1)
+    same_fields c d (int_cmp-IsAntisymmetric c.change d.change e0.0)
+    (same_kind c.kind d.kind (nat_cmp-IsAntisymmetric (rank c.kind) (rank d.kind) e1.0))
+    (nat_cmp-IsAntisymmetric c.a d.a e2.0) (nat_cmp-IsAntisymmetric c.b d.b e3.0) (nat_cmp-IsAntisymmetric c.i d.i e4.0)
+    (nat_cmp-IsAntisymmetric c.j d.j e4.1)
 
 one_candidate : (c d : Candidate) → candidate_cmp c d ≢ Less → candidate_cmp d c ≢ Less → c ≡ d
 one_candidate c d h k = go (candidate_cmp c d) refl
@@ -136,7 +146,8 @@ one_lead p (suc n) old a b h k =
     one_step p k.0 a b (subst P same h.2) k.2
 
 -- fewer steps lead to where a further one begins
-front : (p : Problem) (n m : ℕ) (old new : List Column) → n < m → Leads p m old new → (mid : List Column) × (next : List Column) × Leads p n old mid × IsStep p mid next
+front : (p : Problem) (n m : ℕ) (old new : List Column) → n < m → Leads p m old new →
+    (mid : List Column) × (next : List Column) × Leads p n old mid × IsStep p mid next
 front p n zero old new less h = absurd (omega arith)
 front p n (suc m) old new less h =
     elim (nat_lt n m) as (λ b. nat_lt n m ≡ b → (mid : List Column) × (next : List Column) × Leads p n old mid × IsStep p mid next) [
@@ -148,7 +159,8 @@ front p n (suc m) old new less h =
           (h.0, new, subst P same h.1, h.2)
     ] refl
 
-not_fewer : (p : Problem) (steps : ℕ) (old a b : List Column) (h : IsImproved p steps old a) (k : IsImproved p steps old b) → h.made < k.made → ⊥
+not_fewer : (p : Problem) (steps : ℕ) (old a b : List Column) (h : IsImproved p steps old a) (k : IsImproved p steps old b) →
+    h.made < k.made → ⊥
 not_fewer p steps old a b h k less =
     let few = k.few in
     let some : h.made < steps = omega arith in
@@ -204,17 +216,23 @@ same_part i j a b h = ap part_of h
 module _ (counted costed : Problem) (numbers : Numbers) (fixed : numbers.climb ≡ false) where
   -- two kept offers of a pass are one
   same_kept : (p : Problem) (one other : Kept) → IsKept p numbers one → IsKept p numbers other → one ≡ other
-  same_kept p one other h k = one_kept (all_offers p numbers.rounds numbers.lower) one other (first_kept p numbers one fixed h) (first_kept p numbers other fixed k)
+  same_kept p one other h k =
+      one_kept (all_offers p numbers.rounds numbers.lower) one other (first_kept p numbers one fixed h) (first_kept p numbers other fixed k)
 
   -- a rounding at either kept offer is one at the other
-  at_other : (cost other : Kept) (r : Rounded) → IsFirstKept costed numbers cost → IsFirstKept costed numbers other → RoundsTo costed cost.prices.items (after_rounds costed numbers.rounds).pool r → RoundsTo costed other.prices.items (after_rounds costed numbers.rounds).pool r
+  at_other : (cost other : Kept) (r : Rounded) → IsFirstKept costed numbers cost → IsFirstKept costed numbers other →
+      RoundsTo costed cost.prices.items (after_rounds costed numbers.rounds).pool r →
+      RoundsTo costed other.prices.items (after_rounds costed numbers.rounds).pool r
   at_other cost other r h k rounds =
       let P : Kept → Type 0 = λ kept. RoundsTo costed kept.prices.items (after_rounds costed numbers.rounds).pool r in
       subst P (one_kept (all_offers costed numbers.rounds numbers.lower) cost other h k) rounds
 
   one_plan : (cost other : Kept) (a b : List Column) → IsRounded costed numbers cost a → IsRounded costed numbers other b → a ≡ b
   one_plan cost other a b h k =
-      let first : h.first ≡ k.first = same_whole h.first k.first (one_rounding costed other.prices.items (after_rounds costed numbers.rounds).pool (whole h.first) (whole k.first) (at_other cost other (whole h.first) h.kept k.kept h.rounds) k.rounds) in
+      let first : h.first ≡ k.first =
+      same_whole h.first k.first
+      (one_rounding costed other.prices.items (after_rounds costed numbers.rounds).pool (whole h.first) (whole k.first)
+      (at_other cost other (whole h.first) h.kept k.kept h.rounds) k.rounds) in
       let P : List Column → Type 0 = λ l. IsImproved costed numbers.exchange l a in
       one_improved costed numbers.exchange k.first a b (subst P first h.improved) k.improved
 
@@ -222,13 +240,16 @@ module _ (counted costed : Problem) (numbers : Numbers) (fixed : numbers.climb �
   same_plan k l a b h m =
       let one : IsRounded costed numbers k a = rounded_made costed numbers k a fixed h in
       let other : IsRounded costed numbers l b = rounded_made costed numbers l b fixed m in
-      ap (λ (x : Kept). planned_as x a) (one_kept (all_offers costed numbers.rounds numbers.lower) k l one.kept other.kept) ∙ ap (λ (x : List Column). planned_as l x) (one_plan k l a b one other)
+      ap (λ (x : Kept). planned_as x a) (one_kept (all_offers costed numbers.rounds numbers.lower) k l one.kept other.kept)
+      ∙ ap (λ (x : List Column). planned_as l x) (one_plan k l a b one other)
 
   no_left : (cost : Kept) (item : ℕ) (a b : List Column) → IsMade costed numbers cost a → LeavesBy numbers.climb costed numbers item b → ⊥
   no_left cost item a b made left_is =
       let h : IsRounded costed numbers cost a = rounded_made costed numbers cost a fixed made in
       let l : RoundingLeaves costed numbers item b = rounding_leaves costed numbers item b fixed left_is in
-      not_both h.first b item (one_rounding costed l.cost.prices.items (after_rounds costed numbers.rounds).pool (whole h.first) (left item b) (at_other cost l.cost (whole h.first) h.kept l.kept h.rounds) l.rounds)
+      not_both h.first b item
+      (one_rounding costed l.cost.prices.items (after_rounds costed numbers.rounds).pool (whole h.first) (left item b)
+      (at_other cost l.cost (whole h.first) h.kept l.kept h.rounds) l.rounds)
 
   no_places : (bound places : ℕ) (count : Kept) → HasNoPlan counted numbers bound places → HasPlaces counted numbers count → ⊥
   no_places bound places count none has =
@@ -247,7 +268,8 @@ module _ (counted costed : Problem) (numbers : Numbers) (fixed : numbers.climb �
   one_ending (planned c k a) (not_placed item b) h m = absurd (no_left k item a b h.made m.leaves)
   one_ending (no_plan bound places) (planned d l b) h m = absurd (no_places bound places d h m.counts)
   one_ending (no_plan bound places) (no_plan bound' places') h m =
-      let bounds : bound ≡ bound' = h.bound_is ∙ (ap (λ (k : Kept). k.bound) (same_kept counted h.count m.count h.kept m.kept) ∙ sym m.bound_is) in
+      let bounds : bound ≡ bound' =
+      h.bound_is ∙ (ap (λ (k : Kept). k.bound) (same_kept counted h.count m.count h.kept m.kept) ∙ sym m.bound_is) in
       ap (λ (n : ℕ). no_plan n places) bounds ∙ ap (λ (n : ℕ). no_plan bound' n) (h.places_are ∙ sym m.places_are)
   one_ending (no_plan bound places) (not_placed item b) h m = absurd (no_places bound places m.count h m.counts)
   one_ending (not_placed item a) (planned d l b) h m = absurd (no_left l item b a m.made h.leaves)
@@ -255,11 +277,14 @@ module _ (counted costed : Problem) (numbers : Numbers) (fixed : numbers.climb �
   one_ending (not_placed i a) (not_placed j b) h m =
       let one : RoundingLeaves costed numbers i a = rounding_leaves costed numbers i a fixed h.leaves in
       let other : RoundingLeaves costed numbers j b = rounding_leaves costed numbers j b fixed m.leaves in
-      let same : left i a ≡ left j b = one_rounding costed other.cost.prices.items (after_rounds costed numbers.rounds).pool (left i a) (left j b) (at_other one.cost other.cost (left i a) one.kept other.kept one.rounds) other.rounds in
+      let same : left i a ≡ left j b =
+      one_rounding costed other.cost.prices.items (after_rounds costed numbers.rounds).pool (left i a) (left j b)
+      (at_other one.cost other.cost (left i a) one.kept other.kept one.rounds) other.rounds in
       ap (λ (n : ℕ). not_placed n a) (same_item i j a b same) ∙ ap (λ (l : List Column). not_placed j l) (same_part i j a b same)
 
   -- where a plan is known, all but the first pass is given
-  known_ending : (known : KnownPlan) (one other : Ending) → EndsKnown counted numbers known one → EndsKnown counted numbers known other → one ≡ other
+  known_ending : (known : KnownPlan) (one other : Ending) → EndsKnown counted numbers known one →
+      EndsKnown counted numbers known other → one ≡ other
   known_ending known (planned c k a) (planned d l b) h m =
       ap (λ (x : Kept). planned x k a) (same_kept counted c d h.0.kept m.0.kept)
       ∙ ap (λ (x : Kept). planned d x a) (h.1 ∙ sym m.1)
@@ -271,6 +296,7 @@ module _ (counted costed : Problem) (numbers : Numbers) (fixed : numbers.climb �
   known_ending known (no_plan bound places) (not_placed item b) h m = absurd m
   known_ending known (not_placed item a) other h m = absurd h
 
-  pub one_ending_by : (known : Option KnownPlan) (one other : Ending) → EndsBy counted costed numbers known one → EndsBy counted costed numbers known other → one ≡ other
+  pub one_ending_by : (known : Option KnownPlan) (one other : Ending) → EndsBy counted costed numbers known one →
+      EndsBy counted costed numbers known other → one ≡ other
   one_ending_by None one other h m = one_ending one other h m
   one_ending_by (Some known) one other h m = known_ending known one other h m

@@ -58,7 +58,8 @@ module _ (lt : ℕ → ℕ → Bool) (order : IsStrictWeakOrder lt) (apart : (x 
   behind x (y ∷ rest) z up there =
       elim (z == y) as (λ b. (z == y) ≡ b → lt z x ≡ false) [
         | true ↦ λ e. (let same : z ≡ y = grind (arith, nat_tests) in ap (λ (w : ℕ). lt w x) same ∙ up.0)
-        | false ↦ λ e. (let t = rw e at there in let more : 0 < times z rest = omega arith in order.chain z y x (behind y rest z up.1 more) up.0)
+        | false ↦ λ e. (let t = rw e at there in let more : 0 < times z rest =
+            omega arith in order.chain z y x (behind y rest z up.1 more) up.0)
       ] refl
 
   within : (x y : ℕ) (ys : List ℕ) → Ascends lt (y ∷ ys) → 0 < times x (y ∷ ys) → lt x y ≡ false
@@ -77,7 +78,9 @@ module _ (lt : ℕ → ℕ → Bool) (order : IsStrictWeakOrder lt) (apart : (x 
       let here : 0 < times x (y ∷ ys) = subst P (same x) (times_self x xs) in
       let there : 0 < times y (x ∷ xs) = subst P (sym (same y)) (times_self y ys) in
       let head : x ≡ y = apart x y (within x y ys b here) (within y x xs a there) in
-      ap (λ (z : ℕ). z ∷ xs) head ∙ ap (λ (l : List ℕ). y ∷ l) (one_order xs ys (ascends_tail lt x xs a) (ascends_tail lt y ys b) (λ e. tail_same e x y xs ys head (same e)))
+      ap (λ (z : ℕ). z ∷ xs) head
+      ∙ ap (λ (l : List ℕ). y ∷ l)
+      (one_order xs ys (ascends_tail lt x xs a) (ascends_tail lt y ys b) (λ e. tail_same e x y xs ys head (same e)))
 
 times_sum : (e : ℕ) (xs : List ℕ) → times e xs ≡ sum_by (λ x. cond (e == x) 1 0) xs
 times_sum e [] = refl
@@ -107,8 +110,10 @@ module _ (prices : List Price) (pool : List Column) where
     where
       go : (o : Ordering) → place_cmp y x ≡ o → x ≡ y
       go Less e = absurd (let t : is_lt (place_cmp y x) ≡ true = ap is_lt e in cc)
-      go Equal e = sym (nat_cmp-IsAntisymmetric y x (then_equal (int_cmp (value prices (column_at pool y)) (value prices (column_at pool x))) (nat_cmp y x) e).1)
-      go Greater e = absurd (let t : is_lt (place_cmp x y) ≡ true = ap is_lt (reversed_greater (place_cmp x y) (place_cmp y x) (place_total.antisymm x y) e) in cc)
+      go Equal e = sym (nat_cmp-IsAntisymmetric y x
+          (then_equal (int_cmp (value prices (column_at pool y)) (value prices (column_at pool x))) (nat_cmp y x) e).1)
+      go Greater e = absurd (let t : is_lt (place_cmp x y) ≡ true =
+          ap is_lt (reversed_greater (place_cmp x y) (place_cmp y x) (place_total.antisymm x y) e) in cc)
 
   pub one_by_value : (a b : List ℕ) → IsByValue prices pool a → IsByValue prices pool b → a ≡ b
   one_by_value a b one other =

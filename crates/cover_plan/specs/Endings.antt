@@ -113,7 +113,8 @@ EndsAs counted costed numbers (not_placed item partial) = LeavesItem counted cos
 
 -- planning ends so where a plan is known: the first pass is made, and the known plan with its offer stands for the second one
 abbrev pub EndsKnown : Problem → Numbers → KnownPlan → Ending → Type 0
-EndsKnown counted numbers known (planned count cost columns) = HasPlaces counted numbers count × (cost ≡ known.cost) × (columns ≡ known.plan.columns)
+EndsKnown counted numbers known (planned count cost columns) =
+    HasPlaces counted numbers count × (cost ≡ known.cost) × (columns ≡ known.plan.columns)
 EndsKnown counted numbers known (no_plan bound places) = HasNoPlan counted numbers bound places
 EndsKnown counted numbers known (not_placed item partial) = ⊥
 
@@ -125,5 +126,6 @@ EndsBy counted costed numbers (Some known) ending = EndsKnown counted numbers kn
 -- planning by the method of fixed rounds ends in one way alone
 abbrev pub EndsOnce : Problem → Problem → Type 0
 EndsOnce counted costed =
-    (numbers : Numbers) → numbers.climb ≡ false → (known : Option KnownPlan) (one other : Ending) → EndsBy counted costed numbers known one →
+    (numbers : Numbers) → numbers.climb ≡ false → (known : Option KnownPlan) (one other : Ending) →
+    EndsBy counted costed numbers known one →
     EndsBy counted costed numbers known other → one ≡ other

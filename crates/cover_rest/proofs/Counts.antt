@@ -22,7 +22,8 @@ written-times i bs (x ∷ xs) =
     let rest = written-times i bs xs in
     omega (arith, ints)
 
-pub plan-times : (i : ℕ) (bs : List (List ℕ)) (cs : List Column) → pos (times i (all_items (written_plan bs cs))) ≡ sum_each (held_at i bs) (all_items cs)
+pub plan-times : (i : ℕ) (bs : List (List ℕ)) (cs : List Column) →
+    pos (times i (all_items (written_plan bs cs))) ≡ sum_each (held_at i bs) (all_items cs)
 plan-times i bs [] = refl
 plan-times i bs (c ∷ cs) =
     let both = times-append i (written bs c.items) (all_items (written_plan bs cs)) in
@@ -64,7 +65,8 @@ free-times heads (suc n) k i from to =
       | inl later ↦
           let rest = free-times heads n (suc k) i (omega arith) (omega arith) in
           let other : (i == k) ≡ false = grind (arith, nat_tests) in
-          elim (has_begun heads k) as (λ b. times i (joined (cond b (free_lists heads n (suc k)) ((k ∷ []) ∷ free_lists heads n (suc k)))) ≡ cond (has_begun heads i) 0 1) [
+          elim (has_begun heads k) as (λ b. times i (joined (cond b (free_lists heads n (suc k)) ((k ∷ []) ∷ free_lists heads n (suc k))))
+          ≡ cond (has_begun heads i) 0 1) [
             | true ↦ rest
             | false ↦ rw other (omega (arith, rest))
           ]
@@ -78,7 +80,8 @@ free-times heads (suc n) k i from to =
     at i =
         let before = free-before heads n (suc i) i (omega arith) in
         let same : (i == i) ≡ true = grind (arith, nat_tests) in
-        elim (has_begun heads i) as (λ b. times i (joined (cond b (free_lists heads n (suc i)) ((i ∷ []) ∷ free_lists heads n (suc i)))) ≡ cond b 0 1) [
+        elim (has_begun heads i) as
+        (λ b. times i (joined (cond b (free_lists heads n (suc i)) ((i ∷ []) ∷ free_lists heads n (suc i)))) ≡ cond b 0 1) [
           | true ↦ before
           | false ↦ rw same (omega (arith, before))
         ]
@@ -120,7 +123,8 @@ sum-none m g (suc n) h =
     rw none (omega (arith, ints, rest))
 
 -- where the sum is one and a summand is not nothing, it is all
-pub sum-only : (m g : ℕ → ℕ) (n x : ℕ) → x < n → sum_first (λ y. pos (g y)) n ≡ pos 1 → 1 ≤ g x → sum_first (λ y. pos (m y) *ℤ pos (g y)) n ≡ pos (m x)
+pub sum-only : (m g : ℕ → ℕ) (n x : ℕ) → x < n → sum_first (λ y. pos (g y)) n ≡ pos 1 → 1 ≤ g x →
+    sum_first (λ y. pos (m y) *ℤ pos (g y)) n ≡ pos (m x)
 sum-only m g zero x below one some = absurd (omega arith)
 sum-only m g (suc n) x below one some =
     elim (cases_lt x n) [
@@ -154,13 +158,15 @@ sum-only m g (suc n) x below one some =
         ]
 
 -- each item once: so is each item of the rest
-pub once-rest : (bs : List (List ℕ)) (cs : List Column) (x i : ℕ) → AllBelow (length bs) (all_items cs) → x < length bs → 1 ≤ times i (body_at bs x) →
+pub once-rest : (bs : List (List ℕ)) (cs : List Column) (x i : ℕ) → AllBelow (length bs) (all_items cs) → x < length bs →
+    1 ≤ times i (body_at bs x) →
     times i (joined bs) ≡ 1 → times i (all_items (written_plan bs cs)) ≡ 1 → times x (all_items cs) ≡ 1
 once-rest bs cs x i below within some one whole =
     let spread = sum_each-times (held_at i bs) (length bs) (all_items cs) below in
     let all = bodies-times i bs in
     let shown = plan-times i bs cs in
-    let only = sum-only (λ y. times y (all_items cs)) (λ y. times i (body_at bs y)) (length bs) x within (omega (arith, ints, all, one)) some in
+    let only = sum-only (λ y. times y (all_items cs)) (λ y. times i (body_at bs y)) (length bs) x within
+    (omega (arith, ints, all, one)) some in
     omega (arith, ints)
 
 pub written-classes : (bs : List (List ℕ)) (cs : List Column) → all_classes (written_plan bs cs) ≡ all_classes cs

@@ -22,7 +22,8 @@ column-there p (d ∷ ds) zero c are at = let P : Column → Type 0 = λ c. IsCo
 column-there p (d ∷ ds) (suc j) c are at = column-there p ds j c are.1 at
 
 -- a place at which an item stands
-pub find-column : (x : ℕ) (cs : List Column) → 1 ≤ times x (all_items cs) → (j : ℕ) × (c : Column) × (slice_get cs j ≡ Some c) × (1 ≤ times x c.items)
+pub find-column : (x : ℕ) (cs : List Column) → 1 ≤ times x (all_items cs) →
+    (j : ℕ) × (c : Column) × (slice_get cs j ≡ Some c) × (1 ≤ times x c.items)
 find-column x [] some = absurd (omega arith)
 find-column x (c ∷ cs) some =
     let both = times-append x c.items (all_items cs) in
@@ -33,7 +34,8 @@ find-column x (c ∷ cs) some =
           (suc j, d, at, there)
     ]
 
-pub written-there : (bs : List (List ℕ)) (cs : List Column) (j : ℕ) (c : Column) → slice_get cs j ≡ Some c → slice_get (written_plan bs cs) j ≡ Some (written_column bs c)
+pub written-there : (bs : List (List ℕ)) (cs : List Column) (j : ℕ) (c : Column) → slice_get cs j ≡ Some c →
+    slice_get (written_plan bs cs) j ≡ Some (written_column bs c)
 written-there bs [] j c at = absurd (cc)
 written-there bs (d ∷ ds) zero c at = ap (λ d. Some (written_column bs d)) (some-same d c at)
 written-there bs (d ∷ ds) (suc j) c at = written-there bs ds j c at
@@ -45,7 +47,8 @@ there-written bs (c ∷ cs) zero d at = (c, refl, some-same (written_column bs c
 there-written bs (c ∷ cs) (suc j) d at = there-written bs cs j d at
 
 -- what a head's item stands for
-pub head-body : (heads : List Begun) (more : List (List ℕ)) (k : ℕ) (h : Begun) → slice_get heads k ≡ Some h → body_at (begun_lists heads ++ more) k ≡ h.items
+pub head-body : (heads : List Begun) (more : List (List ℕ)) (k : ℕ) (h : Begun) → slice_get heads k ≡ Some h →
+    body_at (begun_lists heads ++ more) k ≡ h.items
 head-body [] more k h at = absurd (cc)
 head-body (g ∷ gs) more zero h at = ap (λ (g : Begun). g.items) (some-same g h at)
 head-body (g ∷ gs) more (suc k) h at = head-body gs more k h at
@@ -76,7 +79,8 @@ module _ (heads : List Begun) (n : ℕ) (may : ℕ → List ℕ → Bool) where
 
   -- a list that begins with a head's item, written out
   with-head : (class worth k : ℕ) (h : Begun) (xs : List ℕ) → slice_get heads k ≡ Some h →
-      (nat_eq h.class class && (not h.finished || is_empty xs)) ≡ true → BeginsWith h (record { class = class; worth = worth; items = written bs (k ∷ xs) })
+      (nat_eq h.class class && (not h.finished || is_empty xs)) ≡ true →
+      BeginsWith h (record { class = class; worth = worth; items = written bs (k ∷ xs) })
   with-head class worth k h xs at e =
       let (same, ends) = both-true (nat_eq h.class class) (not h.finished || is_empty xs) e in
       record {
@@ -86,7 +90,8 @@ module _ (heads : List Begun) (n : ℕ) (may : ℕ → List ℕ → Bool) where
         finished = λ f. ap (written bs) (empty-is xs (is-finished h.finished xs ends f));
       }
 
-  goes-on : (class x : ℕ) (h : Begun) (xs list : List ℕ) → slice_get heads x ≡ Some h → may_go_on may class (slice_get heads x) xs list ≡ true →
+  goes-on : (class x : ℕ) (h : Begun) (xs list : List ℕ) → slice_get heads x ≡ Some h →
+      may_go_on may class (slice_get heads x) xs list ≡ true →
       (nat_eq h.class class && (not h.finished || is_empty xs)) ≡ true
   goes-on class x h xs list at e = let P : Option Begun → Type 0 = λ o. may_go_on may class o xs list ≡ true in subst P at e
 
@@ -109,7 +114,8 @@ module _ (heads : List Begun) (n : ℕ) (may : ℕ → List ℕ → Bool) where
 
   -- a list that begins with no head may begin now
   pub holds-none : (class worth : ℕ) (list : List ℕ) → keeps_heads heads bs may class list ≡ true →
-      ((k : ℕ) (h : Begun) → slice_get heads k ≡ Some h → BeginsWith h (record { class = class; worth = worth; items = written bs list }) → ⊥) →
+      ((k : ℕ) (h : Begun) → slice_get heads k ≡ Some h →
+      BeginsWith h (record { class = class; worth = worth; items = written bs list }) → ⊥) →
       may class (written bs list) ≡ true
   holds-none class worth [] e none = absurd (cc)
   holds-none class worth (x ∷ xs) e none =
@@ -136,8 +142,12 @@ rest-is-kept p heads may are rest plan =
             let once = plan.once k (omega (arith, within, many)) in
             let (j, c, there, some) = find-column k rest (omega (arith, once)) in
             let is = column-there (rest_of p heads may) rest j c plan.worths there in
-            let parts = rest-parts p heads bs may c.class c.items c.worth is.1 in
-            (j, written_column bs c, written-there bs rest j c there, holds-head heads p.items may c.class c.worth k h c.items at some parts.keeps);
+            let parts = rest-parts p heads bs may c.class c.items c.worth is.1 in (
+              j,
+              written_column bs c,
+              written-there bs rest j c there,
+              holds-head heads p.items may c.class c.worth k h c.items at some parts.keeps,
+            );
         others = λ j d at none.
             let (c, there, same) = there-written bs rest j d at in
             let is = column-there (rest_of p heads may) rest j c plan.worths there in

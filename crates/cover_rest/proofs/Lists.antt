@@ -46,7 +46,8 @@ below-below n (x ∷ xs) e =
     (below, below-below n xs parts.1)
 
 -- what a list of the rest with a worth is
-pub record IsRestList (p : Problem) (heads : List Begun) (bs : List (List ℕ)) (may : ℕ → List ℕ → Bool) (class : ℕ) (list : List ℕ) (worth : ℕ) : Type 0 where
+pub record IsRestList (p : Problem) (heads : List Begun) (bs : List (List ℕ)) (may : ℕ → List ℕ → Bool) (class : ℕ)
+    (list : List ℕ) (worth : ℕ) : Type 0 where
   pub rises : rises list ≡ true
   pub below : all_below (length bs) list ≡ true
   pub keeps : keeps_heads heads bs may class list ≡ true
@@ -55,7 +56,8 @@ pub record IsRestList (p : Problem) (heads : List Begun) (bs : List (List ℕ)) 
 pub rest-parts : (p : Problem) (heads : List Begun) (bs : List (List ℕ)) (may : ℕ → List ℕ → Bool) (class : ℕ) (list : List ℕ) (worth : ℕ) →
     rest_worth p heads bs may class list ≡ Some worth → IsRestList p heads bs may class list worth
 rest-parts p heads bs may class list worth e =
-    let (test, is) = from-cond ((rises list && all_below (length bs) list) && keeps_heads heads bs may class list) (p.worth class (written bs list)) worth e in
+    let (test, is) = from-cond ((rises list && all_below (length bs) list) && keeps_heads heads bs may class list)
+    (p.worth class (written bs list)) worth e in
     let (front, keeps) = both-true (rises list && all_below (length bs) list) (keeps_heads heads bs may class list) test in
     let (up, below) = both-true (rises list) (all_below (length bs) list) front in
     record { rises = up; below = below; keeps = keeps; same = is }
@@ -67,7 +69,8 @@ parts-rest p heads bs may class list worth h =
     (true-both (rises list && all_below (length bs) list) (keeps_heads heads bs may class list)
     (true-both (rises list) (all_below (length bs) list) h.rises h.below) h.keeps) ∙ h.same
 
-not-empty : (heads : List Begun) (bs : List (List ℕ)) (may : ℕ → List ℕ → Bool) (class : ℕ) (list : List ℕ) → keeps_heads heads bs may class list ≡ true → list ≢ []
+not-empty : (heads : List Begun) (bs : List (List ℕ)) (may : ℕ → List ℕ → Bool) (class : ℕ) (list : List ℕ) →
+    keeps_heads heads bs may class list ≡ true → list ≢ []
 not-empty heads bs may class list keeps = λ e.
     let P : List ℕ → Type 0 = λ l. keeps_heads heads bs may class l ≡ true in
     let bad : false ≡ true = subst P e keeps in
@@ -76,20 +79,25 @@ not-empty heads bs may class list keeps = λ e.
 -- a rest is a problem
 pub rest-listed : (p : Problem) (heads : List Begun) (may : ℕ → List ℕ → Bool) → HasListedColumns (rest_of p heads may)
 rest-listed p heads may class list worth e =
-    let h = rest-parts p heads (bodies heads p.items) may class list worth e in
-    (not-empty heads (bodies heads p.items) may class list h.keeps, rises-rise list h.rises, below-below (length (bodies heads p.items)) list h.below)
+    let h = rest-parts p heads (bodies heads p.items) may class list worth e in (
+      not-empty heads (bodies heads p.items) may class list h.keeps,
+      rises-rise list h.rises,
+      below-below (length (bodies heads p.items)) list h.below,
+    )
 
 -- a list of a rest is worth what the written-out list is, so worths stay modest
 pub rest-modest : (p : Problem) (heads : List Begun) (may : ℕ → List ℕ → Bool) → HasModestWorths p → HasModestWorths (rest_of p heads may)
 rest-modest p heads may modest class list there =
     let bs = bodies heads p.items in
-    elim (is_rest_list heads bs may class list) as (λ b. IfSome (cond b (p.worth class (written bs list)) None) (λ worth. worth ≤ 4000000000)) [
+    elim (is_rest_list heads bs may class list) as
+    (λ b. IfSome (cond b (p.worth class (written bs list)) None) (λ worth. worth ≤ 4000000000)) [
       | true ↦ modest class (written bs list) there
       | false ↦ tt
     ]
 
 -- the columns of a rest, written out, are columns of the problem
-pub written-columns : (p : Problem) (heads : List Begun) (may : ℕ → List ℕ → Bool) (cs : List Column) → AreColumns (rest_of p heads may) cs →
+pub written-columns : (p : Problem) (heads : List Begun) (may : ℕ → List ℕ → Bool) (cs : List Column) →
+    AreColumns (rest_of p heads may) cs →
     AreColumns p (written_plan (bodies heads p.items) cs)
 written-columns p heads may [] h = tt
 written-columns p heads may (c ∷ cs) h =

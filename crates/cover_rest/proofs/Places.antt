@@ -32,7 +32,8 @@ record IsFreeAt (bs : List (List ℕ)) (x i : ℕ) : Type 0 where
   pub within : x < length bs
   pub body : body_at bs x ≡ i ∷ []
 
-free-at : (heads : List Begun) (n k d : ℕ) → d < n → has_begun heads (k + d) ≡ false → IsFreeAt (free_lists heads n k) (free_count heads k d) (k + d)
+free-at : (heads : List Begun) (n k d : ℕ) → d < n → has_begun heads (k + d) ≡ false →
+    IsFreeAt (free_lists heads n k) (free_count heads k d) (k + d)
 free-at heads zero k d h free = absurd (omega arith)
 free-at heads (suc n) k zero h free =
     let same : k + 0 ≡ k = omega arith in
@@ -45,7 +46,9 @@ free-at heads (suc n) k (suc d) h free =
     let rest = free-at heads n (suc k) d (omega arith) there in
     let Q : ℕ → Type 0 = λ i. IsFreeAt (free_lists heads n (suc k)) (free_count heads (suc k) d) i in
     let moved = subst Q same rest in
-    elim (has_begun heads k) as (λ b. IsFreeAt (cond b (free_lists heads n (suc k)) ((k ∷ []) ∷ free_lists heads n (suc k))) (cond b (free_count heads (suc k) d) (suc (free_count heads (suc k) d))) (k + suc d)) [
+    elim (has_begun heads k) as
+    (λ b. IsFreeAt (cond b (free_lists heads n (suc k)) ((k ∷ []) ∷ free_lists heads n (suc k)))
+    (cond b (free_count heads (suc k) d) (suc (free_count heads (suc k) d))) (k + suc d)) [
       | true ↦ moved
       | false ↦ let within = moved.within in record { within = omega arith; body = moved.body }
     ]
@@ -61,7 +64,9 @@ count-up heads k (suc d) (suc e) h free =
     let same : suc k + d ≡ k + suc d = omega arith in
     let there : has_begun heads (suc k + d) ≡ false = ap (has_begun heads) same ∙ free in
     let rest = count-up heads (suc k) d e (omega arith) there in
-    elim (has_begun heads k) as (λ b. cond b (free_count heads (suc k) d) (suc (free_count heads (suc k) d)) < cond b (free_count heads (suc k) e) (suc (free_count heads (suc k) e))) [
+    elim (has_begun heads k) as
+    (λ b. cond b (free_count heads (suc k) d) (suc (free_count heads (suc k) d)) < cond b (free_count heads (suc k) e)
+    (suc (free_count heads (suc k) e))) [
       | true ↦ rest
       | false ↦ omega (arith, rest)
     ]
@@ -126,27 +131,32 @@ module _ (heads : List Begun) (n : ℕ) where
   places-below (x ∷ xs) free =
       let (here, below) = first-free x xs free in
       let is = place-is x here below in
-      true-both (nat_lt (place heads x) (length bs)) (all_below (length bs) (places heads xs)) (is-below (place heads x) (length bs) is.within) (places-below xs (rest-free x xs free))
+      true-both (nat_lt (place heads x) (length bs)) (all_below (length bs) (places heads xs))
+      (is-below (place heads x) (length bs) is.within) (places-below xs (rest-free x xs free))
 
   pub places-rise : (xs : List ℕ) → AllFree heads n xs → Rises xs → rises (places heads xs) ≡ true
   places-rise [] free up = refl
   places-rise (x ∷ []) free up = refl
   places-rise (x ∷ y ∷ ys) free up =
       let (here, below) = first-free x (y ∷ ys) free in
-      true-both (nat_lt (place heads x) (place heads y)) (rises (places heads (y ∷ ys))) (is-below (place heads x) (place heads y) (place-up x y here up.0))
+      true-both (nat_lt (place heads x) (place heads y)) (rises (places heads (y ∷ ys)))
+      (is-below (place heads x) (place heads y) (place-up x y here up.0))
       (places-rise (y ∷ ys) (rest-free x (y ∷ ys) free) up.1)
 
   pub places-past : (xs : List ℕ) → none_below (length heads) (places heads xs) ≡ true
   places-past [] = refl
   places-past (x ∷ xs) =
-      true-both (nat_le (length heads) (place heads x)) (none_below (length heads) (places heads xs)) (is-at-most (length heads) (place heads x) (past-heads heads (free_count heads 0 x))) (places-past xs)
+      true-both (nat_le (length heads) (place heads x)) (none_below (length heads) (places heads xs))
+      (is-at-most (length heads) (place heads x) (past-heads heads (free_count heads 0 x))) (places-past xs)
 
   -- a head before them
   pub head-rises : (k : ℕ) (xs : List ℕ) → k < length heads → AllFree heads n xs → Rises xs → rises (k ∷ places heads xs) ≡ true
   head-rises k [] h free up = refl
   head-rises k (x ∷ xs) h free up =
       let at = past-heads heads (free_count heads 0 x) in
-      true-both (nat_lt k (place heads x)) (rises (places heads (x ∷ xs))) (is-below k (place heads x) (omega (arith, h, at))) (places-rise (x ∷ xs) free up)
+      true-both (nat_lt k (place heads x)) (rises (places heads (x ∷ xs))) (is-below k (place heads x) (omega (arith, h, at)))
+      (places-rise (x ∷ xs) free up)
 
   pub head-below : (k : ℕ) (xs : List ℕ) → k < length bs → AllFree heads n xs → all_below (length bs) (k ∷ places heads xs) ≡ true
-  head-below k xs h free = true-both (nat_lt k (length bs)) (all_below (length bs) (places heads xs)) (is-below k (length bs) h) (places-below xs free)
+  head-below k xs h free =
+      true-both (nat_lt k (length bs)) (all_below (length bs) (places heads xs)) (is-below k (length bs) h) (places-below xs free)

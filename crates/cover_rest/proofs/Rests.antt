@@ -76,7 +76,8 @@ two-heads i (e ∷ es) (suc j) (suc k) g h at there up a b =
     omega (arith, both, rest)
 
 -- the head in which an item stands
-find-head : (i : ℕ) (hs : List Begun) → 1 ≤ times i (joined (begun_lists hs)) → (k : ℕ) × (h : Begun) × (slice_get hs k ≡ Some h) × (1 ≤ times i h.items)
+find-head : (i : ℕ) (hs : List Begun) → 1 ≤ times i (joined (begun_lists hs)) →
+    (k : ℕ) × (h : Begun) × (slice_get hs k ≡ Some h) × (1 ≤ times i h.items)
 find-head i [] some = absurd (omega arith)
 find-head i (h ∷ hs) some =
     let both = times-append i h.items (joined (begun_lists hs)) in
@@ -153,26 +154,32 @@ not-end [] k h = refl
 not-end (g ∷ gs) zero h = absurd (omega arith)
 not-end (g ∷ gs) (suc k) h = not-end gs k (omega arith)
 
-first-past : (heads : List Begun) (x : ℕ) (xs : List ℕ) → none_below (length heads) (x ∷ xs) ≡ true → (length heads ≤ x) × (none_below (length heads) xs ≡ true)
-first-past heads x xs e = elim (nat_le (length heads) x) as (λ b. nat_le (length heads) x ≡ b → (b && none_below (length heads) xs) ≡ true → (length heads ≤ x) × (none_below (length heads) xs ≡ true)) [
-  | true ↦ λ is e. (grind (arith, nat_tests), e)
-  | false ↦ λ is e. absurd (cc)
-] refl e
+first-past : (heads : List Begun) (x : ℕ) (xs : List ℕ) → none_below (length heads) (x ∷ xs) ≡ true →
+    (length heads ≤ x) × (none_below (length heads) xs ≡ true)
+first-past heads x xs e =
+    elim (nat_le (length heads) x) as (λ b. nat_le (length heads) x ≡ b → (b && none_below (length heads) xs) ≡ true →
+    (length heads ≤ x) × (none_below (length heads) xs ≡ true)) [
+      | true ↦ λ is e. (grind (arith, nat_tests), e)
+      | false ↦ λ is e. absurd (cc)
+    ] refl e
 
-free-keeps : (heads : List Begun) (bs : List (List ℕ)) (may : ℕ → List ℕ → Bool) (class : ℕ) (list : List ℕ) → list ≢ [] → none_below (length heads) list ≡ true →
+free-keeps : (heads : List Begun) (bs : List (List ℕ)) (may : ℕ → List ℕ → Bool) (class : ℕ) (list : List ℕ) → list ≢ [] →
+    none_below (length heads) list ≡ true →
     may class (written bs list) ≡ true → keeps_heads heads bs may class list ≡ true
 free-keeps heads bs may class [] some past goes = absurd (some refl)
 free-keeps heads bs may class (x ∷ xs) some past goes =
     let (at, rest) = first-past heads x xs past in
     let none = not-end heads x at in
     let P : Option Begun → Type 0 = λ o. may_go_on may class o xs (written bs (x ∷ xs)) ≡ true in
-    true-both (none_below (length heads) xs) (may_go_on may class (slice_get heads x) xs (written bs (x ∷ xs))) rest (subst P (sym none) goes)
+    true-both (none_below (length heads) xs) (may_go_on may class (slice_get heads x) xs (written bs (x ∷ xs)))
+    rest (subst P (sym none) goes)
 
 ends-or : (f : Bool) (xs : List ℕ) → (f ≡ true → xs ≡ []) → (not f || is_empty xs) ≡ true
 ends-or true xs e = ap is_empty (e refl)
 ends-or false xs e = refl
 
-head-keeps : (heads : List Begun) (bs : List (List ℕ)) (may : ℕ → List ℕ → Bool) (class k : ℕ) (h : Begun) (xs : List ℕ) → slice_get heads k ≡ Some h →
+head-keeps : (heads : List Begun) (bs : List (List ℕ)) (may : ℕ → List ℕ → Bool) (class k : ℕ) (h : Begun) (xs : List ℕ) →
+    slice_get heads k ≡ Some h →
     none_below (length heads) xs ≡ true → class ≡ h.class → (h.finished ≡ true → xs ≡ []) → keeps_heads heads bs may class (k ∷ xs) ≡ true
 head-keeps heads bs may class k h xs at past same ends =
     let test : nat_eq h.class class ≡ true = grind (arith, nat_tests) in
@@ -184,7 +191,8 @@ places-some : (heads : List Begun) (xs : List ℕ) → xs ≢ [] → places head
 places-some heads [] some = absurd (some refl)
 places-some heads (x ∷ xs) some = λ e. let full : List ℕ → Bool = λ l. is_empty l in let bad : false ≡ true = ap full e in cc
 
-module _ (p : Problem) (listed : HasListedColumns p) (heads : List Begun) (may : ℕ → List ℕ → Bool) (are : AreHeads p heads) (columns : List Column)
+module _ (p : Problem) (listed : HasListedColumns p) (heads : List Begun) (may : ℕ → List ℕ → Bool)
+    (are : AreHeads p heads) (columns : List Column)
     (plan : IsPlan p columns) (keeps : KeepsBegun heads may columns) where
   abbrev bs : List (List ℕ)
   bs = bodies heads p.items
@@ -202,7 +210,8 @@ module _ (p : Problem) (listed : HasListedColumns p) (heads : List Begun) (may :
         ]
       ]
 
-  same-head : (i j k : ℕ) (g h : Begun) → slice_get heads j ≡ Some g → slice_get heads k ≡ Some h → 1 ≤ times i g.items → 1 ≤ times i h.items → j ≡ k
+  same-head : (i j k : ℕ) (g h : Begun) → slice_get heads j ≡ Some g → slice_get heads k ≡ Some h → 1 ≤ times i g.items →
+      1 ≤ times i h.items → j ≡ k
   same-head i j k g h at behind a b =
       let once = are.once i in
       elim (cases_lt j k) [
@@ -217,19 +226,22 @@ module _ (p : Problem) (listed : HasListedColumns p) (heads : List Begun) (may :
   there-items j c at = let is = column-there p columns j c plan.worths at in (listed c.class c.items c.worth is.1).2
 
   -- an item of a head in a column: the head is what the column begins with
-  begins-here : (i k j : ℕ) (h : Begun) (c : Column) → slice_get heads k ≡ Some h → slice_get columns j ≡ Some c → 1 ≤ times i h.items → 1 ≤ times i c.items → BeginsWith h c
+  begins-here : (i k j : ℕ) (h : Begun) (c : Column) → slice_get heads k ≡ Some h → slice_get columns j ≡ Some c → 1 ≤ times i h.items →
+      1 ≤ times i c.items → BeginsWith h c
   begins-here i k j h c at there a b =
       let (l, d, behind, begins) = keeps.kept k h at in
       let both = times-append i h.items begins.more in
       let same : times i d.items ≡ times i (h.items ++ begins.more) = ap (times i) begins.items in
-      let one = same-column i j l c d (below-item p.items i c.items (there-items j c there) b) there behind b (omega (arith, both, same, a)) in
+      let one = same-column i j l c d (below-item p.items i c.items (there-items j c there) b) there behind b
+      (omega (arith, both, same, a)) in
       let P : ℕ → Type 0 = λ j. slice_get columns j ≡ Some c in
       let is : c ≡ d = some-same c d (sym (subst P one there) ∙ behind) in
       let Q : Column → Type 0 = λ c. BeginsWith h c in
       subst Q (sym is) begins
 
   -- what follows a head is in no head
-  follows-free : (k j : ℕ) (h : Begun) (c : Column) → slice_get heads k ≡ Some h → slice_get columns j ≡ Some c → (begins : BeginsWith h c) → AllFree heads p.items begins.more
+  follows-free : (k j : ℕ) (h : Begun) (c : Column) → slice_get heads k ≡ Some h → slice_get columns j ≡ Some c →
+      (begins : BeginsWith h c) → AllFree heads p.items begins.more
   follows-free k j h c at there begins = λ i some.
       let both = times-append i h.items begins.more in
       let same : times i c.items ≡ times i (h.items ++ begins.more) = ap (times i) begins.items in
@@ -238,7 +250,8 @@ module _ (p : Problem) (listed : HasListedColumns p) (heads : List Begun) (may :
         begun-none heads i (λ found.
             let (l, g, behind, stands) = find-head i heads found in
             let other = begins-here i l j g c behind there stands in_column in
-            let (x, a, b) = front-same g.items h.items other.more begins.more (head-some heads l g are.some behind) (head-some heads k h are.some at) (sym other.items ∙ begins.items) in
+            let (x, a, b) = front-same g.items h.items other.more begins.more (head-some heads l g are.some behind)
+            (head-some heads k h are.some at) (sym other.items ∙ begins.items) in
             let one = same-head x l k g h behind at a b in
             let P : ℕ → Type 0 = λ l. slice_get heads l ≡ Some g in
             let is : g ≡ h = some-same g h (sym (subst P one behind) ∙ at) in
@@ -249,7 +262,8 @@ module _ (p : Problem) (listed : HasListedColumns p) (heads : List Begun) (may :
         below,
       )
 
-  with-head : (k j : ℕ) (h : Begun) (c : Column) → slice_get heads k ≡ Some h → slice_get columns j ≡ Some c → BeginsWith h c → IsWriting p heads may c
+  with-head : (k j : ℕ) (h : Begun) (c : Column) → slice_get heads k ≡ Some h → slice_get columns j ≡ Some c →
+      BeginsWith h c → IsWriting p heads may c
   with-head k j h c at there begins =
       let free = follows-free k j h c at there begins in
       let within = slice_get_within heads k h at in
@@ -259,23 +273,31 @@ module _ (p : Problem) (listed : HasListedColumns p) (heads : List Begun) (may :
       let up : Rises begins.more = rises-tail h.items begins.more (subst P begins.items (listed c.class c.items c.worth is.1).1) in
       let list : List ℕ = k ∷ places heads begins.more in
       let shown : written bs list ≡ c.items =
-      ap (λ b. b ++ written bs (places heads begins.more)) (head-body heads (free_lists heads p.items 0) k h at) ∙ ap (λ l. h.items ++ l) (places-written heads p.items begins.more free) ∙ sym begins.items in
+      ap (λ b. b ++ written bs (places heads begins.more)) (head-body heads (free_lists heads p.items 0) k h at)
+      ∙ ap (λ l. h.items ++ l) (places-written heads p.items begins.more free) ∙ sym begins.items in
       record {
         list = list;
         is = shown;
         listed = parts-rest p heads bs may c.class list c.worth (record {
           rises = head-rises heads p.items k begins.more within free up;
           below = head-below heads p.items k begins.more (omega (arith, within, many)) free;
-          keeps = head-keeps heads bs may c.class k h (places heads begins.more) at (places-past heads p.items begins.more) begins.class (λ f. ap (places heads) (begins.finished f));
+          keeps = head-keeps heads bs may c.class k h (places heads begins.more) at (places-past heads p.items begins.more) begins.class
+              (λ f. ap (places heads) (begins.finished f));
           same = ap (p.worth c.class) shown ∙ is.1;
         });
       }
 
-  without-head : (j : ℕ) (c : Column) → slice_get columns j ≡ Some c → ((k : ℕ) (h : Begun) → slice_get heads k ≡ Some h → BeginsWith h c → ⊥) → IsWriting p heads may c
+  without-head : (j : ℕ) (c : Column) → slice_get columns j ≡ Some c →
+      ((k : ℕ) (h : Begun) → slice_get heads k ≡ Some h → BeginsWith h c → ⊥) → IsWriting p heads may c
   without-head j c there none =
       let is = column-there p columns j c plan.worths there in
       let fits = listed c.class c.items c.worth is.1 in
-      let free : AllFree heads p.items c.items = λ i some. (begun-none heads i (λ found. let (l, g, behind, stands) = find-head i heads found in none l g behind (begins-here i l j g c behind there stands some)), below-item p.items i c.items (there-items j c there) some) in
+      let free : AllFree heads p.items c.items =
+      λ i some. (
+        begun-none heads i (λ found. let (l, g, behind, stands) = find-head i heads found in
+            none l g behind (begins-here i l j g c behind there stands some)),
+        below-item p.items i c.items (there-items j c there) some,
+      ) in
       let shown = places-written heads p.items c.items free in
       let P : List ℕ → Type 0 = λ l. may c.class l ≡ true in
       record {
@@ -284,7 +306,8 @@ module _ (p : Problem) (listed : HasListedColumns p) (heads : List Begun) (may :
         listed = parts-rest p heads bs may c.class (places heads c.items) c.worth (record {
           rises = places-rise heads p.items c.items free fits.1;
           below = places-below heads p.items c.items free;
-          keeps = free-keeps heads bs may c.class (places heads c.items) (places-some heads c.items fits.0) (places-past heads p.items c.items) (subst P (sym shown) (keeps.others j c there none));
+          keeps = free-keeps heads bs may c.class (places heads c.items) (places-some heads c.items fits.0)
+              (places-past heads p.items c.items) (subst P (sym shown) (keeps.others j c there none));
           same = ap (p.worth c.class) shown ∙ is.1;
         });
       }
@@ -328,7 +351,8 @@ all-writings p heads may (c ∷ cs) are each =
     let first = each 0 c refl in
     let others = all-writings p heads may cs are.1 (λ j d at. each (suc j) d at) in
     let one : Column = record { class = c.class; worth = c.worth; items = first.list } in
-    let shown : written_column (bodies heads p.items) one ≡ c = ap (λ (l : List ℕ). record { class = c.class; worth = c.worth; items = l }) first.is in
+    let shown : written_column (bodies heads p.items) one ≡ c =
+    ap (λ (l : List ℕ). record { class = c.class; worth = c.worth; items = l }) first.is in
     record {
       rest = one ∷ others.rest;
       are = ((are.0.0, first.listed), others.are);
@@ -355,10 +379,13 @@ free-stands heads (suc n) k x within =
   where
     at : (x : ℕ) → ((y : ℕ) → y < length (free_lists heads n (suc k)) → StandsFor (free_lists heads n (suc k)) (k + suc n) y) →
         x < length ((k ∷ []) ∷ free_lists heads n (suc k)) → StandsFor ((k ∷ []) ∷ free_lists heads n (suc k)) (k + suc n) x
-    at zero moved within = let same : (k == k) ≡ true = grind (arith, nat_tests) in record { item = k; there = omega arith; stands = rw same (omega arith) }
-    at (suc x) moved within = let rest = moved x (omega (arith, within)) in record { item = rest.item; there = rest.there; stands = rest.stands }
+    at zero moved within = let same : (k == k) ≡ true = grind (arith, nat_tests) in
+        record { item = k; there = omega arith; stands = rw same (omega arith) }
+    at (suc x) moved within =
+        let rest = moved x (omega (arith, within)) in record { item = rest.item; there = rest.there; stands = rest.stands }
 
-body-stands : (heads : List Begun) (more : List (List ℕ)) (n x : ℕ) → NoneEmpty heads → AllBelow n (joined (begun_lists heads)) → x < length (begun_lists heads ++ more) →
+body-stands : (heads : List Begun) (more : List (List ℕ)) (n x : ℕ) → NoneEmpty heads → AllBelow n (joined (begun_lists heads)) →
+    x < length (begun_lists heads ++ more) →
     ((y : ℕ) → y < length more → StandsFor more n y) → StandsFor (begun_lists heads ++ more) n x
 body-stands [] more n x some below within free = free x within
 body-stands (h ∷ hs) more n zero some below within free =
@@ -381,7 +408,8 @@ pub kept-is-rest : (p : Problem) → HasListedColumns p → IsKeptRest p
 kept-is-rest p listed heads may are columns plan keeps =
     let bs : List (List ℕ) = bodies heads p.items in
     let all = all-writings p heads may columns plan.worths (writing p listed heads may are columns plan keeps) in
-    let below : AllBelow (length bs) (all_items all.rest) = all_items-below (rest_of p heads may) all.rest (rest-listed p heads may) all.are in
+    let below : AllBelow (length bs) (all_items all.rest) =
+    all_items-below (rest_of p heads may) all.rest (rest-listed p heads may) all.are in
     let classes : all_classes columns ≡ all_classes all.rest = ap all_classes (sym all.is) ∙ written-classes bs all.rest in (
       all.rest,
       record {
@@ -393,7 +421,8 @@ kept-is-rest p listed heads may are columns plan keeps =
             let some = body-stands heads (free_lists heads p.items 0) p.items x are.some are.below within free in
             once-rest bs all.rest x some.item below within some.stands (bodies-once heads p.items some.item some.there (are.once some.item))
             (ap (λ cs. times some.item (all_items cs)) all.is ∙ plan.once some.item some.there);
-        caps = λ class there. let P : List ℕ → Type 0 = λ l. times class l ≤ slice_index p.caps class in subst P classes (plan.caps class there);
+        caps = λ class there. let P : List ℕ → Type 0 = λ l. times class l ≤ slice_index p.caps class in
+            subst P classes (plan.caps class there);
       },
       all.is,
     )

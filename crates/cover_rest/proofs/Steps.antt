@@ -46,18 +46,23 @@ join true false true true false = refl
 join true false true false n = refl
 
 -- the tests of a list's first item and of those behind it are that of the list
-pub is-list : (heads : List Begun) (bs : List (List ℕ)) (may : ℕ → List ℕ → Bool) (class : ℕ) (list tail : List ℕ) (n : ℕ) (on follow : Bool) → 1 ≤ length list → tail ≡ drop 1 list →
+pub is-list : (heads : List Begun) (bs : List (List ℕ)) (may : ℕ → List ℕ → Bool) (class : ℕ) (list tail : List ℕ) (n : ℕ)
+    (on follow : Bool) → 1 ≤ length list → tail ≡ drop 1 list →
     length bs ≡ n → on ≡ may_go_on may class (slice_get heads (get_or list 0 0)) tail (written bs list) →
     follow ≡ ((rises (get_or list 0 0 ∷ tail) && all_below n tail) && none_below (length heads) tail) →
     ((nat_lt (get_or list 0 0) n && on) && follow) ≡ is_rest_list heads bs may class list
 is-list heads bs may class [] tail n on follow some cut long e f = absurd (omega arith)
 is-list heads bs may class (x ∷ xs) tail n on follow some cut long e f =
     let P : ℕ → Type 0 = λ n. ((nat_lt x n && on) && follow) ≡ is_rest_list heads bs may class (x ∷ xs) in
-    let goes : on ≡ may_go_on may class (slice_get heads x) xs (written bs (x ∷ xs)) = e ∙ ap (λ l. may_go_on may class (slice_get heads x) l (written bs (x ∷ xs))) cut in
+    let goes : on ≡ may_go_on may class (slice_get heads x) xs (written bs (x ∷ xs)) =
+    e ∙ ap (λ l. may_go_on may class (slice_get heads x) l (written bs (x ∷ xs))) cut in
     let follows : follow ≡ ((rises (x ∷ xs) && all_below (length bs) xs) && none_below (length heads) xs) =
-    f ∙ ap (λ l. (rises (x ∷ l) && all_below n l) && none_below (length heads) l) cut ∙ ap (λ n. (rises (x ∷ xs) && all_below n xs) && none_below (length heads) xs) (sym long) in
-    subst P long (ap (λ o. (nat_lt x (length bs) && o) && follow) goes ∙ ap (λ o. (nat_lt x (length bs) && may_go_on may class (slice_get heads x) xs (written bs (x ∷ xs))) && o) follows
-    ∙ join (nat_lt x (length bs)) (may_go_on may class (slice_get heads x) xs (written bs (x ∷ xs))) (rises (x ∷ xs)) (all_below (length bs) xs) (none_below (length heads) xs))
+    f ∙ ap (λ l. (rises (x ∷ l) && all_below n l) && none_below (length heads) l) cut
+    ∙ ap (λ n. (rises (x ∷ xs) && all_below n xs) && none_below (length heads) xs) (sym long) in
+    subst P long (ap (λ o. (nat_lt x (length bs) && o) && follow) goes
+    ∙ ap (λ o. (nat_lt x (length bs) && may_go_on may class (slice_get heads x) xs (written bs (x ∷ xs))) && o) follows
+    ∙ join (nat_lt x (length bs)) (may_go_on may class (slice_get heads x) xs (written bs (x ∷ xs))) (rises (x ∷ xs))
+    (all_below (length bs) xs) (none_below (length heads) xs))
 
 -- a tail that is taken whole
 pub tail-is : (list : List ℕ) → 1 ≤ length list → take (length list - 1) (drop 1 list) ≡ drop 1 list

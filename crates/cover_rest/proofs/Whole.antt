@@ -21,14 +21,20 @@ back-below n (x ∷ xs) ys h = back-below n xs ys h.1
 
 joined-below : (n : ℕ) (xs ys : List (List ℕ)) → AllBelow n (joined xs) → AllBelow n (joined ys) → AllBelow n (joined (xs ++ ys))
 joined-below n [] ys h k = k
-joined-below n (x ∷ xs) ys h k = AllBelow-append n x (joined (xs ++ ys)) (front-below n x (joined xs) h) (joined-below n xs ys (back-below n x (joined xs) h) k)
+joined-below n (x ∷ xs) ys h k =
+    AllBelow-append n x (joined (xs ++ ys)) (front-below n x (joined xs) h) (joined-below n xs ys (back-below n x (joined xs) h) k)
 
 free-below : (heads : List Begun) (n k m : ℕ) → k + n ≤ m → AllBelow m (joined (free_lists heads n k))
 free-below heads zero k m h = tt
 free-below heads (suc n) k m h =
     let rest = free-below heads n (suc k) m (omega arith) in
     let here : k < m = omega arith in
-    elim (has_begun heads k) as (λ b. AllBelow m (joined (cond b (free_lists heads n (suc k)) ((k ∷ []) ∷ free_lists heads n (suc k))))) [ true ↦ rest | false ↦ (here, rest) ]
+    elim (has_begun heads k) as
+    (λ b. AllBelow m (joined (cond b (free_lists heads n (suc k)) ((k ∷ []) ∷ free_lists heads n (suc k))))) [
+      | true ↦
+          rest
+      | false ↦ (here, rest)
+    ]
 
 -- none of the lists is empty
 abbrev AllSome : List (List ℕ) → Type 0
@@ -39,7 +45,11 @@ free-some : (heads : List Begun) (n k : ℕ) → AllSome (free_lists heads n k)
 free-some heads zero k = tt
 free-some heads (suc n) k =
     let rest = free-some heads n (suc k) in
-    elim (has_begun heads k) as (λ b. AllSome (cond b (free_lists heads n (suc k)) ((k ∷ []) ∷ free_lists heads n (suc k)))) [ true ↦ rest | false ↦ (λ none. absurd (cc), rest) ]
+    elim (has_begun heads k) as (λ b. AllSome (cond b (free_lists heads n (suc k)) ((k ∷ []) ∷ free_lists heads n (suc k)))) [
+      | true ↦
+          rest
+      | false ↦ (λ none. absurd (cc), rest)
+    ]
 
 all-some : (heads : List Begun) (free : List (List ℕ)) → NoneEmpty heads → AllSome free → AllSome (begun_lists heads ++ free)
 all-some [] free h k = k
@@ -73,14 +83,16 @@ first-ones (suc n) = omega (arith, ints, first-ones n)
 once-length : (n : ℕ) (xs : List ℕ) → AllBelow n xs → ((i : ℕ) → i < n → times i xs ≡ 1) → length xs ≡ n
 once-length n xs below once =
     let spread = sum_each-times one n xs below in
-    let same : sum_first (λ i. pos (times i xs) *ℤ one i) n ≡ sum_first one n = sum_first-same _ _ n (λ i h. ap (λ t. pos t *ℤ pos 1) (once i h)) in
+    let same : sum_first (λ i. pos (times i xs) *ℤ one i) n ≡ sum_first one n =
+    sum_first-same _ _ n (λ i h. ap (λ t. pos t *ℤ pos 1) (once i h)) in
     omega (arith, ints, spread, same, each-one xs, first-ones n)
 
 pub stand-for-all : (p : Problem) (heads : List Begun) → AreHeads p heads → StandForAll p.items (bodies heads p.items)
 stand-for-all p heads are =
     let bs : List (List ℕ) = bodies heads p.items in
     let none : 0 + p.items ≤ p.items = omega arith in
-    let below : AllBelow p.items (joined bs) = joined-below p.items (begun_lists heads) (free_lists heads p.items 0) are.below (free-below heads p.items 0 p.items none) in
+    let below : AllBelow p.items (joined bs) =
+    joined-below p.items (begun_lists heads) (free_lists heads p.items 0) are.below (free-below heads p.items 0 p.items none) in
     let some : AllSome bs = all-some heads (free_lists heads p.items 0) are.some (free-some heads p.items 0) in
     let once : (i : ℕ) → i < p.items → times i (joined bs) ≡ 1 = λ i h. bodies-once heads p.items i h (are.once i) in
     record {

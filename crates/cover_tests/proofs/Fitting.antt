@@ -33,5 +33,6 @@ AreFit-pool_after n k pool c h f =
 -- so it is after an addition, whatever the answer
 pub fits_if : (n k : ℕ) (old : List Column) (c : Column) (new : List Column) (result : Result Bool Memory) → AreFit n k old → IsFit n k c →
     IfOk result (λ added. new ≡ pool_after old c) → OnOk result (AreFit n k new)
-fits_if n k old c new (Ok added) h f is = let P : List Column → Type 0 = λ l. AreFit n k l in subst P (sym is) (AreFit-pool_after n k old c h f)
+fits_if n k old c new (Ok added) h f is =
+    let P : List Column → Type 0 = λ l. AreFit n k l in subst P (sym is) (AreFit-pool_after n k old c h f)
 fits_if n k old c new (Err e) h f is = is

@@ -24,12 +24,17 @@ three-modest class (x ∷ []) there = low (nat_lt x 2) refl
     low true test = let below : x < 2 = grind (arith, nat_tests) in let few : class < 2 = there in omega arith
     low false test = tt
 three-modest class (x ∷ y ∷ []) there =
-    elim (nat_lt x y && nat_lt y 3) as (λ b. IfSome (cond b (Some 5) None) (λ worth. worth ≤ 4000000000)) [ true ↦ omega arith | false ↦ tt ]
+    elim (nat_lt x y && nat_lt y 3) as (λ b. IfSome (cond b (Some 5) None) (λ worth. worth ≤ 4000000000)) [
+      | true ↦
+          omega arith
+      | false ↦ tt
+    ]
 three-modest class (x ∷ y ∷ z ∷ rest) there = tt
 
 pub line-modest : HasModestWorths line
 line-modest class [] there = tt
-line-modest class (x ∷ []) there = elim (nat_lt x 6) as (λ b. IfSome (cond b (Some 1) None) (λ worth. worth ≤ 4000000000)) [ true ↦ omega arith | false ↦ tt ]
+line-modest class (x ∷ []) there =
+    elim (nat_lt x 6) as (λ b. IfSome (cond b (Some 1) None) (λ worth. worth ≤ 4000000000)) [ true ↦ omega arith | false ↦ tt ]
 line-modest class (x ∷ y ∷ []) there = low (nat_lt x y && nat_lt y 6) refl
   where
     low : (b : Bool) → (nat_lt x y && nat_lt y 6) ≡ b → IfSome (cond b (Some (1 + (y - x))) None) (λ worth. worth ≤ 4000000000)

@@ -9,7 +9,8 @@ use Rattle.path_cover.specs.Nets.{Net, IsCheap, IsRising}
 -- where next nodes are closed, none goes to the next node.
 abbrev pub small_arc : ℕ → ℕ → Bool → ℕ → ℕ → Option ℕ
 small_arc start step closed x v =
-    cond (x == 4) (Some (cond (v == 4) 0 start)) (cond (v == 4) (Some 0) (cond (nat_lt x v && not (closed && (v == x + 1))) (Some (step * (v - x) + 1)) None))
+    cond (x == 4) (Some (cond (v == 4) 0 start))
+    (cond (v == 4) (Some 0) (cond (nat_lt x v && not (closed && (v == x + 1))) (Some (step * (v - x) + 1)) None))
 
 abbrev pub small_net : ℕ → ℕ → ℕ → Bool → Net
 small_net most start step closed = record { nodes = 4; most = most; arc = small_arc start step closed }
@@ -51,5 +52,6 @@ small_cheap most start step closed start_low step_low = (5001, dear, omega arith
         go true true k e = let is : 0 ≡ c = some_nat 0 c e in omega arith
         go true false k e = let is : start ≡ c = some_nat start c e in omega arith
         go false true k e = let is : 0 ≡ c = some_nat 0 c e in omega arith
-        go false false true e = let is : step * (v - x) + 1 ≡ c = some_nat (step * (v - x) + 1) c e in let low = times_few step (v - x) (omega arith) in omega arith
+        go false false true e = let is : step * (v - x) + 1 ≡ c = some_nat (step * (v - x) + 1) c e in
+            let low = times_few step (v - x) (omega arith) in omega arith
         go false false false e = absurd (cc)

@@ -42,8 +42,11 @@ is_some true n e = absurd (omega (arith, e))
 is_some false n e = refl
 
 -- no item of a list in order is before its first
-none_before : {X : Type 0} (lt : X → X → Bool) (o : IsStrictWeakOrder lt) (x : X) (xs : List X) → IsSortedBy lt (x ∷ xs) → sum_by (before lt x) (x ∷ xs) ≡ 0
-none_before lt o x xs up = none_counted (before lt x) (x ∷ xs) (λ j d within. is_none (lt (slice_index_or (x ∷ xs) j d) x) (sorted_far lt o (x ∷ xs) up 0 j d (omega arith) within))
+none_before : {X : Type 0} (lt : X → X → Bool) (o : IsStrictWeakOrder lt) (x : X) (xs : List X) → IsSortedBy lt (x ∷ xs) →
+    sum_by (before lt x) (x ∷ xs) ≡ 0
+none_before lt o x xs up =
+    none_counted (before lt x) (x ∷ xs)
+    (λ j d within. is_none (lt (slice_index_or (x ∷ xs) j d) x) (sorted_far lt o (x ∷ xs) up 0 j d (omega arith) within))
 
 tail_sorted : {X : Type 0} (lt : X → X → Bool) (x : X) (xs : List X) → IsSortedBy lt (x ∷ xs) → IsSortedBy lt xs
 tail_sorted {X = X} lt x xs up = λ k d low high.
@@ -54,7 +57,8 @@ tail_sorted {X = X} lt x xs up = λ k d low high.
     subst P more h
 
 -- items in order that are the same but for their places are the same
-one_order : {X : Type 0} (lt : X → X → Bool) (o : IsStrictWeakOrder lt) (apart : (a b : X) → lt a b ≡ false → lt b a ≡ false → a ≡ b) (xs ys : List X) → IsSortedBy lt xs → IsSortedBy lt ys → ((f : X → ℕ) → sum_by f xs ≡ sum_by f ys) → xs ≡ ys
+one_order : {X : Type 0} (lt : X → X → Bool) (o : IsStrictWeakOrder lt) (apart : (a b : X) → lt a b ≡ false → lt b a ≡ false → a ≡ b)
+    (xs ys : List X) → IsSortedBy lt xs → IsSortedBy lt ys → ((f : X → ℕ) → sum_by f xs ≡ sum_by f ys) → xs ≡ ys
 one_order lt o apart [] [] up up' same = refl
 one_order {X = X} lt o apart [] (y ∷ ys) up up' same =
     let one : X → ℕ = λ z. 1 in
@@ -65,8 +69,10 @@ one_order {X = X} lt o apart (x ∷ xs) [] up up' same =
     let e : sum_by one (x ∷ xs) ≡ sum_by one [] = same one in
     absurd (omega (arith, e, sum_by-cons one x xs, none_in one))
 one_order lt o apart (x ∷ xs) (y ∷ ys) up up' same =
-    let none : counted (lt x y) + sum_by (before lt y) xs ≡ 0 = sym (sum_by-cons (before lt y) x xs) ∙ same (before lt y) ∙ none_before lt o y ys up' in
-    let none' : counted (lt y x) + sum_by (before lt x) ys ≡ 0 = sym (sum_by-cons (before lt x) y ys) ∙ sym (same (before lt x)) ∙ none_before lt o x xs up in
+    let none : counted (lt x y) + sum_by (before lt y) xs ≡ 0 =
+    sym (sum_by-cons (before lt y) x xs) ∙ same (before lt y) ∙ none_before lt o y ys up' in
+    let none' : counted (lt y x) + sum_by (before lt x) ys ≡ 0 =
+    sym (sum_by-cons (before lt x) y ys) ∙ sym (same (before lt x)) ∙ none_before lt o x xs up in
     let first : x ≡ y = apart x y (is_some (lt x y) (sum_by (before lt y) xs) none) (is_some (lt y x) (sum_by (before lt x) ys) none') in
     let rest : xs ≡ ys = one_order lt o apart xs ys (tail_sorted lt x xs up) (tail_sorted lt y ys up') (λ f.
     let e : f x ≡ f y = ap f first in
@@ -74,7 +80,8 @@ one_order lt o apart (x ∷ xs) (y ∷ ys) up up' same =
     ap (λ z. z ∷ xs) first ∙ ap (λ zs. y ∷ zs) rest
 
 trip_order_total : IsTotalOrder trip_order
-trip_order_total = then_total (on_total (λ (t : DayTrip). t.start) nat_cmp_total) (then_total (on_total (λ (t : DayTrip). t.fid) nat_cmp_total) (on_total (λ (t : DayTrip). t.place) nat_cmp_total))
+trip_order_total = then_total (on_total (λ (t : DayTrip). t.start) nat_cmp_total)
+    (then_total (on_total (λ (t : DayTrip). t.fid) nat_cmp_total) (on_total (λ (t : DayTrip). t.place) nat_cmp_total))
 
 abbrev trip_lt : DayTrip → DayTrip → Bool
 trip_lt a b = is_lt (trip_order a b)
@@ -108,13 +115,18 @@ trips_apart : (a b : DayTrip) → trip_lt a b ≡ false → trip_lt b a ≡ fals
 trips_apart a b p q = same_trip a b (neither (trip_order a b) (trip_order b a) (trip_order_total.antisymm a b) p q)
 
 -- there is one list of the places of a day's trips
-pub one_list : (trips : List TripRow) (version kind : ℕ) (places others : List ℕ) → AreDayRows trips version kind places → AreDayRows trips version kind others → places ≡ others
+pub one_list : (trips : List TripRow) (version kind : ℕ) (places others : List ℕ) → AreDayRows trips version kind places →
+    AreDayRows trips version kind others → places ≡ others
 one_list trips version kind places others rows rows' =
-    let same : (f : DayTrip → ℕ) → sum_by f rows.ordered ≡ sum_by f rows'.ordered = λ f. sum_by-IsPermutation f _ _ rows.same ∙ sym (sum_by-IsPermutation f _ _ rows'.same) in
-    let one : rows.ordered ≡ rows'.ordered = one_order trip_lt trips_ranked trips_apart rows.ordered rows'.ordered rows.rising rows'.rising same in
+    let same : (f : DayTrip → ℕ) → sum_by f rows.ordered ≡ sum_by f rows'.ordered =
+    λ f. sum_by-IsPermutation f _ _ rows.same ∙ sym (sum_by-IsPermutation f _ _ rows'.same) in
+    let one : rows.ordered ≡ rows'.ordered =
+    one_order trip_lt trips_ranked trips_apart rows.ordered rows'.ordered rows.rising rows'.rising same in
     rows.are ∙ ap (λ (ts : List DayTrip). map (λ (t : DayTrip). t.place) ts) one ∙ sym rows'.are
 
 -- the same of an answer
-pub answer_only : {E : Type 0} (trips : List TripRow) (version kind : ℕ) (answer : Result (List ℕ) E) → IfOk answer (AreDayRows trips version kind) → (others : List ℕ) → AreDayRows trips version kind others → IfOk answer (λ places. places ≡ others)
+pub answer_only : {E : Type 0} (trips : List TripRow) (version kind : ℕ) (answer : Result (List ℕ) E) →
+    IfOk answer (AreDayRows trips version kind) → (others : List ℕ) → AreDayRows trips version kind others →
+    IfOk answer (λ places. places ≡ others)
 answer_only trips version kind (Ok places) rows others there = one_list trips version kind places others rows there
 answer_only trips version kind (Err e) rows others there = tt

@@ -15,7 +15,8 @@ day_trip place trip = record { start = trip.start; fid = trip.fid; place = place
 abbrev pub trips_from : ℕ → ℕ → ℕ → List TripRow → List DayTrip
 trips_from version kind place [] = []
 trips_from version kind place (trip ∷ trips) =
-    if is_of_day version kind trip then day_trip place trip ∷ trips_from version kind (place + 1) trips else trips_from version kind (place + 1) trips
+    if is_of_day version kind trip then day_trip place trip ∷ trips_from version kind (place + 1) trips else trips_from
+    version kind (place + 1) trips
 
 abbrev pub day_trips : List TripRow → ℕ → ℕ → List DayTrip
 day_trips trips version kind = trips_from version kind 0 trips

@@ -9,7 +9,9 @@ rows_append [] ys = refl
 rows_append (x ∷ xs) ys = ap (λ (rs : List (List Field)). fields_of x ∷ rs) (rows_append xs ys)
 
 -- rows that are put behind others in two steps
-pub add_both : {T E : Type 0} (r : Result T E) (xs ys all : List (List Cell)) (old mid new : List (List Field)) → mid ≡ old ++ rows_of xs → OnOk r (new ≡ mid ++ rows_of ys) → xs ++ ys ≡ all → OnOk r (new ≡ old ++ rows_of all)
+pub add_both : {T E : Type 0} (r : Result T E) (xs ys all : List (List Cell)) (old mid new : List (List Field)) → mid ≡ old ++ rows_of xs →
+    OnOk r (new ≡ mid ++ rows_of ys) → xs ++ ys ≡ all → OnOk r (new ≡ old ++ rows_of all)
 add_both (Ok x) xs ys all old mid new first second whole =
-    second ∙ ap (λ (rs : List (List Field)). rs ++ rows_of ys) first ∙ append_assoc old (rows_of xs) (rows_of ys) ∙ ap (λ (rs : List (List Field)). old ++ rs) (sym (rows_append xs ys)) ∙ ap (λ (cs : List (List Cell)). old ++ rows_of cs) whole
+    second ∙ ap (λ (rs : List (List Field)). rs ++ rows_of ys) first ∙ append_assoc old (rows_of xs) (rows_of ys)
+    ∙ ap (λ (rs : List (List Field)). old ++ rs) (sym (rows_append xs ys)) ∙ ap (λ (cs : List (List Cell)). old ++ rows_of cs) whole
 add_both (Err e) xs ys all old mid new first second whole = tt

@@ -50,13 +50,15 @@ apart p q = (p - q) + (q - p)
 
 -- the seconds between two terminals or depots
 abbrev pub way_seconds : ℕ → ℕ → ℕ
-way_seconds from to = 300 * apart (position_of from) (position_of to) + (if nat_le from 100 then (if nat_le to 100 then 0 else 300) else 300)
+way_seconds from to = 300 * apart (position_of from) (position_of to)
+    + (if nat_le from 100 then (if nat_le to 100 then 0 else 300) else 300)
 
 -- one way, as the tables of deadheads and of ways have it
 abbrev pub way_row : Bool → ℕ → ℕ → List Cell
 way_row deadhead from to =
     if deadhead then
-    Number 1 ∷ Number 1 ∷ Number 1 ∷ Number (type_of from) ∷ Number from ∷ Number (type_of to) ∷ Number to ∷ Number (way_seconds from to) ∷ []
+    Number 1 ∷ Number 1 ∷ Number 1 ∷ Number (type_of from) ∷ Number from ∷ Number (type_of to) ∷ Number to
+    ∷ Number (way_seconds from to) ∷ []
     else Number (type_of from) ∷ Number from ∷ Number (type_of to) ∷ Number to ∷ Number (way_seconds from to) ∷ []
 
 -- the ways from a point to each other one
@@ -101,7 +103,8 @@ pool_row number depot trips = Number number ∷ Number 2 ∷ Number depot ∷ Nu
 abbrev pub group_row : ℕ → ℕ → ℕ → List Cell
 group_row number home trips = Number number ∷ Number 2 ∷ Number home ∷ Number trips ∷ Number 20000 ∷ Number 5 ∷ Number 600 ∷ Number 300 ∷ []
 
--- the rows of a table that belong to a line or a point, a pool or a group; line l goes from terminal l over the inner point 10 + l to terminal l + 1
+-- the rows of a table that belong to a line or a point, a pool or a group; line l goes from terminal l over the inner point 10 + l to
+-- terminal l + 1
 abbrev pub part_rows : Part → ℕ → List (List Cell)
 part_rows Points nr = (Number 1 ∷ Number (type_of nr) ∷ Number nr ∷ []) ∷ []
 part_rows Lengths l = length_row l l (10 + l) ∷ length_row l (10 + l) (l + 1) ∷ length_row l (l + 1) (10 + l) ∷ length_row l (10 + l) l ∷ []
@@ -135,13 +138,15 @@ drawn s m = s / 2 ^ 33 % m
 -- a trip of a number, from the states of its three draws: its line, its variant and its departure
 abbrev pub trip_row : ℕ → ℕ → ℕ → ℕ → List Cell
 trip_row fid a b c =
-    Number 1 ∷ Number fid ∷ Number (18000 + 60 * drawn c 960) ∷ Number (1 + drawn a 7) ∷ Number 1 ∷ Number 1 ∷ Number 1 ∷ Variant (drawn b 2 == 0) ∷ Nothing ∷ []
+    Number 1 ∷ Number fid ∷ Number (18000 + 60 * drawn c 960) ∷ Number (1 + drawn a 7) ∷ Number 1 ∷ Number 1 ∷ Number 1
+    ∷ Variant (drawn b 2 == 0) ∷ Nothing ∷ []
 
 -- so many trips from a number on, from a state on
 abbrev pub trip_rows : ℕ → ℕ → ℕ → List (List Cell)
 trip_rows zero fid s = []
 trip_rows (suc n) fid s =
-    trip_row fid (next_state s) (next_state (next_state s)) (next_state (next_state (next_state s))) ∷ trip_rows n (fid + 1) (next_state (next_state (next_state s)))
+    trip_row fid (next_state s) (next_state (next_state s)) (next_state (next_state (next_state s)))
+    ∷ trip_rows n (fid + 1) (next_state (next_state (next_state s)))
 
 -- the texts that stand behind references
 abbrev pub texts : List (Bor (List ℕ)) → List (List ℕ)
@@ -168,16 +173,22 @@ part_name (Groups trips) = codes "X_FAHRER"
 -- its columns
 abbrev pub part_columns : Part → List (List ℕ)
 part_columns Points = codes "BASIS_VERSION" ∷ codes "ONR_TYP_NR" ∷ codes "ORT_NR" ∷ []
-part_columns Lengths = codes "BASIS_VERSION" ∷ codes "BEREICH_NR" ∷ codes "ONR_TYP_NR" ∷ codes "ORT_NR" ∷ codes "SEL_ZIEL" ∷ codes "SEL_ZIEL_TYP" ∷ codes "SEL_LAENGE" ∷ []
-part_columns Times = codes "BASIS_VERSION" ∷ codes "BEREICH_NR" ∷ codes "FGR_NR" ∷ codes "ONR_TYP_NR" ∷ codes "ORT_NR" ∷ codes "SEL_ZIEL" ∷ codes "SEL_ZIEL_TYP" ∷ codes "SEL_FZT" ∷ []
+part_columns Lengths = codes "BASIS_VERSION" ∷ codes "BEREICH_NR" ∷ codes "ONR_TYP_NR" ∷ codes "ORT_NR" ∷ codes "SEL_ZIEL"
+    ∷ codes "SEL_ZIEL_TYP" ∷ codes "SEL_LAENGE" ∷ []
+part_columns Times = codes "BASIS_VERSION" ∷ codes "BEREICH_NR" ∷ codes "FGR_NR" ∷ codes "ONR_TYP_NR" ∷ codes "ORT_NR" ∷ codes "SEL_ZIEL"
+    ∷ codes "SEL_ZIEL_TYP" ∷ codes "SEL_FZT" ∷ []
 part_columns Dwells = codes "BASIS_VERSION" ∷ codes "FGR_NR" ∷ codes "ONR_TYP_NR" ∷ codes "ORT_NR" ∷ codes "HP_HZT" ∷ []
 part_columns Variants = codes "BASIS_VERSION" ∷ codes "LI_NR" ∷ codes "STR_LI_VAR" ∷ codes "BEREICH_NR" ∷ []
-part_columns Courses = codes "BASIS_VERSION" ∷ codes "LI_LFD_NR" ∷ codes "LI_NR" ∷ codes "STR_LI_VAR" ∷ codes "ONR_TYP_NR" ∷ codes "ORT_NR" ∷ []
-part_columns Deadheads = codes "BASIS_VERSION" ∷ codes "BEREICH_NR" ∷ codes "FGR_NR" ∷ codes "ONR_TYP_NR" ∷ codes "ORT_NR" ∷ codes "UEB_ZIEL_TYP" ∷ codes "UEB_ZIEL" ∷ codes "UEB_FAHRZEIT" ∷ []
+part_columns Courses = codes "BASIS_VERSION" ∷ codes "LI_LFD_NR" ∷ codes "LI_NR" ∷ codes "STR_LI_VAR"
+    ∷ codes "ONR_TYP_NR" ∷ codes "ORT_NR" ∷ []
+part_columns Deadheads = codes "BASIS_VERSION" ∷ codes "BEREICH_NR" ∷ codes "FGR_NR" ∷ codes "ONR_TYP_NR" ∷ codes "ORT_NR"
+    ∷ codes "UEB_ZIEL_TYP" ∷ codes "UEB_ZIEL" ∷ codes "UEB_FAHRZEIT" ∷ []
 part_columns Ways = codes "ONR_TYP_NR" ∷ codes "ORT_NR" ∷ codes "ZIEL_TYP" ∷ codes "ZIEL_NR" ∷ codes "WEG_SEK" ∷ []
 part_columns Reliefs = codes "ONR_TYP_NR" ∷ codes "ORT_NR" ∷ []
-part_columns (Pools trips) = codes "HOF_NR" ∷ codes "ONR_TYP_NR" ∷ codes "ORT_NR" ∷ codes "FZG_TYP_NR" ∷ codes "ANZAHL" ∷ codes "FIX_KOSTEN" ∷ codes "LEER_SATZ" ∷ codes "STAND_SATZ" ∷ []
-part_columns (Groups trips) = codes "GRUPPE_NR" ∷ codes "ONR_TYP_NR" ∷ codes "ORT_NR" ∷ codes "ANZAHL" ∷ codes "FIX_KOSTEN" ∷ codes "SATZ" ∷ codes "ANMELDE_SEK" ∷ codes "ABMELDE_SEK" ∷ []
+part_columns (Pools trips) = codes "HOF_NR" ∷ codes "ONR_TYP_NR" ∷ codes "ORT_NR" ∷ codes "FZG_TYP_NR" ∷ codes "ANZAHL" ∷ codes "FIX_KOSTEN"
+    ∷ codes "LEER_SATZ" ∷ codes "STAND_SATZ" ∷ []
+part_columns (Groups trips) = codes "GRUPPE_NR" ∷ codes "ONR_TYP_NR" ∷ codes "ORT_NR" ∷ codes "ANZAHL" ∷ codes "FIX_KOSTEN" ∷ codes "SATZ"
+    ∷ codes "ANMELDE_SEK" ∷ codes "ABMELDE_SEK" ∷ []
 
 -- the lines or points, pools or groups of which it tells
 abbrev pub part_numbers : Part → List ℕ
@@ -199,19 +210,25 @@ part_table part = made_table (part_name part) (part_columns part) (rows_for part
 
 -- The tables, in their order.
 abbrev pub version_table : Table
-version_table = made_table (codes "BASIS_VER_GUELTIGKEIT") (codes "VER_GUELTIGKEIT" ∷ codes "BASIS_VERSION" ∷ []) ((Number 20260101 ∷ Number 1 ∷ []) ∷ [])
+version_table = made_table (codes "BASIS_VER_GUELTIGKEIT") (codes "VER_GUELTIGKEIT" ∷ codes "BASIS_VERSION" ∷ [])
+    ((Number 20260101 ∷ Number 1 ∷ []) ∷ [])
 
 abbrev pub calendar_table : Table
-calendar_table = made_table (codes "FIRMENKALENDER") (codes "BASIS_VERSION" ∷ codes "BETRIEBSTAG" ∷ codes "TAGESART_NR" ∷ []) ((Number 1 ∷ Number 20260302 ∷ Number 1 ∷ []) ∷ [])
+calendar_table = made_table (codes "FIRMENKALENDER") (codes "BASIS_VERSION" ∷ codes "BETRIEBSTAG" ∷ codes "TAGESART_NR" ∷ [])
+    ((Number 1 ∷ Number 20260302 ∷ Number 1 ∷ []) ∷ [])
 
 abbrev pub trip_table : ℕ → ℕ → Table
-trip_table seed trips = made_table (codes "REC_FRT") (codes "BASIS_VERSION" ∷ codes "FRT_FID" ∷ codes "FRT_START" ∷ codes "LI_NR" ∷ codes "TAGESART_NR" ∷ codes "FAHRTART_NR" ∷ codes "FGR_NR" ∷ codes "STR_LI_VAR" ∷ codes "UM_UID" ∷ []) (trip_rows trips 1 (first_state seed))
+trip_table seed trips =
+    made_table (codes "REC_FRT") (codes "BASIS_VERSION" ∷ codes "FRT_FID" ∷ codes "FRT_START" ∷ codes "LI_NR" ∷ codes "TAGESART_NR"
+    ∷ codes "FAHRTART_NR" ∷ codes "FGR_NR" ∷ codes "STR_LI_VAR" ∷ codes "UM_UID" ∷ []) (trip_rows trips 1 (first_state seed))
 
 abbrev pub type_table : Table
 type_table = made_table (codes "MENGE_FZG_TYP") (codes "BASIS_VERSION" ∷ codes "FZG_TYP_NR" ∷ []) ((Number 1 ∷ Number 1 ∷ []) ∷ [])
 
 abbrev pub settings_table : Table
-settings_table = made_table (codes "X_PLAN") (codes "UEB_BEREICH_NR" ∷ codes "UEB_FGR_NR" ∷ codes "WENDE_SEK" ∷ codes "MAX_WARTE_SEK" ∷ codes "UEBERGABE_SEK" ∷ []) ((Number 1 ∷ Number 1 ∷ Number 300 ∷ Number 7200 ∷ Number 300 ∷ []) ∷ [])
+settings_table = made_table (codes "X_PLAN")
+    (codes "UEB_BEREICH_NR" ∷ codes "UEB_FGR_NR" ∷ codes "WENDE_SEK" ∷ codes "MAX_WARTE_SEK" ∷ codes "UEBERGABE_SEK" ∷ [])
+    ((Number 1 ∷ Number 1 ∷ Number 300 ∷ Number 7200 ∷ Number 300 ∷ []) ∷ [])
 
 abbrev pub deadhead_table : Table
 deadhead_table = part_table Deadheads

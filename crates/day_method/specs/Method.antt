@@ -40,7 +40,8 @@ abbrev pub blocks_after : DayProblems → Kept → Kept → List Column → Side
 blocks_after day count cost columns = record { columns = day.printed_blocks (day.written_blocks columns); count = count; cost = cost }
 
 abbrev pub duties_after : DayProblems → List Column → Kept → Kept → List Column → SidePlan
-duties_after day blocks count cost columns = record { columns = day.printed_duties blocks (day.written_duties blocks columns); count = count; cost = cost }
+duties_after day blocks count cost columns =
+    record { columns = day.printed_duties blocks (day.written_duties blocks columns); count = count; cost = cost }
 
 -- how the day ends after planning of its duties ended so
 abbrev pub with_duties : DayProblems → SidePlan → Ending → DayEnding
@@ -68,4 +69,5 @@ pub record DayEndsAs (day : DayProblems) (numbers : Numbers) (ending : DayEnding
 
 -- a day that is planned by fixed rounds ends in one way alone
 abbrev pub DayEndsOnce : DayProblems → Type 0
-DayEndsOnce day = (numbers : Numbers) → numbers.climb ≡ false → (one other : DayEnding) → DayEndsAs day numbers one → DayEndsAs day numbers other → one ≡ other
+DayEndsOnce day = (numbers : Numbers) → numbers.climb ≡ false → (one other : DayEnding) → DayEndsAs day numbers one →
+    DayEndsAs day numbers other → one ≡ other

@@ -36,7 +36,8 @@ equal_entries (suc n) v zero h = refl
 equal_entries (suc n) v (suc i) h = equal_entries n v i (omega (arith, h))
 
 -- before any place is passed
-pub heads_none : (numbers heads : List ℕ) → ((n : ℕ) → n < length heads → slice_index heads n ≡ length numbers) → AreHeads numbers heads (length numbers)
+pub heads_none : (numbers heads : List ℕ) → ((n : ℕ) → n < length heads → slice_index heads n ≡ length numbers) →
+    AreHeads numbers heads (length numbers)
 heads_none numbers heads all = record {
   within = λ n less. (let is = all n less in omega (arith, is));
   own = λ n less there. absurd (let is = all n less in omega (arith, is, there));
@@ -44,7 +45,8 @@ heads_none numbers heads all = record {
 }
 
 -- one place more is passed
-pub heads_more : (numbers heads : List ℕ) (k : ℕ) → k < length numbers → slice_index numbers k < length heads → AreHeads numbers heads (k + 1) → AreHeads numbers (slice_set heads (slice_index numbers k) k) k
+pub heads_more : (numbers heads : List ℕ) (k : ℕ) → k < length numbers → slice_index numbers k < length heads →
+    AreHeads numbers heads (k + 1) → AreHeads numbers (slice_set heads (slice_index numbers k) k) k
 heads_more numbers heads k there room old =
     let number : ℕ = slice_index numbers k in
     let new : List ℕ = slice_set heads number k in
@@ -53,7 +55,8 @@ heads_more numbers heads k there room old =
     record {
       within = λ n less. elim (cases_eq number n) [
         | inl same ↦ let P : ℕ → Type 0 = λ m. slice_index new m ≤ length numbers in subst P same (omega (arith, here, there))
-        | inr other ↦ let is = entry_other heads number n k other in let was = old.within n (omega (arith, less, long)) in omega (arith, is, was)
+        | inr other ↦ let is = entry_other heads number n k other in let was = old.within n (omega (arith, less, long)) in
+            omega (arith, is, was)
       ];
       own = λ n less inside. elim (cases_eq number n) [
         | inl same ↦
@@ -68,7 +71,12 @@ heads_more numbers heads k there room old =
         | inl same ↦ let P : ℕ → Type 0 = λ m. slice_index new m ≤ u in subst P same (omega (arith, here, from))
         | inr other ↦
             let is = entry_other heads number (slice_index numbers u) k other in
-            let apart : k + 1 ≤ u = elim (eq-or-lt_of_le {n = k} {m = u} from) [ inl same ↦ absurd (other (ap (slice_index numbers) same)) | inr more ↦ omega (arith, more) ] in
+            let apart : k + 1 ≤ u =
+            elim (eq-or-lt_of_le {n = k} {m = u} from) [
+              | inl same ↦ absurd (other (ap (slice_index numbers) same))
+              | inr more ↦
+                  omega (arith, more)
+            ] in
             let was = old.first u apart inside in
             omega (arith, is, was)
       ];
@@ -83,14 +91,16 @@ nexts_none numbers nexts long = record {
   first = λ t u from later inside. absurd (omega (arith, from, later, inside));
 }
 
-pub nexts_more : (numbers nexts heads : List ℕ) (k next : ℕ) → k < length numbers → slice_index numbers k < length heads → next ≡ slice_index heads (slice_index numbers k) →
+pub nexts_more : (numbers nexts heads : List ℕ) (k next : ℕ) → k < length numbers → slice_index numbers k < length heads →
+    next ≡ slice_index heads (slice_index numbers k) →
     AreHeads numbers heads (k + 1) → AreNexts numbers nexts (k + 1) → AreNexts numbers (slice_set nexts k next) k
 nexts_more numbers nexts heads k next there room is heads_are old =
     let new : List ℕ = slice_set nexts k next in
     let count = old.count in
     let here = entry_set nexts k next (omega (arith, count, there)) in
     let within = heads_are.within (slice_index numbers k) room in
-    let other : (t : ℕ) → k < t → slice_index new t ≡ slice_index nexts t = λ t less. entry_other nexts k t next (λ same. absurd (omega (arith, less, same))) in
+    let other : (t : ℕ) → k < t → slice_index new t ≡ slice_index nexts t =
+    λ t less. entry_other nexts k t next (λ same. absurd (omega (arith, less, same))) in
     record {
       count = entry_count nexts k next ∙ count;
       within = λ t from inside. elim (eq-or-lt_of_le {n = k} {m = t} from) [
@@ -98,15 +108,18 @@ nexts_more numbers nexts heads k next there room is heads_are old =
         | inr less ↦ let e = other t less in let was = old.within t (omega (arith, less)) inside in omega (arith, e, was)
       ];
       later = λ t from inside. elim (eq-or-lt_of_le {n = k} {m = t} from) [
-        | inl same ↦ let P : ℕ → Type 0 = λ m. m < slice_index new m in subst P same (elim (eq-or-lt_of_le {n = next} {m = length numbers} (omega (arith, is, within))) [
-          | inl end ↦ omega (arith, here, end, there)
-          | inr less ↦ let (later, own) = heads_are.own (slice_index numbers k) room (omega (arith, less, is)) in omega (arith, here, is, later)
-        ])
+        | inl same ↦ let P : ℕ → Type 0 = λ m. m < slice_index new m in
+            subst P same (elim (eq-or-lt_of_le {n = next} {m = length numbers} (omega (arith, is, within))) [
+              | inl end ↦ omega (arith, here, end, there)
+              | inr less ↦ let (later, own) = heads_are.own (slice_index numbers k) room (omega (arith, less, is)) in
+                  omega (arith, here, is, later)
+            ])
         | inr less ↦ let e = other t less in let was = old.later t (omega (arith, less)) inside in omega (arith, e, was)
       ];
       same = λ t from inside found. elim (eq-or-lt_of_le {n = k} {m = t} from) [
         | inl same ↦
-            let found' : slice_index new k < length numbers = let Q : ℕ → Type 0 = λ m. slice_index new m < length numbers in subst Q (sym same) found in
+            let found' : slice_index new k < length numbers =
+            let Q : ℕ → Type 0 = λ m. slice_index new m < length numbers in subst Q (sym same) found in
             let (later, own) = heads_are.own (slice_index numbers k) room (omega (arith, here, is, found')) in
             let P : ℕ → Type 0 = λ m. slice_index numbers (slice_index new m) ≡ slice_index numbers m in
             subst P same (ap (slice_index numbers) (here ∙ is) ∙ own)
@@ -118,7 +131,8 @@ nexts_more numbers nexts heads k next there room is heads_are old =
         | inl same ↦
             let one' : slice_index numbers u ≡ slice_index numbers k = one ∙ ap (slice_index numbers) (sym same) in
             let P : ℕ → Type 0 = λ m. slice_index heads m ≤ u in
-            let low : slice_index heads (slice_index numbers k) ≤ u = subst P one' (heads_are.first u (omega (arith, same, later)) inside) in
+            let low : slice_index heads (slice_index numbers k) ≤ u =
+            subst P one' (heads_are.first u (omega (arith, same, later)) inside) in
             let Q : ℕ → Type 0 = λ m. slice_index new m ≤ u in
             subst Q same (omega (arith, here, is, low))
         | inr less ↦ let e = other t less in let was = old.first t u (omega (arith, less)) later inside one in omega (arith, e, was)
@@ -129,15 +143,18 @@ nexts_more numbers nexts heads k next there room is heads_are old =
 pub first_later : (trips : List Trip) (time other : ℤ) (k : ℕ) → time ≤ℤ other → IsFirstFrom trips time k → IsFirstFrom trips other k
 first_later trips time other k less first u trip at late = first u trip at (omega (arith, ints, less, late))
 
-pub minutes_more : (trips : List Trip) (minutes : List ℕ) (m k : ℕ) → m < 2881 → k ≤ length trips → IsFirstFrom trips (pos (60 * m)) k → AreMinutes trips m minutes → AreMinutes trips (m + 1) (slice_set minutes m k)
+pub minutes_more : (trips : List Trip) (minutes : List ℕ) (m k : ℕ) → m < 2881 → k ≤ length trips → IsFirstFrom trips (pos (60 * m)) k →
+    AreMinutes trips m minutes → AreMinutes trips (m + 1) (slice_set minutes m k)
 minutes_more trips minutes m k few within first are =
     let long = are.count in
     let own = entry_set minutes m k (omega (arith, few, long)) in
     record {
       count = entry_count minutes m k ∙ long;
       within = λ j less. elim (eq-or-lt_of_le {n = j} {m = m} (omega (arith, less))) [
-        | inl same ↦ let P : ℕ → Type 0 = λ i. slice_index (slice_set minutes m k) i ≤ length trips in subst P (sym same) (omega (arith, own, within))
-        | inr other ↦ let is = entry_other minutes m j k (λ same. absurd (omega (arith, same, other))) in let old = are.within j other in omega (arith, is, old)
+        | inl same ↦ let P : ℕ → Type 0 = λ i. slice_index (slice_set minutes m k) i ≤ length trips in
+            subst P (sym same) (omega (arith, own, within))
+        | inr other ↦ let is = entry_other minutes m j k (λ same. absurd (omega (arith, same, other))) in
+            let old = are.within j other in omega (arith, is, old)
       ];
       first = λ j less. elim (eq-or-lt_of_le {n = j} {m = m} (omega (arith, less))) [
         | inl same ↦

@@ -21,7 +21,8 @@ cause_of net kind rows (faults.Params fault) are (inr e) = record { places = row
 cause_of net kind rows (faults.Trip fid fault) are (inl e) = absurd (cc)
 cause_of net kind rows (faults.Trip fid fault) are (inr e) = record { places = rows; rows = are; is = e }
 
-pub answer_cause : {A : Type 0} (net : Net) (kind : DayKind) (rows : List ℕ) (answer : Result A DayModelFault) → AreDayRows net.trips kind.version kind.kind rows →
+pub answer_cause : {A : Type 0} (net : Net) (kind : DayKind) (rows : List ℕ) (answer : Result A DayModelFault) →
+    AreDayRows net.trips kind.version kind.kind rows →
     IfErr answer (λ fault. (fault ≡ faults.Memory) ⊎ (day_fault net kind rows ≡ Some fault)) → IfErr answer (HasDayCause net kind)
 answer_cause net kind rows (Ok x) are h = tt
 answer_cause net kind rows (Err fault) are h = cause_of net kind rows fault are h
@@ -37,7 +38,8 @@ same_fault a b e = let f : Option DayModelFault → DayModelFault = λ o. unwrap
 
 -- where there is a first fault it is answered, or want of memory
 pub exact_of : (net : Net) (kind : DayKind) (rows : List ℕ) (answer : Result DayFacts DayModelFault) →
-    IfOk answer (IsDayOf net kind) → IfOk answer (λ day. day.rows ≡ rows) → IfErr answer (λ fault. (fault ≡ faults.Memory) ⊎ (day_fault net kind rows ≡ Some fault)) →
+    IfOk answer (IsDayOf net kind) → IfOk answer (λ day. day.rows ≡ rows) →
+    IfErr answer (λ fault. (fault ≡ faults.Memory) ⊎ (day_fault net kind rows ≡ Some fault)) →
     (fault : DayModelFault) → day_fault net kind rows ≡ Some fault → IsErrAnd answer (λ given. (given ≡ faults.Memory) ⊎ (given ≡ fault))
 exact_of net kind rows (Ok day) ok same err fault is =
     let P : List ℕ → Type 0 = λ places. day_fault net kind places ≡ None in

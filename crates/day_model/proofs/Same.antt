@@ -24,15 +24,20 @@ module _ (a : DayFacts) (d : List (Ends × ℕ)) (same : (x y : Point) → dead 
 
   link_same : (pool : Pool) (t u : Trip) → link a pool t u ≡ link other pool t u
   link_same pool t u =
-      ap (λ o. first_of (direct_over a.params.settings t u o) (depot_over t u (dead a t.to pool.depot) (dead a pool.depot u.from))) (same t.to u.from)
-      ∙ ap (λ o. first_of (direct_over a.params.settings t u (dead_on d t.to u.from)) (depot_over t u o (dead a pool.depot u.from))) (same t.to pool.depot)
-      ∙ ap (λ o. first_of (direct_over a.params.settings t u (dead_on d t.to u.from)) (depot_over t u (dead_on d t.to pool.depot) o)) (same pool.depot u.from)
+      ap (λ o. first_of (direct_over a.params.settings t u o) (depot_over t u (dead a t.to pool.depot) (dead a pool.depot u.from)))
+      (same t.to u.from)
+      ∙ ap (λ o. first_of (direct_over a.params.settings t u (dead_on d t.to u.from)) (depot_over t u o (dead a pool.depot u.from)))
+      (same t.to pool.depot)
+      ∙ ap (λ o. first_of (direct_over a.params.settings t u (dead_on d t.to u.from)) (depot_over t u (dead_on d t.to pool.depot) o))
+      (same pool.depot u.from)
 
   cost_same : (pool : Pool) (t : Trip) (ts : List Trip) → cost_from a pool t ts ≡ cost_from other pool t ts
   cost_same pool t [] = ap (λ o. option_and_then (λ (inward : ℕ). Some (pool.dead_rate * inward)) o) (same t.to pool.depot)
   cost_same pool t (u ∷ us) =
-      ap (λ o. option_and_then (λ (l : Link). option_and_then (λ (rest : ℕ). Some (link_cost pool u l + rest)) (cost_from a pool u us)) o) (link_same pool t u)
-      ∙ ap (λ c. option_and_then (λ (l : Link). option_and_then (λ (rest : ℕ). Some (link_cost pool u l + rest)) c) (link other pool t u)) (cost_same pool u us)
+      ap (λ o. option_and_then (λ (l : Link). option_and_then (λ (rest : ℕ). Some (link_cost pool u l + rest)) (cost_from a pool u us)) o)
+      (link_same pool t u)
+      ∙ ap (λ c. option_and_then (λ (l : Link). option_and_then (λ (rest : ℕ). Some (link_cost pool u l + rest)) c) (link other pool t u))
+      (cost_same pool u us)
 
   admitted_same : (pool : Pool) (ts : List Trip) → all_admitted a pool ts ≡ all_admitted other pool ts
   admitted_same pool [] = refl
@@ -41,27 +46,42 @@ module _ (a : DayFacts) (d : List (Ends × ℕ)) (same : (x y : Point) → dead 
   block_same : (pool : Pool) (ts : List Trip) → block_cost a pool ts ≡ block_cost other pool ts
   block_same pool [] = refl
   block_same pool (t ∷ ts) =
-      ap (λ b. given (admits a t.line pool.typ && b) (option_and_then (λ (out : ℕ). option_and_then (λ (rest : ℕ). Some (pool.fixed + pool.dead_rate * out + rest)) (cost_from a pool t ts)) (pull_out a pool t))) (admitted_same pool ts)
-      ∙ ap (λ c. given (all_admitted other pool (t ∷ ts)) (option_and_then (λ (out : ℕ). option_and_then (λ (rest : ℕ). Some (pool.fixed + pool.dead_rate * out + rest)) c) (pull_out a pool t))) (cost_same pool t ts)
-      ∙ ap (λ o. given (all_admitted other pool (t ∷ ts)) (option_and_then (λ (out : ℕ). option_and_then (λ (rest : ℕ). Some (pool.fixed + pool.dead_rate * out + rest)) (cost_from other pool t ts)) (pull_out_over t o))) (same pool.depot t.from)
+      ap (λ b. given (admits a t.line pool.typ && b)
+      (option_and_then (λ (out : ℕ). option_and_then (λ (rest : ℕ). Some (pool.fixed + pool.dead_rate * out + rest))
+      (cost_from a pool t ts)) (pull_out a pool t))) (admitted_same pool ts)
+      ∙ ap (λ c. given (all_admitted other pool (t ∷ ts))
+      (option_and_then (λ (out : ℕ). option_and_then (λ (rest : ℕ). Some (pool.fixed + pool.dead_rate * out + rest)) c)
+      (pull_out a pool t))) (cost_same pool t ts)
+      ∙ ap (λ o. given (all_admitted other pool (t ∷ ts))
+      (option_and_then (λ (out : ℕ). option_and_then (λ (rest : ℕ). Some (pool.fixed + pool.dead_rate * out + rest))
+      (cost_from other pool t ts)) (pull_out_over t o))) (same pool.depot t.from)
 
   pub legs_same : (pool : Pool) (k : ℕ) (t : Trip) (list : List ℕ) → legs_from a pool k t list ≡ legs_from other pool k t list
   legs_same pool k t [] =
-      ap (λ (o : Option ℕ). option_and_then (λ (inward : ℕ). Some (trip_leg k t ∷ leg PullIn None t.to t.end.0 pool.depot (t.end.0 +ℤ pos inward) ∷ [])) o) (same t.to pool.depot)
+      ap (λ (o : Option ℕ). option_and_then
+      (λ (inward : ℕ). Some (trip_leg k t ∷ leg PullIn None t.to t.end.0 pool.depot (t.end.0 +ℤ pos inward) ∷ [])) o) (same t.to pool.depot)
   legs_same pool k t (j ∷ js) =
-      let rest_same : (λ (u : Trip). legs_from a pool j u js) ≡ (λ (u : Trip). legs_from other pool j u js) = fun_ext (λ u. legs_same pool j u js) in
+      let rest_same : (λ (u : Trip). legs_from a pool j u js) ≡ (λ (u : Trip). legs_from other pool j u js) =
+      fun_ext (λ u. legs_same pool j u js) in
       let links : (λ (u : Trip). link a pool t u) ≡ (λ (u : Trip). link other pool t u) = fun_ext (λ u. link_same pool t u) in
       let step : (Trip → Option (List Leg)) → (Trip → Option Link) → Option (List Leg) = λ rest between.
-      option_and_then (λ (u : Trip). option_and_then (λ (l : Link). option_and_then (λ (ls : List Leg). Some ((trip_leg k t ∷ link_legs pool t u l) ++ ls)) (rest u)) (between u)) (slice_get a.trips j) in
+      option_and_then (λ (u : Trip). option_and_then
+      (λ (l : Link). option_and_then (λ (ls : List Leg). Some ((trip_leg k t ∷ link_legs pool t u l) ++ ls)) (rest u)) (between u))
+      (slice_get a.trips j) in
       ap (λ f. step f (λ (u : Trip). link a pool t u)) rest_same ∙ ap (λ f. step (λ (u : Trip). legs_from other pool j u js) f) links
 
   pub block_legs_same : (pool : Pool) (list : List ℕ) → legs_of a pool list ≡ legs_of other pool list
   block_legs_same pool [] = refl
   block_legs_same pool (k ∷ ks) =
-      let rest_same : (λ (t : Trip). legs_from a pool k t ks) ≡ (λ (t : Trip). legs_from other pool k t ks) = fun_ext (λ t. legs_same pool k t ks) in
-      let outs : (λ (t : Trip). pull_out a pool t) ≡ (λ (t : Trip). pull_out other pool t) = fun_ext (λ t. ap (λ o. pull_out_over t o) (same pool.depot t.from)) in
+      let rest_same : (λ (t : Trip). legs_from a pool k t ks) ≡ (λ (t : Trip). legs_from other pool k t ks) =
+      fun_ext (λ t. legs_same pool k t ks) in
+      let outs : (λ (t : Trip). pull_out a pool t) ≡ (λ (t : Trip). pull_out other pool t) =
+      fun_ext (λ t. ap (λ o. pull_out_over t o) (same pool.depot t.from)) in
       let begin : (Trip → Option (List Leg)) → (Trip → Option ℕ) → Option (List Leg) = λ rest outward.
-      option_and_then (λ (t : Trip). option_and_then (λ (out : ℕ). option_and_then (λ (ls : List Leg). Some (shown (leg PullOut None pool.depot (t.begin.0 -ℤ pos out) t.from t.begin.0 ∷ ls))) (rest t)) (outward t)) (slice_get a.trips k) in
+      option_and_then (λ (t : Trip). option_and_then
+      (λ (out : ℕ). option_and_then
+      (λ (ls : List Leg). Some (shown (leg PullOut None pool.depot (t.begin.0 -ℤ pos out) t.from t.begin.0 ∷ ls))) (rest t)) (outward t))
+      (slice_get a.trips k) in
       ap (λ f. begin f (λ (t : Trip). pull_out a pool t)) rest_same ∙ ap (λ f. begin (λ (t : Trip). legs_from other pool k t ks) f) outs
 
   pub parts_same : (pool : Pool) (legs : List Leg) → parts a pool legs ≡ parts other pool legs
@@ -70,10 +90,13 @@ module _ (a : DayFacts) (d : List (Ends × ℕ)) (same : (x y : Point) → dead 
 
   driven_same : (pool : Pool) (list : List ℕ) → can_be_driven a pool list ≡ can_be_driven other pool list
   driven_same pool list =
-      let cuts : (λ (legs : List Leg). parts a pool legs) ≡ (λ (legs : List Leg). parts other pool legs) = fun_ext (λ legs. parts_same pool legs) in
+      let cuts : (λ (legs : List Leg). parts a pool legs) ≡ (λ (legs : List Leg). parts other pool legs) =
+      fun_ext (λ legs. parts_same pool legs) in
       let test : Option (List Leg) → (List Leg → List (List Leg)) → Bool = λ legs cut.
-      option_map_or (λ pieces. list_all may_be_driven pieces) (option_and_then (λ (ls : List Leg). Some (pieces_from 1 1 (cut ls))) legs) false in
-      ap (λ o. test o (λ (legs : List Leg). parts a pool legs)) (block_legs_same pool list) ∙ ap (λ f. test (legs_of other pool list) f) cuts
+      option_map_or (λ pieces. list_all may_be_driven pieces)
+      (option_and_then (λ (ls : List Leg). Some (pieces_from 1 1 (cut ls))) legs) false in
+      ap (λ o. test o (λ (legs : List Leg). parts a pool legs)) (block_legs_same pool list)
+      ∙ ap (λ f. test (legs_of other pool list) f) cuts
 
   deads_same : (counts : Bool) → block_worth a counts ≡ block_worth other counts
   deads_same counts =
@@ -81,11 +104,15 @@ module _ (a : DayFacts) (d : List (Ends × ℕ)) (same : (x y : Point) → dead 
       let driven : can_be_driven a ≡ can_be_driven other = fun_ext (λ pool. fun_ext (λ list. driven_same pool list)) in
       let worth : (Pool → List ℕ → Bool) → (Pool → List Trip → Option ℕ) → ℕ → List ℕ → Option ℕ = λ drive cost class list.
       given (rises list)
-      (option_and_then (λ (pool : Pool). given (drive pool list) (option_and_then (λ (ts : List Trip). option_and_then (λ (c : ℕ). Some (cond counts 1 c)) (cost pool ts)) (trips_at a.trips list))) (slice_get a.params.pools class)) in
+      (option_and_then (λ (pool : Pool). given (drive pool list)
+      (option_and_then (λ (ts : List Trip). option_and_then (λ (c : ℕ). Some (cond counts 1 c)) (cost pool ts)) (trips_at a.trips list)))
+      (slice_get a.params.pools class)) in
       ap (λ f. worth f (block_cost a)) driven ∙ ap (λ f. worth (can_be_driven other) f) costs
 
 -- the worth of lists hangs on the trips, the settings and the times of deadheads alone
-pub same_worth : (a b : DayFacts) (counts : Bool) → a.trips ≡ b.trips → a.params ≡ b.params → ((x y : Point) → dead a x y ≡ dead b x y) → block_worth a counts ≡ block_worth b counts
+pub same_worth : (a b : DayFacts) (counts : Bool) → a.trips ≡ b.trips → a.params ≡ b.params → ((x y : Point) → dead a x y ≡ dead b x y) →
+    block_worth a counts ≡ block_worth b counts
 same_worth a b counts trips params same =
     let with : List Trip → ParamRows → DayFacts = λ t p. record { kind = a.kind; rows = a.rows; trips = t; params = p; deads = b.deads } in
-    deads_same a b.deads same counts ∙ ap (λ t. block_worth (with t a.params) counts) trips ∙ ap (λ p. block_worth (with b.trips p) counts) params
+    deads_same a b.deads same counts ∙ ap (λ t. block_worth (with t a.params) counts) trips
+    ∙ ap (λ p. block_worth (with b.trips p) counts) params

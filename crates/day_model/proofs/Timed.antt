@@ -19,7 +19,8 @@ before_none (Err fault) = refl
 before_none (Ok more) = refl
 
 -- one trip more before them
-before_more : (trips : List Trip) (trip : Trip) (others : Result (List Trip) DayModelFault) → before trips (joined (Ok trip) others) ≡ before (trips ++ trip ∷ []) others
+before_more : (trips : List Trip) (trip : Trip) (others : Result (List Trip) DayModelFault) →
+    before trips (joined (Ok trip) others) ≡ before (trips ++ trip ∷ []) others
 before_more trips trip (Err fault) = refl
 before_more trips trip (Ok more) = ap (λ (ts : List Trip). Ok ts) (sym (append_assoc trips (trip ∷ []) more))
 
@@ -28,11 +29,13 @@ abbrev pub rest_of : Net → ℕ → List TripRow → List ℕ → Result (List 
 rest_of net version rows places = timed_rows net version (rows_at rows places)
 
 rest_first : (net : Net) (version : ℕ) (rows : List TripRow) (places : List ℕ) (place : ℕ) (others : List ℕ) (row : TripRow) →
-    places ≡ place ∷ others → slice_get rows place ≡ Some row → rest_of net version rows places ≡ joined (named row.fid (timed net version row)) (rest_of net version rows others)
+    places ≡ place ∷ others → slice_get rows place ≡ Some row →
+    rest_of net version rows places ≡ joined (named row.fid (timed net version row)) (rest_of net version rows others)
 rest_first net version rows places place others row at there = rw (at, there) refl
 
 -- a row is timed
-pub timed_more : (net : Net) (version : ℕ) (rows : List TripRow) (places : List ℕ) (place : ℕ) (others : List ℕ) (row : TripRow) (trips : List Trip) (trip : Trip) →
+pub timed_more : (net : Net) (version : ℕ) (rows : List TripRow) (places : List ℕ) (place : ℕ) (others : List ℕ) (row : TripRow)
+    (trips : List Trip) (trip : Trip) →
     places ≡ place ∷ others → slice_get rows place ≡ Some row → Ok trip ≡ named row.fid (timed net version row) →
     before trips (rest_of net version rows places) ≡ before (trips ++ trip ∷ []) (rest_of net version rows others)
 timed_more net version rows places place others row trips trip at there is =
@@ -41,7 +44,8 @@ timed_more net version rows places place others row trips trip at there is =
     ∙ before_more trips trip (rest_of net version rows others)
 
 -- a row has a fault
-pub timed_wrong : (net : Net) (version : ℕ) (rows : List TripRow) (places : List ℕ) (place : ℕ) (others : List ℕ) (row : TripRow) (trips : List Trip) (fault : DayModelFault) →
+pub timed_wrong : (net : Net) (version : ℕ) (rows : List TripRow) (places : List ℕ) (place : ℕ) (others : List ℕ) (row : TripRow)
+    (trips : List Trip) (fault : DayModelFault) →
     places ≡ place ∷ others → slice_get rows place ≡ Some row → Err fault ≡ named row.fid (timed net version row) →
     before trips (rest_of net version rows places) ≡ Err fault
 timed_wrong net version rows places place others row trips fault at there is =
@@ -49,7 +53,8 @@ timed_wrong net version rows places place others row trips fault at there is =
     ∙ ap (λ one. before trips (joined one (rest_of net version rows others))) (sym is)
 
 -- none is left
-pub timed_all : (net : Net) (version : ℕ) (rows : List TripRow) (places : List ℕ) (trips : List Trip) → places ≡ [] → before trips (rest_of net version rows places) ≡ Ok trips
+pub timed_all : (net : Net) (version : ℕ) (rows : List TripRow) (places : List ℕ) (trips : List Trip) → places ≡ [] →
+    before trips (rest_of net version rows places) ≡ Ok trips
 timed_all net version rows places trips e = rw e (ap (λ (ts : List Trip). Ok ts) (nil_after trips))
   where
     nil_after : (xs : List Trip) → xs ++ [] ≡ xs
@@ -60,22 +65,29 @@ timed_all net version rows places trips e = rw e (ap (λ (ts : List Trip). Ok ts
 place_first : (places : List ℕ) (i : ℕ) → i < length places → drop i places ≡ slice_index places i ∷ drop (i + 1) places
 place_first places i within = rw add-one (drop-cons places i 0 within)
 
-row_there : (rows : List TripRow) (place : ℕ) (row : TripRow) → place < length rows → row ≡ get_or rows place row → slice_get rows place ≡ Some row
+row_there : (rows : List TripRow) (place : ℕ) (row : TripRow) → place < length rows → row ≡ get_or rows place row →
+    slice_get rows place ≡ Some row
 row_there rows place row within is = slice_get_read rows (length rows) place row refl within is
 
 -- the same at the place of a loop
-pub more_at : (net : Net) (version : ℕ) (rows : List TripRow) (places : List ℕ) (i : ℕ) (row : TripRow) (trips now : List Trip) (trip : Trip) →
-    i < length places → slice_index places i < length rows → row ≡ get_or rows (slice_index places i) row → Ok trip ≡ named row.fid (timed net version row) → now ≡ trips ++ trip ∷ [] →
+pub more_at : (net : Net) (version : ℕ) (rows : List TripRow) (places : List ℕ) (i : ℕ) (row : TripRow)
+    (trips now : List Trip) (trip : Trip) →
+    i < length places → slice_index places i < length rows → row ≡ get_or rows (slice_index places i) row →
+    Ok trip ≡ named row.fid (timed net version row) → now ≡ trips ++ trip ∷ [] →
     rest_of net version rows places ≡ before trips (rest_of net version rows (drop i places)) →
     rest_of net version rows places ≡ before now (rest_of net version rows (drop (i + 1) places))
 more_at net version rows places i row trips now trip within there is timed_so pushed so_far =
     so_far
-    ∙ timed_more net version rows (drop i places) (slice_index places i) (drop (i + 1) places) row trips trip (place_first places i within) (row_there rows (slice_index places i) row there is) timed_so
+    ∙ timed_more net version rows (drop i places) (slice_index places i) (drop (i + 1) places) row trips trip (place_first places i within)
+    (row_there rows (slice_index places i) row there is) timed_so
     ∙ ap (λ (ts : List Trip). before ts (rest_of net version rows (drop (i + 1) places))) (sym pushed)
 
-pub wrong_at : (net : Net) (version : ℕ) (rows : List TripRow) (places : List ℕ) (i : ℕ) (row : TripRow) (trips : List Trip) (fault : DayModelFault) →
-    i < length places → slice_index places i < length rows → row ≡ get_or rows (slice_index places i) row → Err fault ≡ named row.fid (timed net version row) →
+pub wrong_at : (net : Net) (version : ℕ) (rows : List TripRow) (places : List ℕ) (i : ℕ) (row : TripRow)
+    (trips : List Trip) (fault : DayModelFault) →
+    i < length places → slice_index places i < length rows → row ≡ get_or rows (slice_index places i) row →
+    Err fault ≡ named row.fid (timed net version row) →
     rest_of net version rows places ≡ before trips (rest_of net version rows (drop i places)) →
     rest_of net version rows places ≡ Err fault
 wrong_at net version rows places i row trips fault within there is timed_so so_far =
-    so_far ∙ timed_wrong net version rows (drop i places) (slice_index places i) (drop (i + 1) places) row trips fault (place_first places i within) (row_there rows (slice_index places i) row there is) timed_so
+    so_far ∙ timed_wrong net version rows (drop i places) (slice_index places i) (drop (i + 1) places) row trips fault
+    (place_first places i within) (row_there rows (slice_index places i) row there is) timed_so

@@ -49,7 +49,8 @@ abbrev pub block_cost : DayFacts → Pool → List Trip → Option ℕ
 block_cost day pool [] = None
 block_cost day pool (t ∷ ts) =
     given (all_admitted day pool (t ∷ ts))
-    (option_and_then (λ out. option_and_then (λ rest. Some (pool.fixed + pool.dead_rate * out + rest)) (cost_from day pool t ts)) (pull_out day pool t))
+    (option_and_then (λ out. option_and_then (λ rest. Some (pool.fixed + pool.dead_rate * out + rest)) (cost_from day pool t ts))
+    (pull_out day pool t))
 
 -- The worth of a list of trips as a block of a pool: its cost, or 1 where blocks are counted. A list has one where it is not empty and
 -- rises, each trip's line admits the pool's type, the pull-out leaves at 0 or later, the pull-in is there, neighbours have links, and

@@ -52,13 +52,15 @@ abbrev pub settings_or : Option ParamFault → Option DayModelFault → Option D
 settings_or (Some fault) other = Some (faults.Params fault)
 settings_or None other = other
 
--- The first reason why there is no day: it has too many trips; then the first fault of the settings; then that of the first trip, by number, that has one.
+-- The first reason why there is no day: it has too many trips; then the first fault of the settings; then that of the first trip, by
+-- number, that has one.
 abbrev pub day_fault : Net → DayKind → List ℕ → Option DayModelFault
 day_fault net kind places =
     if nat_lt most_trips (length places) then Some (faults.TooManyTrips (length places)) else
     settings_or (first_fault net kind.version) (timing_fault (timed_rows net kind.version (rows_at net.trips places)))
 
--- The day of a kind in a network: its trips by departure and number with their times, the settings, and the deadheads of the area and group that the settings name.
+-- The day of a kind in a network: its trips by departure and number with their times, the settings, and the deadheads of the area and
+-- group that the settings name.
 pub record IsDayOf (net : Net) (kind : DayKind) (day : DayFacts) : Type 0 where
   pub kind_is : day.kind ≡ kind
   pub rows : AreDayRows net.trips kind.version kind.kind day.rows

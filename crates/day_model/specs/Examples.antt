@@ -25,7 +25,8 @@ abbrev D : Point
 D = point 2 9
 
 abbrev trip : ℕ → Point → ℕ → Point → ℕ → Trip
-trip fid from begin to end = record { fid = fid; line = 1; from = from; begin = record { 0 = pos begin }; to = to; end = record { 0 = pos end } }
+trip fid from begin to end =
+    record { fid = fid; line = 1; from = from; begin = record { 0 = pos begin }; to = to; end = record { 0 = pos end } }
 
 abbrev pool : Pool
 pool = record { number = 1; depot = D; typ = 1; cap = 2; fixed = 1000; dead_rate = 1; stand_rate = 0 }
@@ -83,12 +84,22 @@ at_midnight : pull_out_at (day_with 900 4500) 0 1 ≡ Some 900
 at_midnight = refl
 
 abbrev piece : ℕ → Point → ℕ → Point → ℕ → ℕ → Piece
-piece index from begin to end driving = record { block = 1; index = index; from = from; begin = record { 0 = pos begin }; to = to; end = record { 0 = pos end }; driving = driving }
+piece index from begin to end driving = record {
+  block = 1;
+  index = index;
+  from = from;
+  begin = record { 0 = pos begin };
+  to = to;
+  end =
+      record { 0 = pos end };
+  driving = driving;
+}
 
 two_pieces : pieces_of (day_with 33000 36600) pool 1 (0 ∷ 1 ∷ []) ≡ Some (piece 1 D 28200 B 32400 4200 ∷ piece 2 B 33000 D 37200 4200 ∷ [])
 two_pieces = refl
 
-pieces_via_depot : pieces_of (day_with 40000 43600) pool 1 (0 ∷ 1 ∷ []) ≡ Some (piece 1 D 28200 D 33300 5100 ∷ piece 2 D 39100 D 44200 5100 ∷ [])
+pieces_via_depot : pieces_of (day_with 40000 43600) pool 1 (0 ∷ 1 ∷ [])
+    ≡ Some (piece 1 D 28200 D 33300 5100 ∷ piece 2 D 39100 D 44200 5100 ∷ [])
 pieces_via_depot = refl
 
 -- The first trip ends at this second, and the second one begins so long after it.
@@ -102,7 +113,8 @@ long_day end rest = record {
 }
 
 -- with the pull-out the first piece drives exactly as long as it may
-longest_piece : pieces_of (long_day 44400 600) pool 1 (0 ∷ 1 ∷ []) ≡ Some (piece 1 D 28200 B 44400 16200 ∷ piece 2 B 45000 D 49200 4200 ∷ [])
+longest_piece : pieces_of (long_day 44400 600) pool 1 (0 ∷ 1 ∷ [])
+    ≡ Some (piece 1 D 28200 B 44400 16200 ∷ piece 2 B 45000 D 49200 4200 ∷ [])
 longest_piece = refl
 
 longest_block : block_worth (long_day 44400 600) false 0 (0 ∷ 1 ∷ []) ≡ Some 2200
@@ -116,13 +128,45 @@ one_second_more : can_be_driven (long_day 44401 600) pool (0 ∷ 1 ∷ []) ≡ f
 one_second_more = refl
 
 -- a stand below the handover time is no cut
-no_cut : block_worth (record (long_day 44400 600) { params = record { settings = record settings { handover = 601 }; pools = pool ∷ []; groups = []; admissions = []; reliefs = B ∷ []; ways = [] } }) false 0 (0 ∷ 1 ∷ []) ≡ None
+no_cut : block_worth (record (long_day 44400 600) {
+  params = record {
+    settings = record settings { handover = 601 };
+    pools =
+        pool ∷ [];
+    groups = [];
+    admissions = [];
+    reliefs = B ∷ [];
+    ways = [];
+  };
+}) false 0 (0 ∷ 1 ∷ []) ≡ None
 no_cut = refl
 
 -- neither is one at a point where drivers are not relieved
-no_relief : block_worth (record (long_day 44400 600) { params = record { settings = settings; pools = pool ∷ []; groups = []; admissions = []; reliefs = []; ways = [] } }) false 0 (0 ∷ 1 ∷ []) ≡ None
+no_relief : block_worth
+    (record (long_day 44400 600) {
+      params = record {
+        settings = settings;
+        pools = pool ∷ [];
+        groups = [];
+        admissions = [];
+        reliefs =
+            [];
+        ways = [];
+      };
+    }) false 0 (0 ∷ 1 ∷ []) ≡ None
 no_relief = refl
 
 -- with no handover time a stand of 0 seconds is still no cut
-no_stand : pieces_of (record (long_day 44400 0) { params = record { settings = record settings { turn = 0; handover = 0 }; pools = pool ∷ []; groups = []; admissions = []; reliefs = B ∷ []; ways = [] } }) pool 1 (0 ∷ 1 ∷ []) ≡ Some (piece 1 D 28200 D 48600 20400 ∷ [])
+no_stand : pieces_of (record (long_day 44400 0) {
+  params =
+      record {
+        settings = record settings { turn = 0; handover = 0 };
+        pools = pool ∷ [];
+        groups = [];
+        admissions =
+            [];
+        reliefs = B ∷ [];
+        ways = [];
+      };
+}) pool 1 (0 ∷ 1 ∷ []) ≡ Some (piece 1 D 28200 D 48600 20400 ∷ [])
 no_stand = refl

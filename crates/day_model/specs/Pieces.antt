@@ -37,7 +37,8 @@ shown [] = []
 shown (leg ∷ legs) = cond (is_shown leg) (leg ∷ shown legs) (shown legs)
 
 abbrev pub leg : LegKind → Option ℕ → Point → ℤ → Point → ℤ → Leg
-leg kind trip from begin to end = record { kind = kind; trip = trip; from = from; begin = record { 0 = begin }; to = to; end = record { 0 = end } }
+leg kind trip from begin to end =
+    record { kind = kind; trip = trip; from = from; begin = record { 0 = begin }; to = to; end = record { 0 = end } }
 
 -- what the vehicle does between two trips
 abbrev pub link_legs : Pool → TheTrip → TheTrip → Link → List Leg
@@ -55,7 +56,8 @@ trip_leg k t = leg Trip (Some k) t.from t.begin.0 t.to t.end.0
 -- the legs from a trip on
 abbrev pub legs_from : DayFacts → Pool → ℕ → TheTrip → List ℕ → Option (List Leg)
 legs_from day pool k t [] =
-    option_and_then (λ inward. Some (trip_leg k t ∷ leg PullIn None t.to t.end.0 pool.depot (t.end.0 +ℤ pos inward) ∷ [])) (pull_in day pool t)
+    option_and_then (λ inward. Some (trip_leg k t ∷ leg PullIn None t.to t.end.0 pool.depot (t.end.0 +ℤ pos inward) ∷ []))
+    (pull_in day pool t)
 legs_from day pool k t (j ∷ js) =
     option_and_then (λ u. option_and_then (λ l. option_and_then (λ rest. Some ((trip_leg k t ∷ link_legs pool t u l) ++ rest))
     (legs_from day pool j u js)) (link day pool t u)) (slice_get day.trips j)
@@ -70,7 +72,8 @@ legs_of day pool (k ∷ ks) =
 
 -- a block is cut at a stand of at least the handover time at a relief point or the depot
 abbrev pub is_cut : DayFacts → Pool → Leg → Bool
-is_cut day pool l = is_stand l.kind && nat_le day.params.settings.handover (duration l) && (is_relief day l.from || point_eq l.from pool.depot)
+is_cut day pool l = is_stand l.kind && nat_le day.params.settings.handover (duration l)
+    && (is_relief day l.from || point_eq l.from pool.depot)
 
 abbrev pub onto_first : Leg → List (List Leg) → List (List Leg)
 onto_first l [] = (l ∷ []) ∷ []
@@ -92,7 +95,16 @@ last_leg l (k ∷ ks) = last_leg k ks
 abbrev pub piece_of : ℕ → ℕ → Leg → List Leg → Piece
 piece_of block index l ls =
     let last = last_leg l ls in
-    record { block = block; index = index; from = l.from; begin = l.begin; to = last.to; end = last.end; driving = driving_seconds (l ∷ ls) }
+    record {
+      block = block;
+      index = index;
+      from = l.from;
+      begin = l.begin;
+      to = last.to;
+      end = last.end;
+      driving =
+          driving_seconds (l ∷ ls);
+    }
 
 -- the pieces of a block, their indexes counted on from this one
 abbrev pub pieces_from : ℕ → ℕ → List (List Leg) → List Piece

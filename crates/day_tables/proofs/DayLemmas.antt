@@ -30,61 +30,79 @@ ended_fid row from to seconds trip is =
     let split : (b : Bool) → Goal b = λ b. elim b as Goal [ true ↦ λ e. cc | false ↦ λ e. cc ] in
     split (nat_le (row.start + seconds) 172800) is
 
-if_fid : (row : TripRow) (missing : Option (Point × Point)) (from to : Point) (seconds : ℕ) (trip : Trip) → timed_if row missing from to seconds ≡ Ok trip → trip.fid ≡ row.fid
+if_fid : (row : TripRow) (missing : Option (Point × Point)) (from to : Point) (seconds : ℕ) (trip : Trip) →
+    timed_if row missing from to seconds ≡ Ok trip → trip.fid ≡ row.fid
 if_fid row (Some link) from to seconds trip is = cc
 if_fid row None from to seconds trip is = ended_fid row from to seconds trip is
 
-on_fid : (time_of : Point × Point → Option ℕ) (dwell_of : Point → ℕ) (row : TripRow) (course : List Point) (trip : Trip) → timed_on time_of dwell_of row course ≡ Ok trip → trip.fid ≡ row.fid
+on_fid : (time_of : Point × Point → Option ℕ) (dwell_of : Point → ℕ) (row : TripRow) (course : List Point) (trip : Trip) →
+    timed_on time_of dwell_of row course ≡ Ok trip → trip.fid ≡ row.fid
 on_fid time_of dwell_of row [] trip is = cc
 on_fid time_of dwell_of row (first ∷ []) trip is = cc
-on_fid time_of dwell_of row (first ∷ (next ∷ course)) trip is = if_fid row (first_missing time_of (links_from first (next ∷ course))) first (last_from next course) (run_seconds_of time_of (links_from first (next ∷ course)) + sum_by dwell_of (before_last next course)) trip is
+on_fid time_of dwell_of row (first ∷ (next ∷ course)) trip is =
+    if_fid row (first_missing time_of (links_from first (next ∷ course))) first (last_from next course)
+    (run_seconds_of time_of (links_from first (next ∷ course)) + sum_by dwell_of (before_last next course)) trip is
 
-in_fid : (net : Net) (version : ℕ) (row : TripRow) (area : Option ℕ) (trip : Trip) → timed_in net version row area ≡ Ok trip → trip.fid ≡ row.fid
+in_fid : (net : Net) (version : ℕ) (row : TripRow) (area : Option ℕ) (trip : Trip) →
+    timed_in net version row area ≡ Ok trip → trip.fid ≡ row.fid
 in_fid net version row None trip is = cc
-in_fid net version row (Some area) trip is = on_fid (run_time_of net version area row.group) (dwell_at net version row) row (course_on net version row.line row.variant) trip is
+in_fid net version row (Some area) trip is =
+    on_fid (run_time_of net version area row.group) (dwell_at net version row) row (course_on net version row.line row.variant) trip is
 
 -- trips that were timed have numbers in range
 abbrev AreTrips : List Trip → Type 0
 AreTrips trips = All (λ trip. trip.fid ≤ 10 ^ 18) trips
 
-named_fid : (row : TripRow) (one : Result Trip TripFault) (trip : Trip) → ((trip : Trip) → one ≡ Ok trip → trip.fid ≡ row.fid) → named row.fid one ≡ Ok trip → trip.fid ≡ row.fid
+named_fid : (row : TripRow) (one : Result Trip TripFault) (trip : Trip) → ((trip : Trip) → one ≡ Ok trip → trip.fid ≡ row.fid) →
+    named row.fid one ≡ Ok trip → trip.fid ≡ row.fid
 named_fid row (Ok found) trip h is = h trip (cc)
 named_fid row (Err fault) trip h is = cc
 
-joined_fids : (row : TripRow) (one : Result Trip DayModelFault) (others : Result (List Trip) DayModelFault) (trips : List Trip) → row.fid ≤ 10 ^ 18
-    → ((trip : Trip) → one ≡ Ok trip → trip.fid ≡ row.fid) → ((more : List Trip) → others ≡ Ok more → AreTrips more) → joined one others ≡ Ok trips → AreTrips trips
+joined_fids : (row : TripRow) (one : Result Trip DayModelFault) (others : Result (List Trip) DayModelFault) (trips : List Trip) →
+    row.fid ≤ 10 ^ 18
+    → ((trip : Trip) → one ≡ Ok trip → trip.fid ≡ row.fid) → ((more : List Trip) → others ≡ Ok more → AreTrips more) →
+    joined one others ≡ Ok trips → AreTrips trips
 joined_fids row (Err fault) others trips small first rest is = cc
 joined_fids row (Ok trip) (Err fault) trips small first rest is = cc
 joined_fids row (Ok trip) (Ok more) trips small first rest is =
     let e : trip ∷ more ≡ trips = cc in
     subst AreTrips e (All-cons (λ trip. trip.fid ≤ 10 ^ 18) trip more (omega (arith, small, first trip refl)) (rest more refl))
 
-timed_fids : (net : Net) (version : ℕ) (rows : List TripRow) (trips : List Trip) → All (λ row. row.fid ≤ 10 ^ 18) rows → timed_rows net version rows ≡ Ok trips → AreTrips trips
+timed_fids : (net : Net) (version : ℕ) (rows : List TripRow) (trips : List Trip) → All (λ row. row.fid ≤ 10 ^ 18) rows →
+    timed_rows net version rows ≡ Ok trips → AreTrips trips
 timed_fids net version [] trips small is =
     let e : [] ≡ trips = cc in
     subst AreTrips e (All-nil (λ (trip : Trip). trip.fid ≤ 10 ^ 18))
 timed_fids net version (row ∷ rows) trips small is =
-    joined_fids row (named row.fid (timed net version row)) (timed_rows net version rows) trips (All-head (λ row. row.fid ≤ 10 ^ 18) row rows small)
-    (λ trip e. named_fid row (timed net version row) trip (λ trip e. in_fid net version row (area_on net version row.line row.variant) trip e) e)
+    joined_fids row (named row.fid (timed net version row)) (timed_rows net version rows) trips
+    (All-head (λ row. row.fid ≤ 10 ^ 18) row rows small)
+    (λ trip e. named_fid row (timed net version row) trip
+    (λ trip e. in_fid net version row (area_on net version row.line row.variant) trip e) e)
     (λ more e. timed_fids net version rows more (All-tail (λ row. row.fid ≤ 10 ^ 18) row rows small) e) is
 
 -- what holds of all rows holds of those at places
 rows_at_more : (P : TripRow → Type 0) (rows : List TripRow) (place : ℕ) (places : List ℕ) → All P rows → All P (rows_at rows places)
-    → ((x : TripRow) × (place < length rows) × (slice_get rows place ≡ Some x) × (get_or rows place x ≡ x)) ⊎ ((length rows ≤ place) × (slice_get rows place ≡ None)) → All P (rows_at rows (place ∷ places))
+    → ((x : TripRow) × (place < length rows) × (slice_get rows place ≡ Some x) × (get_or rows place x ≡ x)) ⊎
+    ((length rows ≤ place) × (slice_get rows place ≡ None)) → All P (rows_at rows (place ∷ places))
 rows_at_more P rows place places all rest (inl found) =
     rw found.2 (All-cons P found.0 (rows_at rows places) (subst P found.3 (All-get_or P rows place found.0 found.1 all)) rest)
 rows_at_more P rows place places all rest (inr past) = rw past.1 rest
 
 rows_at_all : (P : TripRow → Type 0) (rows : List TripRow) (places : List ℕ) → All P rows → All P (rows_at rows places)
 rows_at_all P rows [] all = All-nil P
-rows_at_all P rows (place ∷ places) all = rows_at_more P rows place places all (rows_at_all P rows places all) (slice_get_cases rows place).1
+rows_at_all P rows (place ∷ places) all =
+    rows_at_more P rows place places all (rows_at_all P rows places all) (slice_get_cases rows place).1
 
 -- the numbers of a day's trips are in range
-pub day_fids : (net : Net) (kind : DayKind) (day : DayFacts) → IsDayOf net kind day → All (λ row. row.fid ≤ 10 ^ 18) net.trips → All (λ trip. trip.fid ≤ 10 ^ 18) day.trips
-day_fids net kind day is small = timed_fids net kind.version (rows_at net.trips day.rows) day.trips (rows_at_all (λ row. row.fid ≤ 10 ^ 18) net.trips day.rows small) is.trips
+pub day_fids : (net : Net) (kind : DayKind) (day : DayFacts) → IsDayOf net kind day → All (λ row. row.fid ≤ 10 ^ 18) net.trips →
+    All (λ trip. trip.fid ≤ 10 ^ 18) day.trips
+day_fids net kind day is small =
+    timed_fids net kind.version (rows_at net.trips day.rows) day.trips
+    (rows_at_all (λ row. row.fid ≤ 10 ^ 18) net.trips day.rows small) is.trips
 
 plain_tag : (day : DayFacts) → is_plain_table (tag_table day) ≡ true
-plain_tag day = plain_table (codes "X_TAG") tag_columns (tag_numbers day ∷ []) refl (full_rows tag_columns tag_numbers (λ d. refl) (day ∷ []))
+plain_tag day = plain_table (codes "X_TAG") tag_columns (tag_numbers day ∷ []) refl
+    (full_rows tag_columns tag_numbers (λ d. refl) (day ∷ []))
 
 plain_trips : (net : Net) (day : DayFacts) → is_plain_table (trip_table net day) ≡ true
 plain_trips net day =
@@ -107,8 +125,10 @@ zip_all (x ∷ xs) (y ∷ ys) same = ap suc (zip_all xs ys (omega (arith, same))
 row_for_each : (net : Net) (day : DayFacts) → length day.rows ≡ length day.trips → length (trip_table net day).rows ≡ length day.trips
 row_for_each net day same =
     let pairs = zip day.rows day.trips in
-    length-map (map (placed_numbers net day.kind.version) pairs) number_row ∙ length-map pairs (placed_numbers net day.kind.version) ∙ zip_all day.rows day.trips same
+    length-map (map (placed_numbers net day.kind.version) pairs) number_row ∙ length-map pairs (placed_numbers net day.kind.version)
+    ∙ zip_all day.rows day.trips same
 
-pub each_row : {T E : Type 0} (result : Result T E) (net : Net) (day : DayFacts) → length day.rows ≡ length day.trips → OnOk result (length (trip_table net day).rows ≡ length day.trips)
+pub each_row : {T E : Type 0} (result : Result T E) (net : Net) (day : DayFacts) → length day.rows ≡ length day.trips →
+    OnOk result (length (trip_table net day).rows ≡ length day.trips)
 each_row (Ok table) net day same = row_for_each net day same
 each_row (Err e) net day same = tt

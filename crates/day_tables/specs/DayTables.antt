@@ -22,12 +22,14 @@ tag_table day = number_table (codes "X_TAG") tag_columns (tag_numbers day ∷ []
 
 abbrev pub trip_columns : List (List ℕ)
 trip_columns =
-    codes "FRT_FID" ∷ codes "LI_NR" ∷ codes "VON_TYP" ∷ codes "VON_NR" ∷ codes "BEGINN" ∷ codes "NACH_TYP" ∷ codes "NACH_NR" ∷ codes "ENDE" ∷ codes "LAENGE" ∷ []
+    codes "FRT_FID" ∷ codes "LI_NR" ∷ codes "VON_TYP" ∷ codes "VON_NR" ∷ codes "BEGINN" ∷ codes "NACH_TYP" ∷ codes "NACH_NR"
+    ∷ codes "ENDE" ∷ codes "LAENGE" ∷ []
 
 -- a trip's number and line, from where and when, to where and when, and how many metres, if that is known
 abbrev pub trip_numbers : Trip → Option ℕ → List (Option ℕ)
 trip_numbers trip metres =
-    Some trip.fid ∷ Some trip.line ∷ Some trip.from.typ ∷ Some trip.from.nr ∷ seconds trip.begin.0 ∷ Some trip.to.typ ∷ Some trip.to.nr ∷ seconds trip.end.0 ∷ metres ∷ []
+    Some trip.fid ∷ Some trip.line ∷ Some trip.from.typ ∷ Some trip.from.nr ∷ seconds trip.begin.0 ∷ Some trip.to.typ ∷ Some trip.to.nr
+    ∷ seconds trip.end.0 ∷ metres ∷ []
 
 -- the length of the route of the row at a place
 abbrev pub metres_at : Net → ℕ → ℕ → Option ℕ

@@ -12,13 +12,18 @@ use Rattle.deadheads.specs.Entries.{time_at}
 use Rattle.deadheads.specs.DeadTimes.{AreTimesOf, key_of}
 
 -- what rows tell is within two days where their times are
-pub told_within : (rows : List DeadRow) (key : MoveKey) → All (λ row. IsTime row.time) rows → IfSome (value_at move_key_eq dead_key_of (λ row. row.time) rows key) IsTime
+pub told_within : (rows : List DeadRow) (key : MoveKey) → All (λ row. IsTime row.time) rows →
+    IfSome (value_at move_key_eq dead_key_of (λ row. row.time) rows key) IsTime
 told_within [] key all = tt
 told_within (row ∷ rows) key all = by (move_key_eq (dead_key_of row) key) (told_within rows key (λ k d within. all (suc k) d (omega arith)))
   where
-    by : (b : Bool) → IfSome (value_at move_key_eq dead_key_of (λ r. r.time) rows key) IsTime → IfSome (option_map (λ (r : DeadRow). r.time) (if b then Some row else find (λ r. move_key_eq (dead_key_of r) key) rows)) IsTime
+    by : (b : Bool) → IfSome (value_at move_key_eq dead_key_of (λ r. r.time) rows key) IsTime →
+        IfSome (option_map (λ (r : DeadRow). r.time) (if b then Some row else find (λ r. move_key_eq (dead_key_of r) key) rows)) IsTime
     by true later = all 0 row (omega arith)
     by false later = later
 
-pub noted_within : {S : Type 0} (rows : List DeadRow) (version area group : ℕ) (times : IndexMap Ends ℕ S) → All (λ row. IsTime row.time) rows → AreTimesOf rows version area group times → (ends : Ends) → IfSome (time_at times.entries ends) IsTime
-noted_within rows version area group times all told ends = subst (λ found. IfSome found IsTime) (sym (told ends)) (told_within rows (key_of version area group ends) all)
+pub noted_within : {S : Type 0} (rows : List DeadRow) (version area group : ℕ) (times : IndexMap Ends ℕ S) →
+    All (λ row. IsTime row.time) rows → AreTimesOf rows version area group times → (ends : Ends) →
+    IfSome (time_at times.entries ends) IsTime
+noted_within rows version area group times all told ends =
+    subst (λ found. IfSome found IsTime) (sym (told ends)) (told_within rows (key_of version area group ends) all)

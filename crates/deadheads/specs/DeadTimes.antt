@@ -33,4 +33,5 @@ AreTimesOf rows version area group times = (ends : Ends) → get ends_eq times e
 -- the row's time is told at its key, and all else as before
 abbrev pub IsNoted : {S : Type 0} → DeadRow → ℕ → ℕ → ℕ → IndexMap Ends ℕ S → IndexMap Ends ℕ S → Type 0
 IsNoted row version area group old new =
-    (ends : Ends) → get ends_eq new ends ≡ (if move_key_eq (dead_key_of row) (key_of version area group ends) then Some row.time else get ends_eq old ends)
+    (ends : Ends) → get ends_eq new ends
+    ≡ (if move_key_eq (dead_key_of row) (key_of version area group ends) then Some row.time else get ends_eq old ends)

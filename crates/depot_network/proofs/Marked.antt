@@ -22,7 +22,8 @@ use Rattle.depot_network.specs.BlockMarks.{mark, kept, first_mark, moves_of, is_
 some_same : {A : Type 0} (x y : A) → Some x ≡ Some y → x ≡ y
 some_same {A = A} x y e = let f : Option A → A = λ o. unwrap_or o x in ap f e
 
-and_then_some : {A B : Type 0} (f : A → Option B) (o : Option A) (y : B) → option_and_then f o ≡ Some y → (x : A) × (o ≡ Some x) × (f x ≡ Some y)
+and_then_some : {A B : Type 0} (f : A → Option B) (o : Option A) (y : B) → option_and_then f o ≡ Some y →
+    (x : A) × (o ≡ Some x) × (f x ≡ Some y)
 and_then_some f None y e = absurd (cc)
 and_then_some f (Some x) y e = (x, refl, e)
 
@@ -51,10 +52,17 @@ pub record IsBetter (a b : BlockMark) : Type 0 where
 
 pub good-parts : (a b : BlockMark) → is_as_good a b ≡ true → IsBetter a b
 good-parts a b h =
-    let (left, right) = both_true (nat_eq a.class b.class && nat_eq a.trip b.trip) (nat_le a.driving b.driving && int_le a.value b.value) h in
+    let (left, right) = both_true (nat_eq a.class b.class && nat_eq a.trip b.trip)
+    (nat_le a.driving b.driving && int_le a.value b.value) h in
     let (class, trip) = both_true (nat_eq a.class b.class) (nat_eq a.trip b.trip) left in
     let (driving, value) = both_true (nat_le a.driving b.driving) (int_le a.value b.value) right in
-    record { class = grind (arith, nat_tests); trip = grind (arith, nat_tests); driving = grind (arith, nat_tests); value = grind (arith, ints) }
+    record {
+      class = grind (arith, nat_tests);
+      trip = grind (arith, nat_tests);
+      driving =
+          grind (arith, nat_tests);
+      value = grind (arith, ints);
+    }
 
 pub parts-good : (a b : BlockMark) → IsBetter a b → is_as_good a b ≡ true
 parts-good a b h =
@@ -70,8 +78,10 @@ below-limit : (m n : ℕ) → m ≤ n → nat_le n longest_driving ≡ true → 
 below-limit m n h k = grind (arith, nat_tests)
 
 -- less driving and a smaller value open what more of both open
-driven-kept : (cut : Bool) (first first' second second' class class' k : ℕ) (value value' : ℤ) (b : BlockMark) → class ≡ class' → first ≤ first' → second ≤ second' → (cut ≡ true → second ≡ second') →
-    value ≤ℤ value' → driven_on cut first' second' class' value' k ≡ Some b → (a : BlockMark) × (driven_on cut first second class value k ≡ Some a) × (is_as_good a b ≡ true)
+driven-kept : (cut : Bool) (first first' second second' class class' k : ℕ) (value value' : ℤ) (b : BlockMark) → class ≡ class' →
+    first ≤ first' → second ≤ second' → (cut ≡ true → second ≡ second') →
+    value ≤ℤ value' → driven_on cut first' second' class' value' k ≡ Some b →
+    (a : BlockMark) × (driven_on cut first second class value k ≡ Some a) × (is_as_good a b ≡ true)
 driven-kept true first first' second second' class class' k value value' b same less more equal low e =
     let (limit, rest) = given_some (nat_le first' longest_driving) (kept (mark class' k second' value')) b e in
     let (limit2, is) = given_some (nat_le second' longest_driving) (Some (mark class' k second' value')) b rest in
@@ -79,7 +89,8 @@ driven-kept true first first' second second' class class' k value value' b same 
     let a = mark class k second value in
     let P : BlockMark → Type 0 = λ x. is_as_good a x ≡ true in (
       a,
-      given_onto (nat_le first longest_driving) (kept a) (below-limit first first' less limit) ∙ given_onto (nat_le second longest_driving) (Some a) (below-limit second second' more limit2),
+      given_onto (nat_le first longest_driving) (kept a) (below-limit first first' less limit)
+          ∙ given_onto (nat_le second longest_driving) (Some a) (below-limit second second' more limit2),
       subst P b_is (parts-good a (mark class' k second' value') (record { class = same; trip = refl; driving = more; value = low })),
     )
 driven-kept false first first' second second' class class' k value value' b same less more equal low e =
@@ -90,17 +101,22 @@ driven-kept false first first' second second' class class' k value value' b same
     let P : BlockMark → Type 0 = λ x. is_as_good a x ≡ true in (
       a,
       given_onto (nat_le (first + second) longest_driving) (Some a) (below-limit (first + second) (first' + second') sum limit),
-      subst P b_is (parts-good a (mark class' k (first' + second') value') (record { class = same; trip = refl; driving = sum; value = low })),
+      subst P b_is (parts-good a (mark class' k (first' + second') value')
+          (record { class = same; trip = refl; driving = sum; value = low })),
     )
 
-over-kept : (day : DayFacts) (counts : Bool) (prices : List Price) (pool : Pool) (a b b' : BlockMark) (k : ℕ) (u : Trip) (l : Link) → IsBetter a b →
-    extended_over day counts prices pool b k u l ≡ Some b' → (a' : BlockMark) × (extended_over day counts prices pool a k u l ≡ Some a') × (is_as_good a' b' ≡ true)
+over-kept : (day : DayFacts) (counts : Bool) (prices : List Price) (pool : Pool) (a b b' : BlockMark) (k : ℕ) (u : Trip) (l : Link) →
+    IsBetter a b →
+    extended_over day counts prices pool b k u l ≡ Some b' → (a' : BlockMark) × (extended_over day counts prices pool a k u l ≡ Some a')
+    × (is_as_good a' b' ≡ true)
 over-kept day counts prices pool a b b' k u l better e =
     let moves = moves_of pool u l in
     let driving = better.driving in
     let value = better.value in
-    driven-kept (is_cut_stand day pool moves) (a.driving + moves.before) (b.driving + moves.before) (moves.behind + trip_seconds u) (moves.behind + trip_seconds u) a.class b.class k
-    (a.value +ℤ scaled counts (link_cost pool u l) -ℤ price_at prices k) (b.value +ℤ scaled counts (link_cost pool u l) -ℤ price_at prices k) b'
+    driven-kept (is_cut_stand day pool moves) (a.driving + moves.before) (b.driving + moves.before) (moves.behind + trip_seconds u)
+    (moves.behind + trip_seconds u) a.class b.class k
+    (a.value +ℤ scaled counts (link_cost pool u l) -ℤ price_at prices k)
+    (b.value +ℤ scaled counts (link_cost pool u l) -ℤ price_at prices k) b'
     better.class (omega arith) (omega arith) (λ is. refl) (omega (arith, ints)) e
 
 -- where an extension comes from
@@ -116,29 +132,60 @@ pub record IsExtension (day : DayFacts) (counts : Bool) (prices : List Price) (m
   pub over_is : link day pool last next ≡ Some over
   pub made : extended_over day counts prices pool m k next over ≡ Some b
 
-pub extension-parts : (day : DayFacts) (counts : Bool) (prices : List Price) (m b : BlockMark) (k : ℕ) → extended_mark day counts prices m k ≡ Some b → IsExtension day counts prices m b k
+pub extension-parts : (day : DayFacts) (counts : Bool) (prices : List Price) (m b : BlockMark) (k : ℕ) →
+    extended_mark day counts prices m k ≡ Some b → IsExtension day counts prices m b k
 extension-parts day counts prices m b k e =
-    let pools = and_then_some (λ (pool : Pool). with_trip day m.trip (λ t. with_trip day k (λ u. given (nat_lt m.trip k && admits day u.line pool.typ) (option_and_then (extended_over day counts prices pool m k u) (link day pool t u))))) (slice_get day.params.pools m.class) b e in
+    let pools = and_then_some
+    (λ (pool : Pool). with_trip day m.trip
+    (λ t. with_trip day k (λ u. given (nat_lt m.trip k && admits day u.line pool.typ)
+    (option_and_then (extended_over day counts prices pool m k u) (link day pool t u))))) (slice_get day.params.pools m.class) b e in
     let pool = pools.0 in
-    let trips = and_then_some (λ (t : Trip). with_trip day k (λ u. given (nat_lt m.trip k && admits day u.line pool.typ) (option_and_then (extended_over day counts prices pool m k u) (link day pool t u)))) (slice_get day.trips m.trip) b pools.2 in
+    let trips = and_then_some
+    (λ (t : Trip). with_trip day k
+    (λ u. given (nat_lt m.trip k && admits day u.line pool.typ)
+    (option_and_then (extended_over day counts prices pool m k u) (link day pool t u)))) (slice_get day.trips m.trip) b pools.2 in
     let t = trips.0 in
-    let nexts = and_then_some (λ (u : Trip). given (nat_lt m.trip k && admits day u.line pool.typ) (option_and_then (extended_over day counts prices pool m k u) (link day pool t u))) (slice_get day.trips k) b trips.2 in
+    let nexts = and_then_some
+    (λ (u : Trip). given (nat_lt m.trip k && admits day u.line pool.typ)
+    (option_and_then (extended_over day counts prices pool m k u) (link day pool t u))) (slice_get day.trips k) b trips.2 in
     let u = nexts.0 in
-    let tested = given_some (nat_lt m.trip k && admits day u.line pool.typ) (option_and_then (extended_over day counts prices pool m k u) (link day pool t u)) b nexts.2 in
+    let tested = given_some (nat_lt m.trip k && admits day u.line pool.typ)
+    (option_and_then (extended_over day counts prices pool m k u) (link day pool t u)) b nexts.2 in
     let links = and_then_some (extended_over day counts prices pool m k u) (link day pool t u) b tested.1 in
-    record { pool = pool; pool_is = pools.1; last = t; last_is = trips.1; next = u; next_is = nexts.1; test = tested.0; over = links.0; over_is = links.1; made = links.2 }
+    record {
+      pool = pool;
+      pool_is = pools.1;
+      last = t;
+      last_is = trips.1;
+      next = u;
+      next_is = nexts.1;
+      test = tested.0;
+      over =
+          links.0;
+      over_is = links.1;
+      made = links.2;
+    }
 
-extension-onto : (day : DayFacts) (counts : Bool) (prices : List Price) (a a' : BlockMark) (k : ℕ) (pool : Pool) (last next : Trip) (l : Link) → slice_get day.params.pools a.class ≡ Some pool →
-    slice_get day.trips a.trip ≡ Some last → slice_get day.trips k ≡ Some next → (nat_lt a.trip k && admits day next.line pool.typ) ≡ true → link day pool last next ≡ Some l →
+extension-onto : (day : DayFacts) (counts : Bool) (prices : List Price) (a a' : BlockMark) (k : ℕ) (pool : Pool) (last next : Trip)
+    (l : Link) → slice_get day.params.pools a.class ≡ Some pool →
+    slice_get day.trips a.trip ≡ Some last → slice_get day.trips k ≡ Some next → (nat_lt a.trip k && admits day next.line pool.typ) ≡ true →
+    link day pool last next ≡ Some l →
     extended_over day counts prices pool a k next l ≡ Some a' → extended_mark day counts prices a k ≡ Some a'
 extension-onto day counts prices a a' k pool last next l pool_is last_is next_is test over made =
-    ap (option_and_then (λ (p : Pool). with_trip day a.trip (λ t. with_trip day k (λ u. given (nat_lt a.trip k && admits day u.line p.typ) (option_and_then (extended_over day counts prices p a k u) (link day p t u)))))) pool_is ∙
-    (ap (option_and_then (λ (t : Trip). with_trip day k (λ u. given (nat_lt a.trip k && admits day u.line pool.typ) (option_and_then (extended_over day counts prices pool a k u) (link day pool t u))))) last_is ∙
-    (ap (option_and_then (λ (u : Trip). given (nat_lt a.trip k && admits day u.line pool.typ) (option_and_then (extended_over day counts prices pool a k u) (link day pool last u)))) next_is ∙
-    (given_onto (nat_lt a.trip k && admits day next.line pool.typ) (option_and_then (extended_over day counts prices pool a k next) (link day pool last next)) test ∙
+    ap (option_and_then (λ (p : Pool). with_trip day a.trip
+    (λ t. with_trip day k (λ u. given (nat_lt a.trip k && admits day u.line p.typ)
+    (option_and_then (extended_over day counts prices p a k u) (link day p t u)))))) pool_is ∙
+    (ap (option_and_then (λ (t : Trip). with_trip day k
+    (λ u. given (nat_lt a.trip k && admits day u.line pool.typ)
+    (option_and_then (extended_over day counts prices pool a k u) (link day pool t u))))) last_is ∙
+    (ap (option_and_then (λ (u : Trip). given (nat_lt a.trip k && admits day u.line pool.typ)
+    (option_and_then (extended_over day counts prices pool a k u) (link day pool last u)))) next_is ∙
+    (given_onto (nat_lt a.trip k && admits day next.line pool.typ)
+    (option_and_then (extended_over day counts prices pool a k next) (link day pool last next)) test ∙
     (ap (option_and_then (extended_over day counts prices pool a k next)) over ∙ made))))
 
-extended-kept : (day : DayFacts) (counts : Bool) (prices : List Price) (a b b' : BlockMark) (k : ℕ) → is_as_good a b ≡ true → extended_mark day counts prices b k ≡ Some b' →
+extended-kept : (day : DayFacts) (counts : Bool) (prices : List Price) (a b b' : BlockMark) (k : ℕ) → is_as_good a b ≡ true →
+    extended_mark day counts prices b k ≡ Some b' →
     (a' : BlockMark) × (extended_mark day counts prices a k ≡ Some a') × (is_as_good a' b' ≡ true)
 extended-kept day counts prices a b b' k good e =
     let better = good-parts a b good in
@@ -148,7 +195,8 @@ extended-kept day counts prices a b b' k good e =
     let Q : ℕ → Type 0 = λ t. slice_get day.trips t ≡ Some x.last in
     let R : ℕ → Type 0 = λ t. (nat_lt t k && admits day x.next.line x.pool.typ) ≡ true in (
       a',
-      extension-onto day counts prices a a' k x.pool x.last x.next x.over (subst P (sym better.class) x.pool_is) (subst Q (sym better.trip) x.last_is) x.next_is (subst R (sym better.trip) x.test) x.over_is made,
+      extension-onto day counts prices a a' k x.pool x.last x.next x.over (subst P (sym better.class) x.pool_is)
+          (subst Q (sym better.trip) x.last_is) x.next_is (subst R (sym better.trip) x.test) x.over_is made,
       better',
     )
 
@@ -157,13 +205,22 @@ closed-kept : (day : DayFacts) (counts : Bool) (a b : BlockMark) (v : ℤ) → i
     (u : ℤ) × (closed_value day counts a ≡ Some u) × (u ≤ℤ v)
 closed-kept day counts a b v good e =
     let better = good-parts a b good in
-    let pools = and_then_some (λ (pool : Pool). with_trip day b.trip (λ t. option_and_then (λ inward. given (nat_le (b.driving + inward) longest_driving) (Some (b.value +ℤ scaled counts (pool.dead_rate * inward)))) (pull_in day pool t))) (slice_get day.params.pools b.class) v e in
+    let pools = and_then_some
+    (λ (pool : Pool). with_trip day b.trip
+    (λ t. option_and_then (λ inward. given (nat_le (b.driving + inward) longest_driving)
+    (Some (b.value +ℤ scaled counts (pool.dead_rate * inward)))) (pull_in day pool t))) (slice_get day.params.pools b.class) v e in
     let pool = pools.0 in
-    let trips = and_then_some (λ (t : Trip). option_and_then (λ inward. given (nat_le (b.driving + inward) longest_driving) (Some (b.value +ℤ scaled counts (pool.dead_rate * inward)))) (pull_in day pool t)) (slice_get day.trips b.trip) v pools.2 in
+    let trips = and_then_some
+    (λ (t : Trip). option_and_then
+    (λ inward. given (nat_le (b.driving + inward) longest_driving) (Some (b.value +ℤ scaled counts (pool.dead_rate * inward))))
+    (pull_in day pool t)) (slice_get day.trips b.trip) v pools.2 in
     let t = trips.0 in
-    let ins = and_then_some (λ inward. given (nat_le (b.driving + inward) longest_driving) (Some (b.value +ℤ scaled counts (pool.dead_rate * inward)))) (pull_in day pool t) v trips.2 in
+    let ins = and_then_some
+    (λ inward. given (nat_le (b.driving + inward) longest_driving) (Some (b.value +ℤ scaled counts (pool.dead_rate * inward))))
+    (pull_in day pool t) v trips.2 in
     let inward = ins.0 in
-    let tested = given_some (nat_le (b.driving + inward) longest_driving) (Some (b.value +ℤ scaled counts (pool.dead_rate * inward))) v ins.2 in
+    let tested = given_some (nat_le (b.driving + inward) longest_driving)
+    (Some (b.value +ℤ scaled counts (pool.dead_rate * inward))) v ins.2 in
     let total = some_same (b.value +ℤ scaled counts (pool.dead_rate * inward)) v tested.1 in
     let driving = better.driving in
     let value = better.value in
@@ -171,10 +228,16 @@ closed-kept day counts a b v good e =
     let Q : ℕ → Type 0 = λ i. slice_get day.trips i ≡ Some t in
     let u = a.value +ℤ scaled counts (pool.dead_rate * inward) in (
       u,
-      ap (option_and_then (λ (p : Pool). with_trip day a.trip (λ s. option_and_then (λ i. given (nat_le (a.driving + i) longest_driving) (Some (a.value +ℤ scaled counts (p.dead_rate * i)))) (pull_in day p s)))) (subst P (sym better.class) pools.1) ∙
-          (ap (option_and_then (λ (s : Trip). option_and_then (λ i. given (nat_le (a.driving + i) longest_driving) (Some (a.value +ℤ scaled counts (pool.dead_rate * i)))) (pull_in day pool s))) (subst Q (sym better.trip) trips.1) ∙
-          (ap (option_and_then (λ i. given (nat_le (a.driving + i) longest_driving) (Some (a.value +ℤ scaled counts (pool.dead_rate * i))))) ins.1 ∙
-          given_onto (nat_le (a.driving + inward) longest_driving) (Some u) (below-limit (a.driving + inward) (b.driving + inward) (omega arith) tested.0))),
+      ap (option_and_then (λ (p : Pool). with_trip day a.trip
+          (λ s. option_and_then (λ i. given (nat_le (a.driving + i) longest_driving) (Some (a.value +ℤ scaled counts (p.dead_rate * i))))
+          (pull_in day p s)))) (subst P (sym better.class) pools.1) ∙
+          (ap (option_and_then (λ (s : Trip). option_and_then
+          (λ i. given (nat_le (a.driving + i) longest_driving) (Some (a.value +ℤ scaled counts (pool.dead_rate * i))))
+          (pull_in day pool s))) (subst Q (sym better.trip) trips.1) ∙
+          (ap (option_and_then (λ i. given (nat_le (a.driving + i) longest_driving) (Some (a.value +ℤ scaled counts (pool.dead_rate * i)))))
+          ins.1 ∙
+          given_onto (nat_le (a.driving + inward) longest_driving) (Some u)
+          (below-limit (a.driving + inward) (b.driving + inward) (omega arith) tested.0))),
       omega (arith, ints),
     )
 
@@ -198,7 +261,8 @@ blocks-ordered day counts prices = record {
 }
 
 -- what is driven on has the class and the trip
-driven-place : (cut : Bool) (first second class k : ℕ) (value : ℤ) (b : BlockMark) → driven_on cut first second class value k ≡ Some b → (b.class ≡ class) × (b.trip ≡ k)
+driven-place : (cut : Bool) (first second class k : ℕ) (value : ℤ) (b : BlockMark) → driven_on cut first second class value k ≡ Some b →
+    (b.class ≡ class) × (b.trip ≡ k)
 driven-place true first second class k value b e =
     let (limit, rest) = given_some (nat_le first longest_driving) (kept (mark class k second value)) b e in
     let (limit2, is) = given_some (nat_le second longest_driving) (Some (mark class k second value)) b rest in
@@ -213,20 +277,29 @@ driven-place false first second class k value b e =
     let g : BlockMark → ℕ = λ m. m.trip in
     (sym (ap f same), sym (ap g same))
 
-first-place : (day : DayFacts) (counts : Bool) (prices : List Price) (class k : ℕ) (b : BlockMark) → first_mark day counts prices class k ≡ Some b →
+first-place : (day : DayFacts) (counts : Bool) (prices : List Price) (class k : ℕ) (b : BlockMark) →
+    first_mark day counts prices class k ≡ Some b →
     (k < length day.trips) × (b.class ≡ class) × (b.trip ≡ k)
 first-place day counts prices class k b e =
     let pools = and_then_some (λ (pool : Pool). with_trip day k (λ t. given (admits day t.line pool.typ) (option_and_then (λ out.
-    kept (mark class k (out + trip_seconds t) (cond counts (pos 1000) (pos (1000 * (pool.fixed + pool.dead_rate * out))) -ℤ price_at prices k))) (pull_out day pool t)))) (slice_get day.params.pools class) b e in
+    kept (mark class k (out + trip_seconds t)
+    (cond counts (pos 1000) (pos (1000 * (pool.fixed + pool.dead_rate * out))) -ℤ price_at prices k))) (pull_out day pool t))))
+    (slice_get day.params.pools class) b e in
     let pool = pools.0 in
     let trips = and_then_some (λ (t : Trip). given (admits day t.line pool.typ) (option_and_then (λ out.
-    kept (mark class k (out + trip_seconds t) (cond counts (pos 1000) (pos (1000 * (pool.fixed + pool.dead_rate * out))) -ℤ price_at prices k))) (pull_out day pool t))) (slice_get day.trips k) b pools.2 in
+    kept (mark class k (out + trip_seconds t)
+    (cond counts (pos 1000) (pos (1000 * (pool.fixed + pool.dead_rate * out))) -ℤ price_at prices k))) (pull_out day pool t)))
+    (slice_get day.trips k) b pools.2 in
     let t = trips.0 in
     let tested = given_some (admits day t.line pool.typ) (option_and_then (λ out.
-    kept (mark class k (out + trip_seconds t) (cond counts (pos 1000) (pos (1000 * (pool.fixed + pool.dead_rate * out))) -ℤ price_at prices k))) (pull_out day pool t)) b trips.2 in
-    let outs = and_then_some (λ out. kept (mark class k (out + trip_seconds t) (cond counts (pos 1000) (pos (1000 * (pool.fixed + pool.dead_rate * out))) -ℤ price_at prices k))) (pull_out day pool t) b tested.1 in
+    kept (mark class k (out + trip_seconds t)
+    (cond counts (pos 1000) (pos (1000 * (pool.fixed + pool.dead_rate * out))) -ℤ price_at prices k))) (pull_out day pool t)) b trips.2 in
+    let outs = and_then_some
+    (λ out. kept (mark class k (out + trip_seconds t)
+    (cond counts (pos 1000) (pos (1000 * (pool.fixed + pool.dead_rate * out))) -ℤ price_at prices k))) (pull_out day pool t) b tested.1 in
     let out = outs.0 in
-    let made = mark class k (out + trip_seconds t) (cond counts (pos 1000) (pos (1000 * (pool.fixed + pool.dead_rate * out))) -ℤ price_at prices k) in
+    let made = mark class k (out + trip_seconds t)
+    (cond counts (pos 1000) (pos (1000 * (pool.fixed + pool.dead_rate * out))) -ℤ price_at prices k) in
     let (limit, is) = given_some (nat_le (out + trip_seconds t) longest_driving) (Some made) b outs.2 in
     let same = some_same made b is in
     let f : BlockMark → ℕ = λ m. m.class in
@@ -242,7 +315,8 @@ blocks-placed day counts prices = record {
       let tests = both_true (nat_lt a.trip k) (admits day x.next.line x.pool.typ) x.test in
       let test : nat_lt a.trip k ≡ true = tests.0 in
       let moves = moves_of x.pool x.next x.over in
-      let (class, trip) = driven-place (is_cut_stand day x.pool moves) (a.driving + moves.before) (moves.behind + trip_seconds x.next) a.class k
+      let (class, trip) = driven-place (is_cut_stand day x.pool moves) (a.driving + moves.before)
+      (moves.behind + trip_seconds x.next) a.class k
       (a.value +ℤ scaled counts (link_cost x.pool x.next x.over) -ℤ price_at prices k) b x.made in
       (grind (arith, nat_tests), slice_get_within day.trips k x.next x.next_is, class, trip);
 }
@@ -258,4 +332,6 @@ blocks-apart a b h k =
     let v2 = y.value in
     let driving : a.driving ≡ b.driving = omega arith in
     let value : a.value ≡ b.value = omega (arith, ints) in
-    ap (λ c. mark c a.trip a.driving a.value) x.class ∙ (ap (λ t. mark b.class t a.driving a.value) x.trip ∙ (ap (λ d. mark b.class b.trip d a.value) driving ∙ ap (λ v. mark b.class b.trip b.driving v) value))
+    ap (λ c. mark c a.trip a.driving a.value) x.class
+    ∙ (ap (λ t. mark b.class t a.driving a.value) x.trip
+    ∙ (ap (λ d. mark b.class b.trip d a.value) driving ∙ ap (λ v. mark b.class b.trip b.driving v) value))

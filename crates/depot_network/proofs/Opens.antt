@@ -63,7 +63,8 @@ joined_parts (Some c) d step e =
     let seconds : Step → ℕ = λ s. s.driving in
     (ap Some (ap cost same), is ∙ ap Some (ap seconds same))
 
-parts_joined : (c d : Option ℕ) (cost driving : ℕ) → c ≡ Some cost → d ≡ Some driving → joined c d ≡ Some (record { cost = cost; driving = driving })
+parts_joined : (c d : Option ℕ) (cost driving : ℕ) → c ≡ Some cost → d ≡ Some driving →
+    joined c d ≡ Some (record { cost = cost; driving = driving })
 parts_joined c d cost driving e h = rw (e, h) refl
 
 -- driving that a piece may have
@@ -80,7 +81,8 @@ kept_few : (seconds x : ℕ) → kept seconds ≡ Some x → x ≤ longest_drivi
 kept_few seconds x e = let (test, is) = kept_parts seconds x e in grind (arith, nat_tests)
 
 -- with less driving so far there is no more behind
-past_less : (cut : Bool) (d d' before second x : ℕ) → d ≤ d' → driven_past cut d' before second ≡ Some x → (y : ℕ) × (driven_past cut d before second ≡ Some y) × (y ≤ x)
+past_less : (cut : Bool) (d d' before second x : ℕ) → d ≤ d' → driven_past cut d' before second ≡ Some x →
+    (y : ℕ) × (driven_past cut d before second ≡ Some y) × (y ≤ x)
 past_less true d d' before second x less e =
     let (test, is) = given_both (nat_le (d' + before) longest_driving) (kept second) x e in
     let low = less_kept (d + before) (d' + before) (omega arith) test in
@@ -91,7 +93,8 @@ past_less false d d' before second x less e =
     (d + before + second, kept_is (d + before + second) low, omega (arith, is))
 
 past_few : (cut : Bool) (d before second x : ℕ) → driven_past cut d before second ≡ Some x → x ≤ longest_driving
-past_few true d before second x e = let (test, is) = given_both (nat_le (d + before) longest_driving) (kept second) x e in kept_few second x is
+past_few true d before second x e =
+    let (test, is) = given_both (nat_le (d + before) longest_driving) (kept second) x e in kept_few second x is
 past_few false d before second x e = kept_few (d + before + second) x e
 
 -- the parts of driving on
@@ -104,10 +107,15 @@ pub record DrivesOn (day : DayFacts) (pool : Pool) (driving t u x : ℕ) : Type 
   pub linked : link day pool trip next ≡ Some l
   pub over : driven_over day pool next l driving ≡ Some x
 
-pub on_parts : (day : DayFacts) (pool : Pool) (driving t u x : ℕ) → driven_on day pool driving t u ≡ Some x → DrivesOn day pool driving t u x
+pub on_parts : (day : DayFacts) (pool : Pool) (driving t u x : ℕ) → driven_on day pool driving t u ≡ Some x →
+    DrivesOn day pool driving t u x
 on_parts day pool driving t u x e =
-    let (trip, trip_is, e1) = and_then_some (λ (trip : Trip). with_trip day u (λ next. option_and_then (λ l. driven_over day pool next l driving) (link day pool trip next))) (slice_get day.trips t) x e in
-    let (next, next_is, e2) = and_then_some (λ (next : Trip). option_and_then (λ l. driven_over day pool next l driving) (link day pool trip next)) (slice_get day.trips u) x e1 in
+    let (trip, trip_is, e1) =
+    and_then_some (λ (trip : Trip). with_trip day u
+    (λ next. option_and_then (λ l. driven_over day pool next l driving) (link day pool trip next))) (slice_get day.trips t) x e in
+    let (next, next_is, e2) =
+    and_then_some (λ (next : Trip). option_and_then (λ l. driven_over day pool next l driving) (link day pool trip next))
+    (slice_get day.trips u) x e1 in
     let (l, linked, over) = and_then_some (λ (l : Link). driven_over day pool next l driving) (link day pool trip next) x e2 in
     record { trip = trip; next = next; l = l; trip_is = trip_is; next_is = next_is; linked = linked; over = over }
 
@@ -117,22 +125,40 @@ parts_on day pool driving t u x p =
     let is : driven_on day pool driving t u ≡ driven_over day pool p.next p.l driving = rw (trip_is, next_is, linked) refl in
     is ∙ p.over
 
-on_less : (day : DayFacts) (pool : Pool) (d d' t u x : ℕ) → d ≤ d' → driven_on day pool d' t u ≡ Some x → (y : ℕ) × (driven_on day pool d t u ≡ Some y) × (y ≤ x)
+on_less : (day : DayFacts) (pool : Pool) (d d' t u x : ℕ) → d ≤ d' → driven_on day pool d' t u ≡ Some x →
+    (y : ℕ) × (driven_on day pool d t u ≡ Some y) × (y ≤ x)
 on_less day pool d d' t u x less e =
     let p = on_parts day pool d' t u x e in
-    let (y, is, low) = past_less (is_cut_on day pool p.next p.l) d d' (seconds_before p.l) (seconds_after p.l + trip_seconds p.next) x less p.over in
-    (y, parts_on day pool d t u y (record { trip = p.trip; next = p.next; l = p.l; trip_is = p.trip_is; next_is = p.next_is; linked = p.linked; over = is }), low)
+    let (y, is, low) = past_less (is_cut_on day pool p.next p.l) d d' (seconds_before p.l)
+    (seconds_after p.l + trip_seconds p.next) x less p.over in (
+      y,
+      parts_on day pool d t u y (record {
+        trip = p.trip;
+        next = p.next;
+        l = p.l;
+        trip_is = p.trip_is;
+        next_is = p.next_is;
+        linked =
+            p.linked;
+        over = is;
+      }),
+      low,
+    )
 
 on_few : (day : DayFacts) (pool : Pool) (d t u x : ℕ) → driven_on day pool d t u ≡ Some x → x ≤ longest_driving
 on_few day pool d t u x e =
-    let p = on_parts day pool d t u x e in past_few (is_cut_on day pool p.next p.l) d (seconds_before p.l) (seconds_after p.l + trip_seconds p.next) x p.over
+    let p = on_parts day pool d t u x e in
+    past_few (is_cut_on day pool p.next p.l) d (seconds_before p.l) (seconds_after p.l + trip_seconds p.next) x p.over
 
-pub in_is : (day : DayFacts) (pool : Pool) (d t inward : ℕ) (trip : Trip) → slice_get day.trips t ≡ Some trip → pull_in day pool trip ≡ Some inward → driven_in day pool d t ≡ kept (d + inward)
+pub in_is : (day : DayFacts) (pool : Pool) (d t inward : ℕ) (trip : Trip) → slice_get day.trips t ≡ Some trip →
+    pull_in day pool trip ≡ Some inward → driven_in day pool d t ≡ kept (d + inward)
 in_is day pool d t inward trip there is = rw (there, is) refl
 
-in_less : (day : DayFacts) (pool : Pool) (d d' t x : ℕ) → d ≤ d' → driven_in day pool d' t ≡ Some x → (y : ℕ) × (driven_in day pool d t ≡ Some y)
+in_less : (day : DayFacts) (pool : Pool) (d d' t x : ℕ) → d ≤ d' → driven_in day pool d' t ≡ Some x →
+    (y : ℕ) × (driven_in day pool d t ≡ Some y)
 in_less day pool d d' t x less e =
-    let (trip, trip_is, e1) = and_then_some (λ (trip : Trip). option_and_then (λ inward. kept (d' + inward)) (pull_in day pool trip)) (slice_get day.trips t) x e in
+    let (trip, trip_is, e1) =
+    and_then_some (λ (trip : Trip). option_and_then (λ inward. kept (d' + inward)) (pull_in day pool trip)) (slice_get day.trips t) x e in
     let (inward, is_in, e2) = and_then_some (λ (inward : ℕ). kept (d' + inward)) (pull_in day pool trip) x e1 in
     let (test, same) = kept_parts (d' + inward) x e2 in
     let low = less_kept (d + inward) (d' + inward) (omega arith) test in
@@ -185,7 +211,8 @@ module _ (day : DayFacts) (counts : Bool) (prices : List Price) (pool : Pool) wh
       let value : OpenBlock → ℤ = λ x. x.value in
       record { step = step; is_step = is; trip = sym (ap trip same); driving = sym (ap driving same); value = sym (ap value same) }
 
-  next_is : (a : OpenBlock) (u : ℕ) (step : Step) → next_step day pool a.driving a.trip u ≡ Some step → extended_open day counts prices pool a u ≡ Some (next_open counts prices a u step)
+  next_is : (a : OpenBlock) (u : ℕ) (step : Step) → next_step day pool a.driving a.trip u ≡ Some step →
+      extended_open day counts prices pool a u ≡ Some (next_open counts prices a u step)
   next_is a u step e = ap (λ (o : Option Step). option_map (next_open counts prices a u) o) e
 
   -- The laws.
@@ -238,14 +265,24 @@ module _ (day : DayFacts) (counts : Bool) (prices : List Price) (pool : Pool) wh
   -- where a step is, its trips are there, and the second one is later
   pub added_parts : (t u m : ℕ) → added day pool t u ≡ Some m → (t < u) × (u < length day.trips)
   added_parts t u m e =
-      let (trip, trip_is, e1) = and_then_some (λ (trip : Trip). with_trip day u (λ next. given (nat_lt t u) (given (admits day next.line pool.typ) (option_map (λ l. link_cost pool next l) (link day pool trip next))))) (slice_get day.trips t) m e in
-      let (next, next_is, e2) = and_then_some (λ (next : Trip). given (nat_lt t u) (given (admits day next.line pool.typ) (option_map (λ l. link_cost pool next l) (link day pool trip next)))) (slice_get day.trips u) m e1 in
-      let (later, e3) = given_both (nat_lt t u) (given (admits day next.line pool.typ) (option_map (λ l. link_cost pool next l) (link day pool trip next))) m e2 in
+      let (trip, trip_is, e1) =
+      and_then_some (λ (trip : Trip). with_trip day u
+      (λ next. given (nat_lt t u)
+      (given (admits day next.line pool.typ) (option_map (λ l. link_cost pool next l) (link day pool trip next)))))
+      (slice_get day.trips t) m e in
+      let (next, next_is, e2) =
+      and_then_some (λ (next : Trip). given (nat_lt t u)
+      (given (admits day next.line pool.typ) (option_map (λ l. link_cost pool next l) (link day pool trip next))))
+      (slice_get day.trips u) m e1 in
+      let (later, e3) = given_both (nat_lt t u)
+      (given (admits day next.line pool.typ) (option_map (λ l. link_cost pool next l) (link day pool trip next))) m e2 in
       (grind (arith, nat_tests), slice_get_within day.trips u next next_is)
 
   begun_within : (t m : ℕ) → begun day pool t ≡ Some m → t < length day.trips
   begun_within t m e =
-      let (trip, trip_is, e1) = and_then_some (λ (trip : Trip). given (admits day trip.line pool.typ) (option_map (λ out. pool.fixed + pool.dead_rate * out) (pull_out day pool trip))) (slice_get day.trips t) m e in
+      let (trip, trip_is, e1) =
+      and_then_some (λ (trip : Trip). given (admits day trip.line pool.typ)
+      (option_map (λ out. pool.fixed + pool.dead_rate * out) (pull_out day pool trip))) (slice_get day.trips t) m e in
       slice_get_within day.trips t trip trip_is
 
   pub opening_stepwise : IsStepwise (opening day counts prices pool) (length day.trips) (λ a. a.trip)
@@ -263,16 +300,21 @@ module _ (day : DayFacts) (counts : Bool) (prices : List Price) (pool : Pool) wh
   }
 
   -- The tie: from a label to the cost, and from the cost to a label.
-  from_label : (list : List ℕ) (a b : OpenBlock) (v : ℤ) (cost : ℕ) → label_after (opening day counts prices pool) (Some a) list ≡ Some b → closed_open day counts pool b ≡ Some v →
-      (rest : ℕ) × (stepped day pool cost a.driving a.trip list ≡ Some (cost + rest)) × (v +ℤ price_of prices list ≡ a.value +ℤ scaled counts rest)
+  from_label : (list : List ℕ) (a b : OpenBlock) (v : ℤ) (cost : ℕ) → label_after (opening day counts prices pool) (Some a) list ≡ Some b →
+      closed_open day counts pool b ≡ Some v →
+      (rest : ℕ) × (stepped day pool cost a.driving a.trip list ≡ Some (cost + rest))
+      × (v +ℤ price_of prices list ≡ a.value +ℤ scaled counts rest)
   from_label [] a b v cost e c =
       let same : a ≡ b = some_same a b e in
       let P : OpenBlock → Type 0 = λ x. closed_open day counts pool x ≡ Some v in
-      let (m, is, value) = map_some (λ (m : ℕ). a.value +ℤ scaled counts m) (last_step day pool a.driving a.trip) v (subst P (sym same) c) in
+      let (m, is, value) = map_some (λ (m : ℕ). a.value +ℤ scaled counts m) (last_step day pool a.driving a.trip)
+      v (subst P (sym same) c) in
       (m, ap (λ (o : Option ℕ). option_map (λ (more : ℕ). cost + more) o) is, omega (arith, ints, value))
   from_label (u ∷ us) a b v cost e c =
-      let Goal : Option Step → Type 0 = λ o. next_step day pool a.driving a.trip u ≡ o → label_after (opening day counts prices pool) (option_map (next_open counts prices a u) o) us ≡ Some b →
-      (rest : ℕ) × (option_and_then (λ (step : Step). stepped day pool (cost + step.cost) step.driving u us) o ≡ Some (cost + rest)) × (v +ℤ (price_at prices u +ℤ price_of prices us) ≡ a.value +ℤ scaled counts rest) in
+      let Goal : Option Step → Type 0 = λ o. next_step day pool a.driving a.trip u ≡ o →
+      label_after (opening day counts prices pool) (option_map (next_open counts prices a u) o) us ≡ Some b →
+      (rest : ℕ) × (option_and_then (λ (step : Step). stepped day pool (cost + step.cost) step.driving u us) o ≡ Some (cost + rest))
+      × (v +ℤ (price_at prices u +ℤ price_of prices us) ≡ a.value +ℤ scaled counts rest) in
       let split : (o : Option Step) → Goal o = λ o. elim o as Goal [
         | None ↦ λ none e'. absurd (none_after us e')
         | Some step ↦ λ is e'.
@@ -287,81 +329,132 @@ module _ (day : DayFacts) (counts : Bool) (prices : List Price) (pool : Pool) wh
 
       added_value : (m rest : ℕ) → v +ℤ price_of prices us ≡ (a.value +ℤ scaled counts m -ℤ price_at prices u) +ℤ scaled counts rest →
           v +ℤ (price_at prices u +ℤ price_of prices us) ≡ a.value +ℤ scaled counts (m + rest)
-      added_value m rest value = elim counts as (λ z. v +ℤ price_of prices us ≡ (a.value +ℤ scaled z m -ℤ price_at prices u) +ℤ scaled z rest → v +ℤ (price_at prices u +ℤ price_of prices us) ≡ a.value +ℤ scaled z (m + rest)) [
-        | true ↦ λ h. omega (arith, ints, h)
-        | false ↦ λ h. omega (arith, ints, h)
-      ] value
+      added_value m rest value =
+          elim counts as (λ z. v +ℤ price_of prices us ≡ (a.value +ℤ scaled z m -ℤ price_at prices u) +ℤ scaled z rest →
+          v +ℤ (price_at prices u +ℤ price_of prices us) ≡ a.value +ℤ scaled z (m + rest)) [
+            | true ↦ λ h. omega (arith, ints, h)
+            | false ↦ λ h. omega (arith, ints, h)
+          ] value
 
   onto_label : (list : List ℕ) (a : OpenBlock) (cost total : ℕ) → stepped day pool cost a.driving a.trip list ≡ Some total →
-      (b : OpenBlock) × (v : ℤ) × (rest : ℕ) × (label_after (opening day counts prices pool) (Some a) list ≡ Some b) × (closed_open day counts pool b ≡ Some v) × (total ≡ cost + rest) × (v +ℤ price_of prices list ≡ a.value +ℤ scaled counts rest)
+      (b : OpenBlock) × (v : ℤ) × (rest : ℕ) × (label_after (opening day counts prices pool) (Some a) list ≡ Some b)
+      × (closed_open day counts pool b ≡ Some v) × (total ≡ cost + rest) × (v +ℤ price_of prices list ≡ a.value +ℤ scaled counts rest)
   onto_label [] a cost total e =
-      let (m, is, sum) = map_some (λ (more : ℕ). cost + more) (last_step day pool a.driving a.trip) total e in
-      (a, a.value +ℤ scaled counts m, m, refl, ap (λ (o : Option ℕ). option_map (λ (m : ℕ). a.value +ℤ scaled counts m) o) is, sym sum, omega (arith, ints))
+      let (m, is, sum) = map_some (λ (more : ℕ). cost + more) (last_step day pool a.driving a.trip) total e in (
+        a,
+        a.value +ℤ scaled counts m,
+        m,
+        refl,
+        ap (λ (o : Option ℕ). option_map (λ (m : ℕ). a.value +ℤ scaled counts m) o) is,
+        sym sum,
+        omega (arith, ints),
+      )
   onto_label (u ∷ us) a cost total e =
-      let (step, is, more) = and_then_some (λ (step : Step). stepped day pool (cost + step.cost) step.driving u us) (next_step day pool a.driving a.trip u) total e in
-      let (b, v, rest, label, closes, sum, value) = onto_label us (next_open counts prices a u step) (cost + step.cost) total more in
-      (b, v, step.cost + rest, ap (λ (o : Option OpenBlock). label_after (opening day counts prices pool) o us) (next_is a u step is) ∙ label, closes, omega (arith, sum), added_value v step.cost rest value)
+      let (step, is, more) = and_then_some (λ (step : Step). stepped day pool (cost + step.cost) step.driving u us)
+      (next_step day pool a.driving a.trip u) total e in
+      let (b, v, rest, label, closes, sum, value) = onto_label us (next_open counts prices a u step) (cost + step.cost) total more in (
+        b,
+        v,
+        step.cost + rest,
+        ap (λ (o : Option OpenBlock). label_after (opening day counts prices pool) o us) (next_is a u step is)
+            ∙ label,
+        closes,
+        omega (arith, sum),
+        added_value v step.cost rest value,
+      )
     where
-      added_value : (v : ℤ) (m rest : ℕ) → v +ℤ price_of prices us ≡ (a.value +ℤ scaled counts m -ℤ price_at prices u) +ℤ scaled counts rest →
+      added_value : (v : ℤ) (m rest : ℕ) →
+          v +ℤ price_of prices us ≡ (a.value +ℤ scaled counts m -ℤ price_at prices u) +ℤ scaled counts rest →
           v +ℤ (price_at prices u +ℤ price_of prices us) ≡ a.value +ℤ scaled counts (m + rest)
-      added_value v m rest value = elim counts as (λ z. v +ℤ price_of prices us ≡ (a.value +ℤ scaled z m -ℤ price_at prices u) +ℤ scaled z rest → v +ℤ (price_at prices u +ℤ price_of prices us) ≡ a.value +ℤ scaled z (m + rest)) [
-        | true ↦ λ h. omega (arith, ints, h)
-        | false ↦ λ h. omega (arith, ints, h)
-      ] value
+      added_value v m rest value =
+          elim counts as (λ z. v +ℤ price_of prices us ≡ (a.value +ℤ scaled z m -ℤ price_at prices u) +ℤ scaled z rest →
+          v +ℤ (price_at prices u +ℤ price_of prices us) ≡ a.value +ℤ scaled z (m + rest)) [
+            | true ↦ λ h. omega (arith, ints, h)
+            | false ↦ λ h. omega (arith, ints, h)
+          ] value
 
   -- the value of a whole list
   first_sum : (t cost rest : ℕ) (v later : ℤ) → v +ℤ later ≡ (first_scaled counts cost -ℤ price_at prices t) +ℤ scaled counts rest →
       v ≡ pos (1000 * cond counts 1 (cost + rest)) -ℤ (price_at prices t +ℤ later)
-  first_sum t cost rest v later e = elim counts as (λ z. v +ℤ later ≡ (first_scaled z cost -ℤ price_at prices t) +ℤ scaled z rest → v ≡ pos (1000 * cond z 1 (cost + rest)) -ℤ (price_at prices t +ℤ later)) [
-    | true ↦ λ h. omega (arith, ints, h)
-    | false ↦ λ h. omega (arith, ints, h)
-  ] e
+  first_sum t cost rest v later e =
+      elim counts as (λ z. v +ℤ later ≡ (first_scaled z cost -ℤ price_at prices t) +ℤ scaled z rest →
+      v ≡ pos (1000 * cond z 1 (cost + rest)) -ℤ (price_at prices t +ℤ later)) [
+        | true ↦ λ h. omega (arith, ints, h)
+        | false ↦ λ h. omega (arith, ints, h)
+      ] e
 
-  worth_is : (class : ℕ) (list : List ℕ) → slice_get day.params.pools class ≡ Some pool → block_worth day counts class list ≡ option_and_then (λ (c : ℕ). Some (cond counts 1 c)) (steps day pool list)
+  worth_is : (class : ℕ) (list : List ℕ) → slice_get day.params.pools class ≡ Some pool →
+      block_worth day counts class list ≡ option_and_then (λ (c : ℕ). Some (cond counts 1 c)) (steps day pool list)
   worth_is class list there =
       worth_walked day counts class list
-      ∙ ap (λ (o : Option Pool). option_and_then (λ (c : ℕ). Some (cond counts 1 c)) (option_and_then (λ (pool : Pool). steps day pool list) o)) there
+      ∙ ap (λ (o : Option Pool). option_and_then (λ (c : ℕ). Some (cond counts 1 c))
+      (option_and_then (λ (pool : Pool). steps day pool list) o)) there
 
-  opening_onto : (class : ℕ) → slice_get day.params.pools class ≡ Some pool → (list : List ℕ) (worth : ℕ) → block_worth day counts class list ≡ Some worth →
-      (a : OpenBlock) × (label_of (opening day counts prices pool) list ≡ Some a) × (closed_open day counts pool a ≡ Some (value_of prices worth list))
+  opening_onto : (class : ℕ) → slice_get day.params.pools class ≡ Some pool → (list : List ℕ) (worth : ℕ) →
+      block_worth day counts class list ≡ Some worth →
+      (a : OpenBlock) × (label_of (opening day counts prices pool) list ≡ Some a)
+      × (closed_open day counts pool a ≡ Some (value_of prices worth list))
   opening_onto class there [] worth e = absurd (let bad : None ≡ Some worth = sym (worth_is class [] there) ∙ e in cc)
   opening_onto class there (t ∷ ts) worth e =
       let one : ℕ → Option ℕ = λ c. Some (cond counts 1 c) in
       let (c, is, same) = and_then_some one (steps day pool (t ∷ ts)) worth (sym (worth_is class (t ∷ ts) there) ∙ e) in
-      let (step, is_step, more) = and_then_some (λ (step : Step). stepped day pool step.cost step.driving t ts) (first_step day pool t) c is in
+      let (step, is_step, more) =
+      and_then_some (λ (step : Step). stepped day pool step.cost step.driving t ts) (first_step day pool t) c is in
       let (b, v, rest, label, closes, sum, value) = onto_label ts (begun_open counts prices t step) step.cost c more in
       let is_worth : cond counts 1 (step.cost + rest) ≡ worth = ap (cond counts 1) (sym sum) ∙ some_same (cond counts 1 c) worth same in
-      let is_value : v ≡ value_of prices worth (t ∷ ts) = first_sum t step.cost rest v (price_of prices ts) value ∙ ap (λ n. value_of prices n (t ∷ ts)) is_worth in
-      (b, ap (λ (o : Option Step). label_after (opening day counts prices pool) (option_map (begun_open counts prices t) o) ts) is_step ∙ label, closes ∙ ap Some is_value)
+      let is_value : v ≡ value_of prices worth (t ∷ ts) =
+      first_sum t step.cost rest v (price_of prices ts) value ∙ ap (λ n. value_of prices n (t ∷ ts)) is_worth in (
+        b,
+        ap (λ (o : Option Step). label_after (opening day counts prices pool) (option_map (begun_open counts prices t) o) ts) is_step
+            ∙ label,
+        closes ∙ ap Some is_value,
+      )
 
-  opening_from : (class : ℕ) → slice_get day.params.pools class ≡ Some pool → (list : List ℕ) (b : OpenBlock) (v : ℤ) → label_of (opening day counts prices pool) list ≡ Some b → closed_open day counts pool b ≡ Some v →
+  opening_from : (class : ℕ) → slice_get day.params.pools class ≡ Some pool → (list : List ℕ) (b : OpenBlock) (v : ℤ) →
+      label_of (opening day counts prices pool) list ≡ Some b → closed_open day counts pool b ≡ Some v →
       (worth : ℕ) × (block_worth day counts class list ≡ Some worth) × (v ≡ value_of prices worth list)
   opening_from class there [] b v e c = absurd (cc)
   opening_from class there (t ∷ ts) b v e c =
-      let Goal : Option Step → Type 0 = λ o. first_step day pool t ≡ o → label_after (opening day counts prices pool) (option_map (begun_open counts prices t) o) ts ≡ Some b →
+      let Goal : Option Step → Type 0 = λ o. first_step day pool t ≡ o →
+      label_after (opening day counts prices pool) (option_map (begun_open counts prices t) o) ts ≡ Some b →
       (worth : ℕ) × (block_worth day counts class (t ∷ ts) ≡ Some worth) × (v ≡ value_of prices worth (t ∷ ts)) in
       let split : (o : Option Step) → Goal o = λ o. elim o as Goal [
         | None ↦ λ none e'. absurd (no_label ts e')
         | Some step ↦ λ is e'.
             let (rest, costs, value) = from_label ts (begun_open counts prices t step) b v step.cost e' c in
             let one : ℕ → Option ℕ = λ n. Some (cond counts 1 n) in
-            let all : steps day pool (t ∷ ts) ≡ Some (step.cost + rest) = ap (λ (o : Option Step). option_and_then (λ (step : Step). stepped day pool step.cost step.driving t ts) o) is ∙ costs in
-            (cond counts 1 (step.cost + rest), worth_is class (t ∷ ts) there ∙ ap (λ (o : Option ℕ). option_and_then one o) all, first_sum t step.cost rest v (price_of prices ts) value)
+            let all : steps day pool (t ∷ ts) ≡ Some (step.cost + rest) =
+            ap (λ (o : Option Step). option_and_then (λ (step : Step). stepped day pool step.cost step.driving t ts) o) is ∙ costs in (
+              cond counts 1 (step.cost + rest),
+              worth_is class (t ∷ ts) there ∙ ap (λ (o : Option ℕ). option_and_then one o) all,
+              first_sum t step.cost rest v (price_of prices ts) value,
+            )
       ] in split (first_step day pool t) refl e
     where
       no_label : (xs : List ℕ) → label_after (opening day counts prices pool) None xs ≡ Some b → ⊥
       no_label [] e = cc
       no_label (x ∷ xs) e = cc
 
-  pub opening_tied : (class : ℕ) → slice_get day.params.pools class ≡ Some pool → IsTied (opening day counts prices pool) (closed_open day counts pool) prices (block_worth day counts class)
+  pub opening_tied : (class : ℕ) → slice_get day.params.pools class ≡ Some pool →
+      IsTied (opening day counts prices pool) (closed_open day counts pool) prices (block_worth day counts class)
   opening_tied class there = record { onto = opening_onto class there; from = opening_from class there }
 
   -- The numbers of open blocks fit.
   scaled_few : (n most : ℕ) → n ≤ most → (pos 0 ≤ℤ scaled counts n) × (scaled counts n ≤ℤ pos (1000 * most))
-  scaled_few n most few = elim counts as (λ z. (pos 0 ≤ℤ scaled z n) × (scaled z n ≤ℤ pos (1000 * most))) [ true ↦ (omega (arith, ints), omega (arith, ints)) | false ↦ (omega (arith, ints), omega (arith, ints)) ]
+  scaled_few n most few =
+      elim counts as (λ z. (pos 0 ≤ℤ scaled z n) × (scaled z n ≤ℤ pos (1000 * most))) [
+        | true ↦
+            (omega (arith, ints), omega (arith, ints))
+        | false ↦ (omega (arith, ints), omega (arith, ints))
+      ]
 
   first_few : (n most : ℕ) → n ≤ most → 1 ≤ most → (pos 0 ≤ℤ first_scaled counts n) × (first_scaled counts n ≤ℤ pos (1000 * most))
-  first_few n most few some = elim counts as (λ z. (pos 0 ≤ℤ first_scaled z n) × (first_scaled z n ≤ℤ pos (1000 * most))) [ true ↦ (omega (arith, ints), omega (arith, ints)) | false ↦ (omega (arith, ints), omega (arith, ints)) ]
+  first_few n most few some =
+      elim counts as (λ z. (pos 0 ≤ℤ first_scaled z n) × (first_scaled z n ≤ℤ pos (1000 * most))) [
+        | true ↦
+            (omega (arith, ints), omega (arith, ints))
+        | false ↦ (omega (arith, ints), omega (arith, ints))
+      ]
 
   trip_daily : (t : ℕ) (trip : Trip) → slice_get day.trips t ≡ Some trip → All IsDaily day.trips → IsDaily trip
   trip_daily t trip there daily = daily_at day.trips t trip there daily
@@ -373,7 +466,8 @@ module _ (day : DayFacts) (counts : Bool) (prices : List Price) (pool : Pool) wh
 
   cost_few : (u : Trip) (l : Link) → IsPool pool → link_cost pool u l ≤ 10000 * seconds_of l
   cost_few u (Direct move stand) ranges =
-      let still : cond (point_eq u.from pool.depot) 0 stand ≤ stand = elim (point_eq u.from pool.depot) as (λ t. cond t 0 stand ≤ stand) [ true ↦ omega arith | false ↦ omega arith ] in
+      let still : cond (point_eq u.from pool.depot) 0 stand ≤ stand =
+      elim (point_eq u.from pool.depot) as (λ t. cond t 0 stand ≤ stand) [ true ↦ omega arith | false ↦ omega arith ] in
       let moves = mul-le-mul ranges.dead_rate (refl_le move) in
       let stands = mul-le-mul ranges.stand_rate still in
       omega (arith, moves, stands)
@@ -389,10 +483,19 @@ module _ (day : DayFacts) (counts : Bool) (prices : List Price) (pool : Pool) wh
 
   pub added_few : (t u m : ℕ) → IsPool pool → All IsDaily day.trips → added day pool t u ≡ Some m → m ≤ 1728000000
   added_few t u m ranges daily e =
-      let (trip, trip_is, e1) = and_then_some (λ (trip : Trip). with_trip day u (λ next. given (nat_lt t u) (given (admits day next.line pool.typ) (option_map (λ l. link_cost pool next l) (link day pool trip next))))) (slice_get day.trips t) m e in
-      let (next, next_is, e2) = and_then_some (λ (next : Trip). given (nat_lt t u) (given (admits day next.line pool.typ) (option_map (λ l. link_cost pool next l) (link day pool trip next)))) (slice_get day.trips u) m e1 in
-      let (later, e3) = given_both (nat_lt t u) (given (admits day next.line pool.typ) (option_map (λ l. link_cost pool next l) (link day pool trip next))) m e2 in
-      let (admitted, e4) = given_both (admits day next.line pool.typ) (option_map (λ l. link_cost pool next l) (link day pool trip next)) m e3 in
+      let (trip, trip_is, e1) =
+      and_then_some (λ (trip : Trip). with_trip day u
+      (λ next. given (nat_lt t u)
+      (given (admits day next.line pool.typ) (option_map (λ l. link_cost pool next l) (link day pool trip next)))))
+      (slice_get day.trips t) m e in
+      let (next, next_is, e2) =
+      and_then_some (λ (next : Trip). given (nat_lt t u)
+      (given (admits day next.line pool.typ) (option_map (λ l. link_cost pool next l) (link day pool trip next))))
+      (slice_get day.trips u) m e1 in
+      let (later, e3) = given_both (nat_lt t u)
+      (given (admits day next.line pool.typ) (option_map (λ l. link_cost pool next l) (link day pool trip next))) m e2 in
+      let (admitted, e4) = given_both (admits day next.line pool.typ)
+      (option_map (λ l. link_cost pool next l) (link day pool trip next)) m e3 in
       let (l, linked, same) = map_some (λ (l : Link). link_cost pool next l) (link day pool trip next) m e4 in
       let fits = link_fits day pool trip next l linked in
       let few = cost_few next l ranges in
@@ -402,8 +505,11 @@ module _ (day : DayFacts) (counts : Bool) (prices : List Price) (pool : Pool) wh
 
   pub begun_few : (t m : ℕ) → IsPool pool → All IsDaily day.trips → begun day pool t ≡ Some m → m ≤ 1828000000
   begun_few t m ranges daily e =
-      let (trip, trip_is, e1) = and_then_some (λ (trip : Trip). given (admits day trip.line pool.typ) (option_map (λ out. pool.fixed + pool.dead_rate * out) (pull_out day pool trip))) (slice_get day.trips t) m e in
-      let (admitted, e2) = given_both (admits day trip.line pool.typ) (option_map (λ out. pool.fixed + pool.dead_rate * out) (pull_out day pool trip)) m e1 in
+      let (trip, trip_is, e1) =
+      and_then_some (λ (trip : Trip). given (admits day trip.line pool.typ)
+      (option_map (λ out. pool.fixed + pool.dead_rate * out) (pull_out day pool trip))) (slice_get day.trips t) m e in
+      let (admitted, e2) = given_both (admits day trip.line pool.typ)
+      (option_map (λ out. pool.fixed + pool.dead_rate * out) (pull_out day pool trip)) m e1 in
       let (out, is_out, same) = map_some (λ (out : ℕ). pool.fixed + pool.dead_rate * out) (pull_out day pool trip) m e2 in
       let leaves = pull_out_leaves trip (dead day pool.depot trip.from) out is_out in
       let d = trip_daily t trip trip_is daily in
@@ -414,11 +520,14 @@ module _ (day : DayFacts) (counts : Bool) (prices : List Price) (pool : Pool) wh
 
   first_driving : (t x : ℕ) → driven_first day pool t ≡ Some x → x ≤ longest_driving
   first_driving t x e =
-      let (trip, trip_is, e1) = and_then_some (λ (trip : Trip). option_and_then (λ out. kept (out + trip_seconds trip)) (pull_out day pool trip)) (slice_get day.trips t) x e in
+      let (trip, trip_is, e1) =
+      and_then_some (λ (trip : Trip). option_and_then (λ out. kept (out + trip_seconds trip)) (pull_out day pool trip))
+      (slice_get day.trips t) x e in
       let (out, is_out, e2) = and_then_some (λ (out : ℕ). kept (out + trip_seconds trip)) (pull_out day pool trip) x e1 in
       kept_few (out + trip_seconds trip) x e2
 
-  pub opening_safe : All IsDaily day.trips → IsPool pool → AllWithin 10000000000000 prices → IsSafe (opening day counts prices pool) (OpenFits (length day.trips))
+  pub opening_safe : All IsDaily day.trips → IsPool pool → AllWithin 10000000000000 prices →
+      IsSafe (opening day counts prices pool) (OpenFits (length day.trips))
   opening_safe daily ranges moderate = record {
     starts = λ t a e.
         let (step, is, same) = map_some (begun_open counts prices t) (first_step day pool t) a e in

@@ -27,7 +27,8 @@ kept m = given (nat_le m.driving longest_driving) (Some m)
 abbrev pub first_mark : DayFacts → Bool → List Price → ℕ → ℕ → Option BlockMark
 first_mark day counts prices class k =
     with_pool day class (λ pool. with_trip day k (λ t. given (admits day t.line pool.typ) (option_and_then (λ out.
-    kept (mark class k (out + trip_seconds t) (cond counts (pos 1000) (pos (1000 * (pool.fixed + pool.dead_rate * out))) -ℤ price_at prices k)))
+    kept (mark class k (out + trip_seconds t)
+    (cond counts (pos 1000) (pos (1000 * (pool.fixed + pool.dead_rate * out))) -ℤ price_at prices k)))
     (pull_out day pool t))))
 
 -- where a link's stand lies, how long it lasts, and the seconds that are driven empty before and behind it

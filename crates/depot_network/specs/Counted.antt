@@ -20,11 +20,13 @@ abbrev worth_in_pool : DayFacts → Bool → List ℕ → Pool → Option ℕ
 worth_in_pool day counts list pool =
     given (can_be_driven day pool list) (option_and_then (worth_of_trips day counts pool) (trips_at day.trips list))
 
-one_given : (b : Bool) (costed counted : Option ℕ) (worth : ℕ) → (costed ≡ Some worth → counted ≡ Some 1) → given b costed ≡ Some worth → given b counted ≡ Some 1
+one_given : (b : Bool) (costed counted : Option ℕ) (worth : ℕ) → (costed ≡ Some worth → counted ≡ Some 1) → given b costed ≡ Some worth →
+    given b counted ≡ Some 1
 one_given true costed counted worth f h = f h
 one_given false costed counted worth f h = absurd (cc)
 
-one_cost : (o : Option ℕ) (worth : ℕ) → option_and_then (worth_of_cost false) o ≡ Some worth → option_and_then (worth_of_cost true) o ≡ Some 1
+one_cost : (o : Option ℕ) (worth : ℕ) → option_and_then (worth_of_cost false) o ≡ Some worth →
+    option_and_then (worth_of_cost true) o ≡ Some 1
 one_cost None worth h = absurd (cc)
 one_cost (Some c) worth h = refl
 

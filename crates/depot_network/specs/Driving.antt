@@ -51,7 +51,8 @@ kept driving = given (nat_le driving longest_driving) (Some driving)
 -- The driving behind a stand, from that at the trip before it, the driving from there to the stand, and that from the stand on. Where the
 -- stand is a cut, a piece ends before it and the next one begins after it.
 abbrev pub driven_past : Bool → ℕ → ℕ → ℕ → Option ℕ
-driven_past cut driving before second = cond cut (given (nat_le (driving + before) longest_driving) (kept second)) (kept (driving + before + second))
+driven_past cut driving before second =
+    cond cut (given (nat_le (driving + before) longest_driving) (kept second)) (kept (driving + before + second))
 
 -- the driving at the end of a later trip, from that at the end of an earlier one
 abbrev pub driven_over : DayFacts → Pool → Trip → Link → ℕ → Option ℕ

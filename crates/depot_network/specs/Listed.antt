@@ -16,7 +16,8 @@ use Rattle.depot_network.specs.Network.{NetFacts, blocks}
 some_same : {A : Type 0} (x y : A) → Some x ≡ Some y → x ≡ y
 some_same {A = A} x y e = let f : Option A → A = λ o. unwrap_or o x in ap f e
 
-and_then_some : {A B : Type 0} (f : A → Option B) (o : Option A) (y : B) → option_and_then f o ≡ Some y → (x : A) × (o ≡ Some x) × (f x ≡ Some y)
+and_then_some : {A B : Type 0} (f : A → Option B) (o : Option A) (y : B) → option_and_then f o ≡ Some y →
+    (x : A) × (o ≡ Some x) × (f x ≡ Some y)
 and_then_some f None y e = absurd (cc)
 and_then_some f (Some x) y e = (x, refl, e)
 
@@ -40,11 +41,13 @@ rises_rise (x ∷ y ∷ rest) e =
 trips_below : (trips : List Trip) (list : List ℕ) (found : List Trip) → trips_at trips list ≡ Some found → AllBelow (length trips) list
 trips_below trips [] found e = tt
 trips_below trips (k ∷ ks) found e =
-    let first = and_then_some (λ (t : Trip). option_and_then (λ (ts : List Trip). Some (t ∷ ts)) (trips_at trips ks)) (slice_get trips k) found e in
+    let first = and_then_some (λ (t : Trip). option_and_then (λ (ts : List Trip). Some (t ∷ ts)) (trips_at trips ks))
+    (slice_get trips k) found e in
     let rest = and_then_some (λ (ts : List Trip). Some (first.0 ∷ ts)) (trips_at trips ks) found first.2 in
     (slice_get_within trips k first.0 first.1, trips_below trips ks rest.0 rest.1)
 
-none_of_none : (day : DayFacts) (pool : Pool) (list : List ℕ) (found : List Trip) (cost : ℕ) → trips_at day.trips list ≡ Some found → block_cost day pool found ≡ Some cost → list ≢ []
+none_of_none : (day : DayFacts) (pool : Pool) (list : List ℕ) (found : List Trip) (cost : ℕ) → trips_at day.trips list ≡ Some found →
+    block_cost day pool found ≡ Some cost → list ≢ []
 none_of_none day pool list found cost at is = λ e.
     let P : List ℕ → Type 0 = λ ks. trips_at day.trips ks ≡ Some found in
     let none : found ≡ [] = sym (some_same [] found (subst P e at)) in
@@ -55,10 +58,18 @@ none_of_none day pool list found cost at is = λ e.
 pub blocks_listed : (net : NetFacts) → HasListedColumns (blocks net)
 blocks_listed net class list worth e =
     let one : ℕ → Option ℕ = λ c. Some (cond net.counts 1 c) in
-    let of_trips : Pool → Option ℕ = λ pool. option_and_then (λ (ts : List Trip). option_and_then one (block_cost net.day pool ts)) (trips_at net.day.trips list) in
-    let tested = given_some (rises list) (option_and_then (λ (pool : Pool). given (can_be_driven net.day pool list) (of_trips pool)) (slice_get net.day.params.pools class)) worth e in
-    let pooled = and_then_some (λ (pool : Pool). given (can_be_driven net.day pool list) (of_trips pool)) (slice_get net.day.params.pools class) worth tested.1 in
+    let of_trips : Pool → Option ℕ =
+    λ pool. option_and_then (λ (ts : List Trip). option_and_then one (block_cost net.day pool ts)) (trips_at net.day.trips list) in
+    let tested = given_some (rises list)
+    (option_and_then (λ (pool : Pool). given (can_be_driven net.day pool list) (of_trips pool)) (slice_get net.day.params.pools class))
+    worth e in
+    let pooled = and_then_some (λ (pool : Pool). given (can_be_driven net.day pool list) (of_trips pool))
+    (slice_get net.day.params.pools class) worth tested.1 in
     let driven = given_some (can_be_driven net.day pooled.0 list) (of_trips pooled.0) worth pooled.2 in
-    let found = and_then_some (λ (ts : List Trip). option_and_then one (block_cost net.day pooled.0 ts)) (trips_at net.day.trips list) worth driven.1 in
-    let costs = and_then_some one (block_cost net.day pooled.0 found.0) worth found.2 in
-    (none_of_none net.day pooled.0 list found.0 costs.0 found.1 costs.1, rises_rise list tested.0, trips_below net.day.trips list found.0 found.1)
+    let found = and_then_some (λ (ts : List Trip). option_and_then one (block_cost net.day pooled.0 ts))
+    (trips_at net.day.trips list) worth driven.1 in
+    let costs = and_then_some one (block_cost net.day pooled.0 found.0) worth found.2 in (
+      none_of_none net.day pooled.0 list found.0 costs.0 found.1 costs.1,
+      rises_rise list tested.0,
+      trips_below net.day.trips list found.0 found.1,
+    )

@@ -14,7 +14,8 @@ abbrev point : ℕ → ℕ → Point
 point typ nr = record { typ = typ; nr = nr }
 
 abbrev trip : ℕ → Point → ℕ → Point → ℕ → Trip
-trip fid from begin to end = record { fid = fid; line = 1; from = from; begin = record { 0 = pos begin }; to = to; end = record { 0 = pos end } }
+trip fid from begin to end =
+    record { fid = fid; line = 1; from = from; begin = record { 0 = pos begin }; to = to; end = record { 0 = pos end } }
 
 abbrev pool : Pool
 pool = record { number = 1; depot = point 2 9; typ = 1; cap = 2; fixed = 1000; dead_rate = 1; stand_rate = 0 }
@@ -28,8 +29,17 @@ day_with long begin = record {
   kind = record { version = 1; kind = 1; day = 20260302; weekday = 1 };
   rows = 0 ∷ 1 ∷ [];
   trips = trip 1 (point 1 1) 28800 (point 1 2) (28800 + long) ∷ trip 2 (point 1 2) begin (point 1 1) (begin + 3600) ∷ [];
-  params = record { settings = record { area = 1; group = 1; turn = 300; max_wait = 7200; handover = 300 }; pools = pool ∷ []; groups = []; admissions = []; reliefs = point 1 2 ∷ []; ways = [] };
-  deads = (ends (point 2 9) (point 1 1), 600) ∷ (ends (point 1 1) (point 2 9), 600) ∷ (ends (point 2 9) (point 1 2), 900) ∷ (ends (point 1 2) (point 2 9), 900) ∷ [];
+  params = record {
+    settings = record { area = 1; group = 1; turn = 300; max_wait = 7200; handover = 300 };
+    pools = pool ∷ [];
+    groups =
+        [];
+    admissions = [];
+    reliefs = point 1 2 ∷ [];
+    ways = [];
+  };
+  deads = (ends (point 2 9) (point 1 1), 600) ∷ (ends (point 1 1) (point 2 9), 600) ∷ (ends (point 2 9) (point 1 2), 900)
+      ∷ (ends (point 1 2) (point 2 9), 900) ∷ [];
 }
 
 abbrev day : DayFacts

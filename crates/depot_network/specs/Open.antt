@@ -25,7 +25,8 @@ begun_open counts prices t step = record { trip = t; driving = step.driving; val
 
 -- an open block with a trip more
 abbrev pub next_open : Bool → List Price → OpenBlock → ℕ → Step → OpenBlock
-next_open counts prices a u step = record { trip = u; driving = step.driving; value = a.value +ℤ scaled counts step.cost -ℤ price_at prices u }
+next_open counts prices a u step =
+    record { trip = u; driving = step.driving; value = a.value +ℤ scaled counts step.cost -ℤ price_at prices u }
 
 abbrev pub first_open : DayFacts → Bool → List Price → Pool → ℕ → Option OpenBlock
 first_open day counts prices pool t = option_map (begun_open counts prices t) (first_step day pool t)

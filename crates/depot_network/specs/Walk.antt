@@ -14,12 +14,15 @@ use Rattle.depot_network.specs.Driving.{driven_first, driven_in, driven_on}
 -- the fixed cost and the pull-out to a first trip
 abbrev pub begun : DayFacts → Pool → ℕ → Option ℕ
 begun day pool t =
-    with_trip day t (λ trip. given (admits day trip.line pool.typ) (option_map (λ out. pool.fixed + pool.dead_rate * out) (pull_out day pool trip)))
+    with_trip day t (λ trip. given (admits day trip.line pool.typ)
+    (option_map (λ out. pool.fixed + pool.dead_rate * out) (pull_out day pool trip)))
 
 -- what a later trip adds to the cost of a block that ends with a trip
 abbrev pub added : DayFacts → Pool → ℕ → ℕ → Option ℕ
 added day pool t u =
-    with_trip day t (λ trip. with_trip day u (λ next. given (nat_lt t u) (given (admits day next.line pool.typ) (option_map (λ l. link_cost pool next l) (link day pool trip next)))))
+    with_trip day t (λ trip. with_trip day u
+    (λ next. given (nat_lt t u)
+    (given (admits day next.line pool.typ) (option_map (λ l. link_cost pool next l) (link day pool trip next)))))
 
 -- what the pull-in from a last trip adds
 abbrev pub ended : DayFacts → Pool → ℕ → Option ℕ
@@ -44,7 +47,8 @@ last_step day pool driving t = given (is_some (driven_in day pool driving t)) (e
 -- the cost and the driving of a block so far, a last trip, and the trips after it
 abbrev pub stepped : DayFacts → Pool → ℕ → ℕ → ℕ → List ℕ → Option ℕ
 stepped day pool cost driving t [] = option_map (λ more. cost + more) (last_step day pool driving t)
-stepped day pool cost driving t (u ∷ us) = option_and_then (λ step. stepped day pool (cost + step.cost) step.driving u us) (next_step day pool driving t u)
+stepped day pool cost driving t (u ∷ us) =
+    option_and_then (λ step. stepped day pool (cost + step.cost) step.driving u us) (next_step day pool driving t u)
 
 -- the cost of a list of trips that can be driven
 abbrev pub steps : DayFacts → Pool → List ℕ → Option ℕ

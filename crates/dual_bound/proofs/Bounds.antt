@@ -11,7 +11,8 @@ all_prices-append : (xs ys : List Price) → all_prices (xs ++ ys) ≡ all_price
 all_prices-append [] ys = omega (arith, ints)
 all_prices-append (x ∷ xs) ys = omega (arith, ints, all_prices-append xs ys)
 
-pub all_prices-take : (xs : List Price) (i : ℕ) (d : Price) → i < length xs → all_prices (take (i + 1) xs) ≡ all_prices (take i xs) +ℤ (get_or xs i d).0
+pub all_prices-take : (xs : List Price) (i : ℕ) (d : Price) → i < length xs →
+    all_prices (take (i + 1) xs) ≡ all_prices (take i xs) +ℤ (get_or xs i d).0
 all_prices-take xs i d h = ap all_prices (take_more xs i d h) ∙ all_prices-append (take i xs) (get_or xs i d ∷ []) ∙ (omega (arith, ints))
 
 pub AllWithin-low : (n : ℕ) (xs : List Price) (i : ℕ) (d : Price) → i < length xs → AllWithin n xs → neg_ℤ (pos n) ≤ℤ (get_or xs i d).0
@@ -66,5 +67,6 @@ class_prices_of-append : (xs ys : List ℤ) → class_prices_of (xs ++ ys) ≡ c
 class_prices_of-append [] ys = refl
 class_prices_of-append (x ∷ xs) ys = ap (λ l. class_price_of x ∷ l) (class_prices_of-append xs ys)
 
-pub class_prices_of-take : (zs : List ℤ) (i : ℕ) (d : ℤ) → i < length zs → class_prices_of (take (i + 1) zs) ≡ class_prices_of (take i zs) ++ class_price_of (get_or zs i d) ∷ []
+pub class_prices_of-take : (zs : List ℤ) (i : ℕ) (d : ℤ) → i < length zs →
+    class_prices_of (take (i + 1) zs) ≡ class_prices_of (take i zs) ++ class_price_of (get_or zs i d) ∷ []
 class_prices_of-take zs i d h = ap class_prices_of (take_more zs i d h) ∙ class_prices_of-append (take i zs) (get_or zs i d ∷ [])

@@ -20,7 +20,8 @@ use Rattle.duty_network.specs.Marks.{first_mark, is_open, next_mark, one_mark, e
 pub Some-same : {A : Type 0} (x y : A) → Some x ≡ Some y → x ≡ y
 Some-same {A = A} x y e = let f : Option A → A = λ o. unwrap_or o x in ap f e
 
-pub and_then-Some : {A B : Type 0} (f : A → Option B) (o : Option A) (y : B) → option_and_then f o ≡ Some y → (x : A) × (o ≡ Some x) × (f x ≡ Some y)
+pub and_then-Some : {A B : Type 0} (f : A → Option B) (o : Option A) (y : B) → option_and_then f o ≡ Some y →
+    (x : A) × (o ≡ Some x) × (f x ≡ Some y)
 and_then-Some f None y e = absurd (cc)
 and_then-Some f (Some x) y e = (x, refl, e)
 
@@ -56,7 +57,8 @@ next_mark-good g prices a b time k q good = record {
   class = good.class;
   piece = refl;
   start = good.start;
-  driving = (let same : completes_break a.quarter time ≡ completes_break b.quarter time = ap (λ x. completes_break x time) good.quarter in rw same (driving-up (completes_break b.quarter time) a.driving b.driving q.driving good.driving));
+  driving = (let same : completes_break a.quarter time ≡ completes_break b.quarter time = ap (λ x. completes_break x time) good.quarter in
+      rw same (driving-up (completes_break b.quarter time) a.driving b.driving q.driving good.driving));
   quarter = ap (λ quarter. cond (completes_break quarter time) false (nat_le 900 time || quarter)) good.quarter;
   total = omega (arith, good.total);
   three = or-up a.three b.three (nat_le (limits_of g).long_pause time) good.three;
@@ -72,7 +74,17 @@ is_open-better g a b end good open_b =
 
 pub good-kept : (d : DutyFacts) (prices : List Price) (class : ℕ) (g : Group) → IsKept (marking d prices class g) IsAtLeastAsGood
 good-kept d prices class g = record {
-  same = λ a. record { class = refl; piece = refl; start = omega (arith, ints); driving = omega arith; quarter = refl; total = omega arith; three = λ h. h; value = omega (arith, ints) };
+  same = λ a. record {
+    class = refl;
+    piece = refl;
+    start = omega (arith, ints);
+    driving = omega arith;
+    quarter = refl;
+    total =
+        omega arith;
+    three = λ h. h;
+    value = omega (arith, ints);
+  };
   through = λ a b c h k. record {
     class = h.class ∙ k.class;
     piece = h.piece ∙ k.piece;
@@ -121,26 +133,33 @@ closes-better g a b off good e =
     let (low, last) = both_true _ _ e in
     let (driving, total) = both_true _ _ low in
     and_true _ _ (and_true _ _ (nat_le-down a.driving b.driving _ good.driving driving) (nat_le-down a.total b.total _ good.total total))
-    (int_le-chain off a.start.0 b.start.0 _ _ good.start (limit-up a.three b.three (limits_of g).long_spread (limits_of g).spread good.three (spread-order g)) last)
+    (int_le-chain off a.start.0 b.start.0 _ _ good.start
+    (limit-up a.three b.three (limits_of g).long_spread (limits_of g).spread good.three (spread-order g)) last)
 
-pub closed-is : (d : DutyFacts) (g : Group) (a : Mark) (p : Piece) (off : ℤ) → slice_get d.pieces a.piece ≡ Some p → sign_off d g p ≡ Some off →
+pub closed-is : (d : DutyFacts) (g : Group) (a : Mark) (p : Piece) (off : ℤ) → slice_get d.pieces a.piece ≡ Some p →
+    sign_off d g p ≡ Some off →
     closes_lawfully g a off ≡ true → closed_value d g a ≡ Some (a.value +ℤ cond d.counts (pos 0) (pos 1000 *ℤ (pos g.rate *ℤ off)))
 closed-is d g a p off from to test = rw (from, to, test) refl
 
 -- what the steps are, from their parts
-pub first-shape : (d : DutyFacts) (prices : List Price) (class : ℕ) (g : Group) (k : ℕ) (p : Piece) (counts : Bool) (on : Option ℤ) → slice_get d.pieces k ≡ Some p → counts ≡ d.counts → on ≡ sign_on d g p →
-    option_and_then (λ on. given (is_open g (one_mark counts prices class g k p on) p.end.0) (Some (one_mark counts prices class g k p on))) on ≡ first_mark d prices class g k
+pub first-shape : (d : DutyFacts) (prices : List Price) (class : ℕ) (g : Group) (k : ℕ) (p : Piece) (counts : Bool) (on : Option ℤ) →
+    slice_get d.pieces k ≡ Some p → counts ≡ d.counts → on ≡ sign_on d g p →
+    option_and_then (λ on. given (is_open g (one_mark counts prices class g k p on) p.end.0) (Some (one_mark counts prices class g k p on)))
+    on ≡ first_mark d prices class g k
 first-shape d prices class g k p counts on from same is = rw (from, same, is) refl
 
-pub next-shape : (d : DutyFacts) (g : Group) (prices : List Price) (m : Mark) (k : ℕ) (q : Piece) (time : Option ℕ) → m.piece < length d.pieces → slice_get d.pieces k ≡ Some q → time ≡ pause_at d m.piece k →
-    option_and_then (λ time. given (nat_lt m.piece k && is_open g (next_mark g prices m time k q) q.end.0) (Some (next_mark g prices m time k q))) time ≡ extended_mark d g prices m k
+pub next-shape : (d : DutyFacts) (g : Group) (prices : List Price) (m : Mark) (k : ℕ) (q : Piece) (time : Option ℕ) →
+    m.piece < length d.pieces → slice_get d.pieces k ≡ Some q → time ≡ pause_at d m.piece k →
+    option_and_then (λ time. given (nat_lt m.piece k && is_open g (next_mark g prices m time k q) q.end.0)
+    (Some (next_mark g prices m time k q))) time ≡ extended_mark d g prices m k
 next-shape d g prices m k q time below to is =
     let piece = there d.pieces m.piece below in
     let from = piece.1 in
     let between : time ≡ pause d piece.0 q = is ∙ (rw (from, to) refl) in
     rw (from, to, between) refl
 
-pub close-shape : (d : DutyFacts) (g : Group) (m : Mark) (p : Piece) (counts : Bool) (off : Option ℤ) → slice_get d.pieces m.piece ≡ Some p → counts ≡ d.counts → off ≡ sign_off d g p →
+pub close-shape : (d : DutyFacts) (g : Group) (m : Mark) (p : Piece) (counts : Bool) (off : Option ℤ) →
+    slice_get d.pieces m.piece ≡ Some p → counts ≡ d.counts → off ≡ sign_off d g p →
     option_and_then (λ off. given (closes_lawfully g m off) (Some (m.value +ℤ off_value counts g off))) off ≡ closed_value d g m
 close-shape d g m p counts off from same is = rw (from, same, is) refl
 

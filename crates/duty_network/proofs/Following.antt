@@ -7,21 +7,26 @@ use Rattle.duty_network.proofs.Better.{Some-same}
 use Rattle.duty_network.proofs.Entries.{count-replicate, entry-count, entry-here, entry-others, entry-replicate, split}
 
 -- behind the last piece there is none
-pub none-behind : (d : DutyFacts) (numbers firsts : List ℕ) (item direct long kinds count : ℕ) → firsts ≡ replicate kinds count → count ≡ length d.pieces → item < count →
+pub none-behind : (d : DutyFacts) (numbers firsts : List ℕ) (item direct long kinds count : ℕ) → firsts ≡ replicate kinds count →
+    count ≡ length d.pieces → item < count →
     AreFirstBehind d numbers item direct long count firsts
 none-behind d numbers firsts item direct long kinds count is all there = record {
   own = λ m less small.
       let P : List ℕ → Type 0 = λ l. m < length l → entry_at l m < count → ⊥ in
-      absurd (subst P (sym is) (λ few at. let size = count-replicate kinds count in let own = entry-replicate kinds count m (omega arith) in omega arith) less (omega arith));
+      absurd (subst P (sym is) (λ few at. let size = count-replicate kinds count in let own = entry-replicate kinds count m (omega arith) in
+      omega arith) less (omega arith));
   behind = λ m less.
       let P : List ℕ → Type 0 = λ l. m < length l → item < entry_at l m in
-      subst P (sym is) (λ small. let size = count-replicate kinds count in let own = entry-replicate kinds count m (omega arith) in omega arith) less;
+      subst P (sym is) (λ small. let size = count-replicate kinds count in let own =
+      entry-replicate kinds count m (omega arith) in omega arith) less;
   first = λ next time from to apart is_time enough. absurd (omega arith);
 }
 
 -- a piece more, which is noted where the pause before it is long enough
-pub more-behind : (test : Bool) (d : DutyFacts) (numbers old : List ℕ) (item direct long next : ℕ) → item < next → entry_at numbers next < length old →
-    ((time : ℕ) → next ≢ direct → pause_at d item next ≡ Some time → long ≤ time → test ≡ true) → AreFirstBehind d numbers item direct long (next + 1) old →
+pub more-behind : (test : Bool) (d : DutyFacts) (numbers old : List ℕ) (item direct long next : ℕ) → item < next →
+    entry_at numbers next < length old →
+    ((time : ℕ) → next ≢ direct → pause_at d item next ≡ Some time → long ≤ time → test ≡ true) →
+    AreFirstBehind d numbers item direct long (next + 1) old →
     AreFirstBehind d numbers item direct long next (cond test (set old (entry_at numbers next) next) old)
 more-behind true d numbers old item direct long next order there noted f =
     let number = entry_at numbers next in
@@ -33,12 +38,16 @@ more-behind true d numbers old item direct long next order there noted f =
           (λ n. let same = entry-others old number m next n in
           let Q : ℕ → Type 0 = λ k. entry_at numbers k ≡ m in subst Q (sym same) (f.own m (omega arith) (omega arith)));
       behind = λ m less. split (item < entry_at (set old number next) m) m number
-          (λ e. let P : ℕ → Type 0 = λ n. item < entry_at (set old number next) n in subst P (sym e) (let here = entry-here old number next there in omega arith))
+          (λ e. let P : ℕ → Type 0 = λ n. item < entry_at (set old number next) n in
+          subst P (sym e) (let here = entry-here old number next there in omega arith))
           (λ n. let same = entry-others old number m next n in let own = f.behind m (omega arith) in omega arith);
-      first = λ later time from to apart is_time enough. split (entry_at (set old number next) (entry_at numbers later) ≤ later) (entry_at numbers later) number
-          (λ e. let P : ℕ → Type 0 = λ n. entry_at (set old number next) n ≤ later in subst P (sym e) (let here = entry-here old number next there in omega arith))
+      first = λ later time from to apart is_time enough. split (entry_at (set old number next) (entry_at numbers later) ≤ later)
+          (entry_at numbers later) number
+          (λ e. let P : ℕ → Type 0 = λ n. entry_at (set old number next) n ≤ later in
+          subst P (sym e) (let here = entry-here old number next there in omega arith))
           (λ n. let same = entry-others old number (entry_at numbers later) next n in
-          let after : next + 1 ≤ later = split (next + 1 ≤ later) later next (λ e. absurd (n (ap (entry_at numbers) e))) (λ k. omega arith) in
+          let after : next + 1 ≤ later =
+          split (next + 1 ≤ later) later next (λ e. absurd (n (ap (entry_at numbers) e))) (λ k. omega arith) in
           let own = f.first later time after to apart is_time enough in omega arith);
     }
 more-behind false d numbers old item direct long next order there noted f = record {
@@ -50,7 +59,8 @@ more-behind false d numbers old item direct long next order there noted f = reco
 }
   where
     noted-at : (later time : ℕ) → later ≡ next → later ≢ direct → pause_at d item later ≡ Some time → long ≤ time → false ≡ true
-    noted-at later time e = let P : ℕ → Type 0 = λ n. n ≢ direct → pause_at d item n ≡ Some time → long ≤ time → false ≡ true in subst P (sym e) (noted time)
+    noted-at later time e = let P : ℕ → Type 0 = λ n. n ≢ direct → pause_at d item n ≡ Some time → long ≤ time → false ≡ true in
+        subst P (sym e) (noted time)
 
 -- as many numbers as before
 pub noted-count : (test : Bool) (old : List ℕ) (place number : ℕ) → length (cond test (set old place number) old) ≡ length old
@@ -58,7 +68,8 @@ noted-count true old place number = entry-count old place number
 noted-count false old place number = refl
 
 -- what holds of each item of a list, by its place, and of one that is put last
-pub put-last : {A : Type 0} (P : ℕ → A → Type 0) (xs : List A) (x : A) → ((k : ℕ) (y : A) → slice_get xs k ≡ Some y → P k y) → P (length xs) x → (k : ℕ) (y : A) →
+pub put-last : {A : Type 0} (P : ℕ → A → Type 0) (xs : List A) (x : A) → ((k : ℕ) (y : A) → slice_get xs k ≡ Some y → P k y) →
+    P (length xs) x → (k : ℕ) (y : A) →
     slice_get (xs ++ x ∷ []) k ≡ Some y → P k y
 put-last P [] x f g zero y e = subst (P 0) (Some-same x y e) g
 put-last P [] x f g (suc k) y e = absurd (cc)

@@ -37,7 +37,8 @@ next-fields : (g : Group) (prices : List Price) (m : Mark) (t : Summary) (time k
     FieldsAre (next_mark g prices m time k q) (tally_after t (drive_of time q))
 next-fields g prices m t time k q limits f =
     let long : t.limits.long_pause ≡ 10800 = ap (λ (l : _). l.long_pause) limits in
-    let three : (m.three || nat_le 10800 time) ≡ (t.long || nat_le t.limits.long_pause time) = rw long (ap (λ b. b || nat_le 10800 time) f.three) in
+    let three : (m.three || nat_le 10800 time) ≡ (t.long || nat_le t.limits.long_pause time) =
+    rw long (ap (λ b. b || nat_le 10800 time) f.three) in
     either (λ (t' : Summary). FieldsAre (next_mark g prices m time k q) t') (completes_break t.quarter time) _ _
     (λ full. let same : completes_break m.quarter time ≡ true = ap (λ b. completes_break b time) f.quarter ∙ full in record {
       driving = rw same (omega arith);
@@ -53,7 +54,8 @@ next-fields g prices m t time k q limits f =
     })
 
 -- a list that leads from a mark to a later one
-pub record Follows (d : DutyFacts) (g : Group) (prices : List Price) (m : Mark) (p : Piece) (t : Summary) (list : List ℕ) (m' : Mark) : Type 0 where
+pub record Follows (d : DutyFacts) (g : Group) (prices : List Price) (m : Mark) (p : Piece) (t : Summary)
+    (list : List ℕ) (m' : Mark) : Type 0 where
   pub qs : List Piece
   pub ds : List Drive
   pub pieces : pieces_at d.pieces list ≡ Some qs
@@ -65,11 +67,13 @@ pub record Follows (d : DutyFacts) (g : Group) (prices : List Price) (m : Mark) 
   pub start : m'.start.0 ≡ m.start.0
   pub value : m'.value +ℤ price_of prices list ≡ m.value
 
-drives-more : (d : DutyFacts) (p q : Piece) (qs : List Piece) (time : ℕ) (ds : List Drive) → pause d p q ≡ Some time → drives_after d q qs ≡ Some ds →
+drives-more : (d : DutyFacts) (p q : Piece) (qs : List Piece) (time : ℕ) (ds : List Drive) → pause d p q ≡ Some time →
+    drives_after d q qs ≡ Some ds →
     drives_after d p (q ∷ qs) ≡ Some (drive_of time q ∷ ds)
 drives-more d p q qs time ds e h = rw (e, h) refl
 
-pieces-more : (pieces : List Piece) (k : ℕ) (ks : List ℕ) (q : Piece) (qs : List Piece) → slice_get pieces k ≡ Some q → pieces_at pieces ks ≡ Some qs →
+pieces-more : (pieces : List Piece) (k : ℕ) (ks : List ℕ) (q : Piece) (qs : List Piece) → slice_get pieces k ≡ Some q →
+    pieces_at pieces ks ≡ Some qs →
     pieces_at pieces (k ∷ ks) ≡ Some (q ∷ qs)
 pieces-more pieces k ks q qs e h = rw (e, h) refl
 
@@ -80,13 +84,16 @@ int_le-true off start on time n e h below = grind (arith, ints)
 true-int_le : (off start on : ℤ) (time n : ℕ) → start ≡ on → off ≡ on +ℤ pos time → int_le (off -ℤ start) (pos n) ≡ true → time ≤ n
 true-int_le off start on time n e h below = grind (arith, ints)
 
-open-fine : (g : Group) (m : Mark) (t : Summary) (end : ℤ) → t.limits ≡ limits_of g → FieldsAre m t → IsFine t → end ≤ℤ (m.start.0 +ℤ pos 54000) → is_open g m end ≡ true
+open-fine : (g : Group) (m : Mark) (t : Summary) (end : ℤ) → t.limits ≡ limits_of g → FieldsAre m t → IsFine t →
+    end ≤ℤ (m.start.0 +ℤ pos 54000) → is_open g m end ≡ true
 open-fine g m t end limits f fine below =
     let block : t.limits.block ≡ (limits_of g).block = ap (λ (l : _). l.block) limits in
     let day : t.limits.day ≡ (limits_of g).day = ap (λ (l : _). l.day) limits in
-    and_true _ _ (and_true _ _ (le-true m.driving (limits_of g).block (omega (arith, f.driving, fine.driving))) (le-true m.total (limits_of g).day (omega (arith, f.total, fine.total)))) (grind (arith, ints))
+    and_true _ _ (and_true _ _ (le-true m.driving (limits_of g).block (omega (arith, f.driving, fine.driving)))
+    (le-true m.total (limits_of g).day (omega (arith, f.total, fine.total)))) (grind (arith, ints))
 
-fine-open : (g : Group) (m : Mark) (t : Summary) (d : Drive) (end : ℤ) → t.limits ≡ limits_of g → IsFine t → FieldsAre m (tally_after t d) → is_open g m end ≡ true → IsFine (tally_after t d)
+fine-open : (g : Group) (m : Mark) (t : Summary) (d : Drive) (end : ℤ) → t.limits ≡ limits_of g → IsFine t → FieldsAre m (tally_after t d) →
+    is_open g m end ≡ true → IsFine (tally_after t d)
 fine-open g m t d end limits fine f e =
     let block : t.limits.block ≡ (limits_of g).block = ap (λ (l : _). l.block) limits in
     let day : t.limits.day ≡ (limits_of g).day = ap (λ (l : _). l.day) limits in
@@ -103,9 +110,22 @@ from-label : (d : DutyFacts) (prices : List Price) (class : ℕ) (g : Group) (li
 from-label d prices class g [] m m' p t here limits f fine e =
     let same : m ≡ m' = Some-same m m' e in
     let P : Mark → Type 0 = λ x. Follows d g prices m p t [] x in
-    subst P same (record { qs = []; ds = []; pieces = refl; drives = refl; rising = refl; piece = here; fields = f; fine = fine; start = refl; value = omega (arith, ints) })
+    subst P same (record {
+      qs = [];
+      ds = [];
+      pieces = refl;
+      drives = refl;
+      rising = refl;
+      piece = here;
+      fields = f;
+      fine = fine;
+      start =
+          refl;
+      value = omega (arith, ints);
+    })
 from-label d prices class g (k ∷ ks) m m' p t here limits f fine e =
-    elim (extended_mark d g prices m k) as (λ o. extended_mark d g prices m k ≡ o → label_after (marking d prices class g) o ks ≡ Some m' → Follows d g prices m p t (k ∷ ks) m') [
+    elim (extended_mark d g prices m k) as (λ o. extended_mark d g prices m k ≡ o → label_after (marking d prices class g) o ks ≡ Some m' →
+    Follows d g prices m p t (k ∷ ks) m') [
       | None ↦ λ is e'. absurd (cc)
       | Some x ↦ λ is e'.
           let (p1, is_p, e1) = and_then-Some _ (slice_get d.pieces m.piece) x is in
@@ -188,7 +208,8 @@ all-timed pieces (k ∷ ks) qs h e =
     subst P same (at-timed pieces k q h is_q, all-timed pieces ks rest h is_rest)
 
 -- later pieces end later
-pub ends-rise : (d : DutyFacts) (p : Piece) (qs : List Piece) (ds : List Drive) → AreTimed qs → drives_after d p qs ≡ Some ds → p.end.0 ≤ℤ (last_piece p qs).end.0
+pub ends-rise : (d : DutyFacts) (p : Piece) (qs : List Piece) (ds : List Drive) → AreTimed qs → drives_after d p qs ≡ Some ds →
+    p.end.0 ≤ℤ (last_piece p qs).end.0
 ends-rise d p [] ds h e = omega (arith, ints)
 ends-rise d p (q ∷ qs) ds h e =
     let (time, rest, is_time, is_rest, same) = drives-parts d p q qs ds e in
@@ -197,7 +218,8 @@ ends-rise d p (q ∷ qs) ds h e =
     let later = ends-rise d q qs rest h.1 is_rest in
     omega (arith, ints)
 
-drives-bounded : (d : DutyFacts) (p : Piece) (qs : List Piece) (ds : List Drive) → AreTimed qs → drives_after d p qs ≡ Some ds → AreBounded ds
+drives-bounded : (d : DutyFacts) (p : Piece) (qs : List Piece) (ds : List Drive) → AreTimed qs →
+    drives_after d p qs ≡ Some ds → AreBounded ds
 drives-bounded d p [] ds h e = let P : List Drive → Type 0 = λ l. AreBounded l in subst P (Some-same [] ds e) tt
 drives-bounded d p (q ∷ qs) ds h e =
     let (time, rest, is_time, is_rest, same) = drives-parts d p q qs ds e in
@@ -205,8 +227,10 @@ drives-bounded d p (q ∷ qs) ds h e =
     subst P same (h.0.driving, drives-bounded d q qs rest h.1 is_rest)
 
 -- each list that stays fine and ends in time has marks for all its prefixes
-onto-label : (d : DutyFacts) (prices : List Price) (class : ℕ) (g : Group) (list : List ℕ) (qs : List Piece) (ds : List Drive) (m : Mark) (p : Piece) (t : Summary) →
-    slice_get d.pieces m.piece ≡ Some p → t.limits ≡ limits_of g → FieldsAre m t → IsFine (run t ds) → AreTimed qs → (last_piece p qs).end.0 ≤ℤ (m.start.0 +ℤ pos 54000) →
+onto-label : (d : DutyFacts) (prices : List Price) (class : ℕ) (g : Group) (list : List ℕ) (qs : List Piece) (ds : List Drive)
+    (m : Mark) (p : Piece) (t : Summary) →
+    slice_get d.pieces m.piece ≡ Some p → t.limits ≡ limits_of g → FieldsAre m t → IsFine (run t ds) → AreTimed qs →
+    (last_piece p qs).end.0 ≤ℤ (m.start.0 +ℤ pos 54000) →
     pieces_at d.pieces list ≡ Some qs → drives_after d p qs ≡ Some ds → rises (m.piece ∷ list) ≡ true →
     (m' : Mark) × (label_after (marking d prices class g) (Some m) list ≡ Some m')
 onto-label d prices class g [] qs ds m p t here limits f fine timed in_time is_qs is_ds up = (m, refl)
@@ -231,14 +255,16 @@ onto-label d prices class g (k ∷ ks) (q ∷ qs) (x ∷ ds) m p t here limits f
     let ends = ends-rise d q qs ds timed.1 is_ds' in
     let open_next = open-fine g (next_mark g prices m time k q) t' q.end.0 limits' f' fine' (omega (arith, ints)) in
     let made = extended-is d g prices m k time p q here is_q is_time (and_true _ _ later open_next) in
-    let (m', e) = onto-label d prices class g ks qs ds (next_mark g prices m time k q) q t' is_q limits' f' fine_end timed.1 in_time is_qs' is_ds' rising in
+    let (m', e) = onto-label d prices class g ks qs ds (next_mark g prices m time k q) q t' is_q limits' f' fine_end timed.1
+    in_time is_qs' is_ds' rising in
     (m', ap (λ o. label_after (marking d prices class g) o ks) made ∙ e)
 
 first-fields : (counts : Bool) (prices : List Price) (class : ℕ) (g : Group) (k : ℕ) (p : Piece) (on : ℤ) →
     FieldsAre (one_mark counts prices class g k p on) (tally_after (no_drives (limits_of g)) (drive_of 0 p))
 first-fields counts prices class g k p on = record { driving = omega arith; quarter = refl; total = omega arith; three = refl }
 
-first-fine : (g : Group) (p : Piece) → p.driving ≤ (limits_of g).block → p.driving ≤ (limits_of g).day → IsFine (tally_after (no_drives (limits_of g)) (drive_of 0 p))
+first-fine : (g : Group) (p : Piece) → p.driving ≤ (limits_of g).block → p.driving ≤ (limits_of g).day →
+    IsFine (tally_after (no_drives (limits_of g)) (drive_of 0 p))
 first-fine g p block day = record { none = refl; driving = omega arith; total = omega arith }
 
 limit-low : (three reduced : Bool) → cond three 54000 (cond reduced 54000 46800) ≤ 54000
@@ -252,7 +278,8 @@ suc-times n m = omega arith
 product : (rate time : ℕ) (on : ℤ) → pos rate *ℤ (on +ℤ pos time) ≡ (pos rate *ℤ on) +ℤ pos (rate * time)
 product zero time on = omega (arith, ints)
 product (suc rate) time on =
-    let both : pos (suc rate) *ℤ (on +ℤ pos time) ≡ pos rate *ℤ (on +ℤ pos time) +ℤ (on +ℤ pos time) = suc_ℤ-*ℤ (pos rate) (on +ℤ pos time) in
+    let both : pos (suc rate) *ℤ (on +ℤ pos time) ≡ pos rate *ℤ (on +ℤ pos time) +ℤ (on +ℤ pos time) =
+    suc_ℤ-*ℤ (pos rate) (on +ℤ pos time) in
     let one : pos (suc rate) *ℤ on ≡ pos rate *ℤ on +ℤ on = suc_ℤ-*ℤ (pos rate) on in
     let more : suc rate * time ≡ rate * time + time = suc-times rate time in
     omega (arith, ints, product rate time on)
@@ -268,12 +295,15 @@ value-sum false fixed rate time on off price rest last e h =
 abbrev pub all_time : DutyFacts → Group → Piece → List Piece → List Drive → Summary
 all_time d g p qs ds = run (tally_after (no_drives (limits_of g)) (drive_of 0 p)) ds
 
-all-stands : (d : DutyFacts) (g : Group) (p : Piece) (qs : List Piece) (ds : List Drive) → AreTimed (p ∷ qs) → drives_after d p qs ≡ Some ds →
+all-stands : (d : DutyFacts) (g : Group) (p : Piece) (qs : List Piece) (ds : List Drive) → AreTimed (p ∷ qs) →
+    drives_after d p qs ≡ Some ds →
     StandsFor (all_time d g p qs ds) (drive_of 0 p ∷ ds)
-all-stands d g p qs ds timed is_ds = run-stands (limits_of g) (drive_of 0 p) ds refl (timed.0.driving, drives-bounded d p qs ds timed.1 is_ds)
+all-stands d g p qs ds timed is_ds =
+    run-stands (limits_of g) (drive_of 0 p) ds refl (timed.0.driving, drives-bounded d p qs ds timed.1 is_ds)
 
 all-limits : (d : DutyFacts) (g : Group) (p : Piece) (qs : List Piece) (ds : List Drive) → (all_time d g p qs ds).limits ≡ limits_of g
-all-limits d g p qs ds = run-limits (tally_after (no_drives (limits_of g)) (drive_of 0 p)) ds ∙ after-limits (no_drives (limits_of g)) (drive_of 0 p)
+all-limits d g p qs ds =
+    run-limits (tally_after (no_drives (limits_of g)) (drive_of 0 p)) ds ∙ after-limits (no_drives (limits_of g)) (drive_of 0 p)
 
 pub off-is : (d : DutyFacts) (g : Group) (p : Piece) (off : ℤ) → sign_off d g p ≡ Some off → p.end.0 ≤ℤ off
 off-is d g p off e =
@@ -291,24 +321,30 @@ first-is : (d : DutyFacts) (prices : List Price) (class : ℕ) (g : Group) (k : 
 first-is d prices class g k p on is_p is_on test = rw (is_p, is_on, test) refl
 
 -- a mark with the fields of a list's tally closes where the list is lawful, and only there
-close-fields : (g : Group) (m : Mark) (t : Summary) (off on : ℤ) (time : ℕ) → t.limits ≡ limits_of g → FieldsAre m t → IsFine t → m.start.0 ≡ on → off ≡ on +ℤ pos time →
+close-fields : (g : Group) (m : Mark) (t : Summary) (off on : ℤ) (time : ℕ) → t.limits ≡ limits_of g → FieldsAre m t → IsFine t →
+    m.start.0 ≡ on → off ≡ on +ℤ pos time →
     time ≤ cond t.long t.limits.long_spread t.limits.spread → closes_lawfully g m off ≡ true
 close-fields g m t off on time limits f fine start is_time below =
     let block : t.limits.block ≡ (limits_of g).block = ap (λ (l : _). l.block) limits in
     let day : t.limits.day ≡ (limits_of g).day = ap (λ (l : _). l.day) limits in
     let spread : cond t.long t.limits.long_spread t.limits.spread ≡ cond m.three (limits_of g).long_spread (limits_of g).spread =
-    ap (λ (l : _). cond t.long l.long_spread l.spread) limits ∙ ap (λ b. cond b (limits_of g).long_spread (limits_of g).spread) (sym f.three) in
+    ap (λ (l : _). cond t.long l.long_spread l.spread) limits
+    ∙ ap (λ b. cond b (limits_of g).long_spread (limits_of g).spread) (sym f.three) in
     let within : time ≤ cond m.three (limits_of g).long_spread (limits_of g).spread = omega arith in
-    and_true _ _ (and_true _ _ (le-true m.driving (limits_of g).block (omega (arith, f.driving, fine.driving))) (le-true m.total (limits_of g).day (omega (arith, f.total, fine.total))))
+    and_true _ _ (and_true _ _ (le-true m.driving (limits_of g).block (omega (arith, f.driving, fine.driving)))
+    (le-true m.total (limits_of g).day (omega (arith, f.total, fine.total))))
     (int_le-true _ _ _ _ _ start is_time within)
 
-fields-close : (g : Group) (m : Mark) (t : Summary) (off on : ℤ) (time : ℕ) → t.limits ≡ limits_of g → FieldsAre m t → m.start.0 ≡ on → off ≡ on +ℤ pos time →
+fields-close : (g : Group) (m : Mark) (t : Summary) (off on : ℤ) (time : ℕ) → t.limits ≡ limits_of g → FieldsAre m t →
+    m.start.0 ≡ on → off ≡ on +ℤ pos time →
     closes_lawfully g m off ≡ true → time ≤ cond t.long t.limits.long_spread t.limits.spread
 fields-close g m t off on time limits f start is_time e =
     let spread : cond t.long t.limits.long_spread t.limits.spread ≡ cond m.three (limits_of g).long_spread (limits_of g).spread =
-    ap (λ (l : _). cond t.long l.long_spread l.spread) limits ∙ ap (λ b. cond b (limits_of g).long_spread (limits_of g).spread) (sym f.three) in
+    ap (λ (l : _). cond t.long l.long_spread l.spread) limits
+    ∙ ap (λ b. cond b (limits_of g).long_spread (limits_of g).spread) (sym f.three) in
     let (low, last) = both_true _ _ e in
-    let within : time ≤ cond m.three (limits_of g).long_spread (limits_of g).spread = true-int_le off m.start.0 on time _ start is_time last in
+    let within : time ≤ cond m.three (limits_of g).long_spread (limits_of g).spread =
+    true-int_le off m.start.0 on time _ start is_time last in
     omega arith
 
 abbrev pub duty_from : Group → Piece → List Drive → ℤ → ℤ → ℕ → Duty
@@ -354,7 +390,8 @@ span-from on off time e = let is = seconds-is (off -ℤ on) time e in omega (ari
 
 abbrev timed_duty : DutyFacts → Group → List Piece → List Drive → Option Duty
 timed_duty d g ps drives =
-    option_and_then (λ on. option_and_then (λ off. option_and_then (λ spread. Some (record { group = g; drives = drives; on = on; off = off; spread = spread }))
+    option_and_then (λ on. option_and_then
+    (λ off. option_and_then (λ spread. Some (record { group = g; drives = drives; on = on; off = off; spread = spread }))
     (seconds (off -ℤ on))) (ends d g ps)) (begins d g ps)
 
 duty-last : (d : DutyFacts) (g : Group) (k : ℕ) (ks : List ℕ) (duty : Duty) (p : Piece) (qs : List Piece) (ds : List Drive) →
@@ -382,7 +419,8 @@ duty-last d g k ks duty p qs ds up is_p is_qs is_ds e =
     }
 
 duty-list : (d : DutyFacts) (g : Group) (k : ℕ) (ks : List ℕ) (duty : Duty) → rises (k ∷ ks) ≡ true →
-    option_and_then (λ ps. option_and_then (timed_duty d g ps) (drives_of d ps)) (pieces_at d.pieces (k ∷ ks)) ≡ Some duty → IsDuty d g k ks duty
+    option_and_then (λ ps. option_and_then (timed_duty d g ps) (drives_of d ps)) (pieces_at d.pieces (k ∷ ks)) ≡ Some duty →
+    IsDuty d g k ks duty
 duty-list d g k ks duty up e =
     let (ps, is_ps, e2) = and_then-Some _ (pieces_at d.pieces (k ∷ ks)) duty e in
     let (p, qs, is_p, is_qs, same_ps) = pieces-parts d.pieces k ks ps is_ps in
@@ -399,14 +437,17 @@ duty-parts d class g k ks duty is_g e =
     let (up, e0) = given-Some _ _ duty e in
     let (g0, is_g0, e1) = and_then-Some _ (slice_get d.params.groups class) duty e0 in
     let same_g : g0 ≡ g = Some-same g0 g (sym is_g0 ∙ is_g) in
-    let P : Group → Type 0 = λ x. option_and_then (λ ps. option_and_then (timed_duty d x ps) (drives_of d ps)) (pieces_at d.pieces (k ∷ ks)) ≡ Some duty in
+    let P : Group → Type 0 =
+    λ x. option_and_then (λ ps. option_and_then (timed_duty d x ps) (drives_of d ps)) (pieces_at d.pieces (k ∷ ks)) ≡ Some duty in
     duty-list d g k ks duty up (subst P same_g e1)
 
 pub parts-duty : (d : DutyFacts) (class : ℕ) (g : Group) (k : ℕ) (ks : List ℕ) (duty : Duty) → slice_get d.params.groups class ≡ Some g →
     IsDuty d g k ks duty → duty_of d class (k ∷ ks) ≡ Some duty
 parts-duty d class g k ks duty is_g x =
-    let up = x.rising in let first = x.first in let pieces = x.pieces in let drives = x.drives in let on = x.sign_on_is in let off = x.sign_off_is in let span = x.span in let same = x.same in
-    let there : duty_of d class (k ∷ ks) ≡ Some (duty_from g x.p x.ds x.on x.off x.time) = rw (up, is_g, first, pieces, drives, on, off, span) refl in
+    let up = x.rising in let first = x.first in let pieces = x.pieces in let drives = x.drives in let on = x.sign_on_is in
+    let off = x.sign_off_is in let span = x.span in let same = x.same in
+    let there : duty_of d class (k ∷ ks) ≡ Some (duty_from g x.p x.ds x.on x.off x.time) =
+    rw (up, is_g, first, pieces, drives, on, off, span) refl in
     there ∙ ap (λ (y : Duty). Some y) same
 
 pub parts-worth : (d : DutyFacts) (class : ℕ) (g : Group) (k : ℕ) (ks : List ℕ) (worth : ℕ) → slice_get d.params.groups class ≡ Some g →
@@ -415,7 +456,8 @@ parts-worth d class g k ks worth is_g e =
     let (duty, is_duty, e1) = and_then-Some _ (duty_of d class (k ∷ ks)) worth e in
     let x = duty-parts d class g k ks duty is_g is_duty in
     let P : Duty → Type 0 = λ y. given (is_lawful (limits_of y.group) y.drives y.spread) (Some (cost_of d.counts y)) ≡ Some worth in
-    let e2 : given (is_lawful (limits_of g) (drive_of 0 x.p ∷ x.ds) x.time) (Some (cond d.counts 1 (g.fixed + g.rate * x.time))) ≡ Some worth = subst P (sym x.same) e1 in
+    let e2 : given (is_lawful (limits_of g) (drive_of 0 x.p ∷ x.ds) x.time) (Some (cond d.counts 1 (g.fixed + g.rate * x.time)))
+    ≡ Some worth = subst P (sym x.same) e1 in
     let (lawful, e3) = given-Some _ _ worth e2 in
     record {
       p = x.p;
@@ -459,16 +501,20 @@ worth-parts d class g k ks worth is_g x =
     rw (there, lawful, worth_is) refl
 
 -- the tally and the marks of a lawful list
-record Ends (d : DutyFacts) (prices : List Price) (class : ℕ) (g : Group) (k : ℕ) (ks : List ℕ) (p : Piece) (qs : List Piece) (ds : List Drive) (on : ℤ) : Type 0 where
+record Ends (d : DutyFacts) (prices : List Price) (class : ℕ) (g : Group) (k : ℕ) (ks : List ℕ) (p : Piece) (qs : List Piece)
+    (ds : List Drive) (on : ℤ) : Type 0 where
   last : Mark
   label_is : label_of (marking d prices class g) (k ∷ ks) ≡ Some last
   here : slice_get d.pieces last.piece ≡ Some (last_piece p qs)
   fields : FieldsAre last (all_time d g p qs ds)
   start : last.start.0 ≡ on
-  value : last.value +ℤ price_of prices ks ≡ (cond d.counts (pos 1000) (pos 1000 *ℤ (pos g.fixed -ℤ (pos g.rate *ℤ on))) -ℤ price_at prices k)
+  value : last.value +ℤ price_of prices ks
+      ≡ (cond d.counts (pos 1000) (pos 1000 *ℤ (pos g.fixed -ℤ (pos g.rate *ℤ on))) -ℤ price_at prices k)
 
-ends-of : (d : DutyFacts) (prices : List Price) (class : ℕ) (g : Group) (k : ℕ) (ks : List ℕ) (p : Piece) (qs : List Piece) (ds : List Drive) (on : ℤ) →
-    slice_get d.pieces k ≡ Some p → pieces_at d.pieces ks ≡ Some qs → drives_after d p qs ≡ Some ds → rises (k ∷ ks) ≡ true → sign_on d g p ≡ Some on →
+ends-of : (d : DutyFacts) (prices : List Price) (class : ℕ) (g : Group) (k : ℕ) (ks : List ℕ) (p : Piece) (qs : List Piece)
+    (ds : List Drive) (on : ℤ) →
+    slice_get d.pieces k ≡ Some p → pieces_at d.pieces ks ≡ Some qs → drives_after d p qs ≡ Some ds → rises (k ∷ ks) ≡ true →
+    sign_on d g p ≡ Some on →
     AreTimed qs → IsFine (all_time d g p qs ds) → (last_piece p qs).end.0 ≤ℤ (on +ℤ pos 54000) →
     Ends d prices class g k ks p qs ds on
 ends-of d prices class g k ks p qs ds on is_p is_qs is_ds up is_on timed fine in_time =
@@ -495,13 +541,16 @@ ends-of d prices class g k ks p qs ds on is_p is_qs is_ds up is_on timed fine in
       value = found.value;
     }
 
-short : (t : Summary) (g : Group) (time : ℕ) → t.limits ≡ limits_of g → time ≤ cond t.long t.limits.long_spread t.limits.spread → time ≤ 54000
+short : (t : Summary) (g : Group) (time : ℕ) → t.limits ≡ limits_of g →
+    time ≤ cond t.long t.limits.long_spread t.limits.spread → time ≤ 54000
 short t g time limits below =
-    let spread_is : cond t.long t.limits.long_spread t.limits.spread ≡ cond t.long 54000 (cond g.reduced 54000 46800) = ap (λ (l : Limits). cond t.long l.long_spread l.spread) limits in
+    let spread_is : cond t.long t.limits.long_spread t.limits.spread ≡ cond t.long 54000 (cond g.reduced 54000 46800) =
+    ap (λ (l : Limits). cond t.long l.long_spread l.spread) limits in
     let low = limit-low t.long g.reduced in
     omega arith
 
-parts-close : (d : DutyFacts) (prices : List Price) (class : ℕ) (g : Group) (k : ℕ) (ks : List ℕ) (worth : ℕ) → AreTimed d.pieces → DutyParts d g k ks worth →
+parts-close : (d : DutyFacts) (prices : List Price) (class : ℕ) (g : Group) (k : ℕ) (ks : List ℕ) (worth : ℕ) → AreTimed d.pieces →
+    DutyParts d g k ks worth →
     (m : Mark) × (label_of (marking d prices class g) (k ∷ ks) ≡ Some m) × (closed_value d g m ≡ Some (value_of prices worth (k ∷ ks)))
 parts-close d prices class g k ks worth timed x =
     let timed_p = at-timed d.pieces k x.p timed x.first in
@@ -517,24 +566,32 @@ parts-close d prices class g k ks worth timed x =
     let in_time : (last_piece x.p x.qs).end.0 ≤ℤ (x.on +ℤ pos 54000) = omega (arith, ints) in
     let e = ends-of d prices class g k ks x.p x.qs x.ds x.on x.first x.pieces x.drives x.rising x.sign_on_is timed_qs fine in_time in
     let closes = close-fields g e.last t x.off x.on x.time limits e.fields fine e.start x.span below in
-    let sum = value-sum d.counts g.fixed g.rate x.time x.on x.off (price_at prices k) (price_of prices ks) e.last.value x.span e.value in
-    (e.last, e.label_is, closed-is d g e.last (last_piece x.p x.qs) x.off e.here x.sign_off_is closes ∙ ap Some (sum ∙ ap (λ n. value_of prices n (k ∷ ks)) x.worth_is))
+    let sum = value-sum d.counts g.fixed g.rate x.time x.on x.off (price_at prices k) (price_of prices ks) e.last.value x.span e.value in (
+      e.last,
+      e.label_is,
+      closed-is d g e.last (last_piece x.p x.qs) x.off e.here x.sign_off_is closes
+          ∙ ap Some (sum ∙ ap (λ n. value_of prices n (k ∷ ks)) x.worth_is),
+    )
 
-none-after : (f : Duty → Option ℕ) (o : Option Group) (worth : ℕ) → option_and_then f (option_and_then {T = Group} {U = Duty} (λ g. None) o) ≡ Some worth → ⊥
+none-after : (f : Duty → Option ℕ) (o : Option Group) (worth : ℕ) →
+    option_and_then f (option_and_then {T = Group} {U = Duty} (λ g. None) o) ≡ Some worth → ⊥
 none-after f None worth e = absurd (cc)
 none-after f (Some g) worth e = absurd (cc)
 
 -- no duty is empty
 pub none-empty : (d : DutyFacts) (class worth : ℕ) → duty_worth d class [] ≡ Some worth → ⊥
 none-empty d class worth e =
-    none-after (λ (duty : Duty). given (is_lawful (limits_of duty.group) duty.drives duty.spread) (Some (cost_of d.counts duty))) (slice_get d.params.groups class) worth e
+    none-after (λ (duty : Duty). given (is_lawful (limits_of duty.group) duty.drives duty.spread) (Some (cost_of d.counts duty)))
+    (slice_get d.params.groups class) worth e
 
 -- a list with a worth has a mark that closes
-pub worth-closes : (d : DutyFacts) (prices : List Price) (class : ℕ) (g : Group) → slice_get d.params.groups class ≡ Some g → AreTimed d.pieces →
+pub worth-closes : (d : DutyFacts) (prices : List Price) (class : ℕ) (g : Group) →
+    slice_get d.params.groups class ≡ Some g → AreTimed d.pieces →
     (list : List ℕ) (worth : ℕ) → duty_worth d class list ≡ Some worth →
     (m : Mark) × (label_of (marking d prices class g) list ≡ Some m) × (closed_value d g m ≡ Some (value_of prices worth list))
 worth-closes d prices class g is_g timed [] worth e = absurd (none-empty d class worth e)
-worth-closes d prices class g is_g timed (k ∷ ks) worth e = parts-close d prices class g k ks worth timed (parts-worth d class g k ks worth is_g e)
+worth-closes d prices class g is_g timed (k ∷ ks) worth e =
+    parts-close d prices class g k ks worth timed (parts-worth d class g k ks worth is_g e)
 
 span-exists : (on off : ℤ) → on ≤ℤ off → (time : ℕ) × (off ≡ on +ℤ pos time)
 span-exists on off h = elim (off -ℤ on) as (λ z. off -ℤ on ≡ z → (time : ℕ) × (off ≡ on +ℤ pos time)) [
@@ -543,14 +600,16 @@ span-exists on off h = elim (off -ℤ on) as (λ z. off -ℤ on ≡ z → (time 
 ] refl
 
 first-parts : (d : DutyFacts) (prices : List Price) (class : ℕ) (g : Group) (k : ℕ) (m : Mark) → first_mark d prices class g k ≡ Some m →
-    (p : Piece) × (on : ℤ) × (slice_get d.pieces k ≡ Some p) × (sign_on d g p ≡ Some on) × (is_open g (one_mark d.counts prices class g k p on) p.end.0 ≡ true) × (one_mark d.counts prices class g k p on ≡ m)
+    (p : Piece) × (on : ℤ) × (slice_get d.pieces k ≡ Some p) × (sign_on d g p ≡ Some on)
+    × (is_open g (one_mark d.counts prices class g k p on) p.end.0 ≡ true) × (one_mark d.counts prices class g k p on ≡ m)
 first-parts d prices class g k m e =
     let (p, is_p, e1) = and_then-Some _ (slice_get d.pieces k) m e in
     let (on, is_on, e2) = and_then-Some _ (sign_on d g p) m e1 in
     let (test, made) = given-Some _ _ m e2 in
     (p, on, is_p, is_on, test, Some-same _ m made)
 
-open-first : (g : Group) (m : Mark) (p : Piece) (end : ℤ) → m.driving ≡ p.driving → m.total ≡ p.driving → is_open g m end ≡ true → IsFine (tally_after (no_drives (limits_of g)) (drive_of 0 p))
+open-first : (g : Group) (m : Mark) (p : Piece) (end : ℤ) → m.driving ≡ p.driving → m.total ≡ p.driving → is_open g m end ≡ true →
+    IsFine (tally_after (no_drives (limits_of g)) (drive_of 0 p))
 open-first g m p end driving total e =
     let (low, last) = both_true _ _ e in
     let (less, few) = both_true _ _ low in
@@ -559,14 +618,16 @@ open-first g m p end driving total e =
     first-fine g p (omega arith) (omega arith)
 
 -- a list whose label is a mark, in parts
-closes-parts : (d : DutyFacts) (prices : List Price) (class : ℕ) (g : Group) (k : ℕ) (ks : List ℕ) (m : Mark) (v : ℤ) (p : Piece) (on : ℤ) → AreTimed d.pieces →
+closes-parts : (d : DutyFacts) (prices : List Price) (class : ℕ) (g : Group) (k : ℕ) (ks : List ℕ) (m : Mark) (v : ℤ) (p : Piece) (on : ℤ) →
+    AreTimed d.pieces →
     slice_get d.pieces k ≡ Some p → sign_on d g p ≡ Some on → IsFine (tally_after (no_drives (limits_of g)) (drive_of 0 p)) →
     label_after (marking d prices class g) (Some (one_mark d.counts prices class g k p on)) ks ≡ Some m → closed_value d g m ≡ Some v →
     (worth : ℕ) × DutyParts d g k ks worth × (v ≡ value_of prices worth (k ∷ ks))
 closes-parts d prices class g k ks m v p on timed is_p is_on fine1 e c =
     let t1 : Summary = tally_after (no_drives (limits_of g)) (drive_of 0 p) in
     let m1 : Mark = one_mark d.counts prices class g k p on in
-    let found : Follows d g prices m1 p t1 ks m = from-label d prices class g ks m1 m p t1 is_p refl (first-fields d.counts prices class g k p on) fine1 e in
+    let found : Follows d g prices m1 p t1 ks m =
+    from-label d prices class g ks m1 m p t1 is_p refl (first-fields d.counts prices class g k p on) fine1 e in
     let (last, is_last, c1) = and_then-Some _ (slice_get d.pieces m.piece) v c in
     let (off, is_off, c2) = and_then-Some _ (sign_off d g last) v c1 in
     let (test, made) = given-Some _ _ v c2 in
@@ -585,7 +646,8 @@ closes-parts d prices class g k ks m v p on timed is_p is_on fine1 e c =
     let below = fields-close g m t off on time limits found.fields found.start span test in
     let stands : StandsFor t (drive_of 0 p ∷ found.ds) = all-stands d g p found.qs found.ds (timed_p, timed_qs) found.drives in
     let S : Limits → Type 0 = λ l. is_lawful l (drive_of 0 p ∷ found.ds) time ≡ true in
-    let lawful : is_lawful (limits_of g) (drive_of 0 p ∷ found.ds) time ≡ true = subst S limits (lawful-onto t (drive_of 0 p ∷ found.ds) time stands found.fine below) in
+    let lawful : is_lawful (limits_of g) (drive_of 0 p ∷ found.ds) time ≡ true =
+    subst S limits (lawful-onto t (drive_of 0 p ∷ found.ds) time stands found.fine below) in
     let sum = value-sum d.counts g.fixed g.rate time on off (price_at prices k) (price_of prices ks) m.value span found.value in (
       cond d.counts 1 (g.fixed + g.rate * time),
       record {
@@ -609,7 +671,8 @@ closes-parts d prices class g k ks m v p on timed is_p is_on fine1 e c =
     )
 
 -- a list whose mark closes has a worth, and closes with its value
-pub closes-worth : (d : DutyFacts) (prices : List Price) (class : ℕ) (g : Group) → slice_get d.params.groups class ≡ Some g → AreTimed d.pieces →
+pub closes-worth : (d : DutyFacts) (prices : List Price) (class : ℕ) (g : Group) →
+    slice_get d.params.groups class ≡ Some g → AreTimed d.pieces →
     (list : List ℕ) (m : Mark) (v : ℤ) → label_of (marking d prices class g) list ≡ Some m → closed_value d g m ≡ Some v →
     (worth : ℕ) × (duty_worth d class list ≡ Some worth) × (v ≡ value_of prices worth list)
 closes-worth d prices class g is_g timed [] m v e c = absurd (cc)
@@ -620,6 +683,8 @@ closes-worth d prices class g is_g timed (k ∷ ks) m v e c =
       | Some m1 ↦ λ is e'.
           let (p, on, is_p, is_on, test, same) = first-parts d prices class g k m1 is in
           let L : Mark → Type 0 = λ x. label_after (marking d prices class g) (Some x) ks ≡ Some m in
-          let (worth, parts, value) = closes-parts d prices class g k ks m v p on timed is_p is_on (open-first g (one_mark d.counts prices class g k p on) p p.end.0 refl refl test) (subst L (sym same) e') c in
+          let (worth, parts, value) =
+          closes-parts d prices class g k ks m v p on timed is_p is_on
+          (open-first g (one_mark d.counts prices class g k p on) p p.end.0 refl refl test) (subst L (sym same) e') c in
           (worth, worth-parts d class g k ks worth is_g parts, value)
     ] refl e

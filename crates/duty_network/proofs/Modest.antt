@@ -22,7 +22,8 @@ group-at (x ∷ xs) zero g all is = let P : Group → Type 0 = IsGroup in subst 
 group-at (x ∷ xs) (suc i) g all is = group-at xs i g (All-tail IsGroup x xs all) is
 
 timed-group : (d : DutyFacts) (g : Group) (ps : List Piece) (drives : List Drive) (duty : Duty) →
-    option_and_then (λ (on : ℤ). option_and_then (λ (off : ℤ). option_and_then (λ (spread : ℕ). Some (record { group = g; drives = drives; on = on; off = off; spread = spread }))
+    option_and_then (λ (on : ℤ). option_and_then
+    (λ (off : ℤ). option_and_then (λ (spread : ℕ). Some (record { group = g; drives = drives; on = on; off = off; spread = spread }))
     (seconds (off -ℤ on))) (ends d g ps)) (begins d g ps) ≡ Some duty → g ≡ duty.group
 timed-group d g ps drives duty e =
     let (on, is_on, e1) = and_then-Some _ (begins d g ps) duty e in
@@ -30,7 +31,8 @@ timed-group d g ps drives duty e =
     let (spread, is_spread, e3) = and_then-Some _ (seconds (off -ℤ on)) duty e2 in
     ap (λ (x : Duty). x.group) (Some-same _ duty e3)
 
-duty-group : (d : DutyFacts) (class : ℕ) (list : List ℕ) (duty : Duty) → duty_of d class list ≡ Some duty → slice_get d.params.groups class ≡ Some duty.group
+duty-group : (d : DutyFacts) (class : ℕ) (list : List ℕ) (duty : Duty) → duty_of d class list ≡ Some duty →
+    slice_get d.params.groups class ≡ Some duty.group
 duty-group d class list duty e =
     let (up, e1) = given-Some _ _ duty e in
     let (g, is_g, e2) = and_then-Some _ (slice_get d.params.groups class) duty e1 in
@@ -58,10 +60,13 @@ duty-low d class list fits = low (duty_worth d class list) refl
         let (duty, is_duty, e1) = and_then-Some _ (duty_of d class list) worth e in
         let limits : Limits = limits_of duty.group in
         let (lawful, same) = given-Some (is_lawful limits duty.drives duty.spread) (Some (cost_of d.counts duty)) worth e1 in
-        let (rest, spread) = both_true (nat_le (driving_of duty.drives) limits.day && keeps_article7 limits duty.drives) (nat_le duty.spread (spread_limit limits duty.drives)) lawful in
+        let (rest, spread) = both_true (nat_le (driving_of duty.drives) limits.day && keeps_article7 limits duty.drives)
+        (nat_le duty.spread (spread_limit limits duty.drives)) lawful in
         let short : duty.spread ≤ spread_limit limits duty.drives = true-le duty.spread (spread_limit limits duty.drives) spread in
         let most = spread-low duty.group duty.drives in
-        let cheap = cost-low d.counts duty (group-at d.params.groups class duty.group fits.params.groups (duty-group d class list duty is_duty)) (omega (arith, short, most)) in
+        let cheap = cost-low d.counts duty
+        (group-at d.params.groups class duty.group fits.params.groups (duty-group d class list duty is_duty))
+        (omega (arith, short, most)) in
         let is : cost_of d.counts duty ≡ worth = Some-same _ worth same in
         omega (arith, cheap, is)
 
@@ -73,4 +78,5 @@ modest_duties d fits class list there = duty-low d class list fits
 pub few_drivers : (d : DutyFacts) → NetFits d → HasFewPlaces (duties d)
 few_drivers d fits =
     let groups = d.params.groups in
-    All-map (λ cap. cap ≤ 10000) (λ (g : Group). g.cap) groups (All-weaker IsGroup (λ (g : Group). g.cap ≤ 10000) (λ g is. is.cap) groups fits.params.groups)
+    All-map (λ cap. cap ≤ 10000) (λ (g : Group). g.cap) groups
+    (All-weaker IsGroup (λ (g : Group). g.cap ≤ 10000) (λ g is. is.cap) groups fits.params.groups)

@@ -57,7 +57,9 @@ found-time test (x ∷ xs) n h e =
 -- no way takes more than two days
 pub way-short : (params : ParamRows) (a b : Point) (n : ℕ) → All IsTimedWay params.ways → way_in params a b ≡ Some n → n ≤ 172800
 way-short params a b n h e =
-    elim (point_eq a b) as (λ t. (if t then Some 0 else option_map time_of (find (λ (way : Way). point_eq way.from a && point_eq way.to b) params.ways)) ≡ Some n → n ≤ 172800) [
+    elim (point_eq a b) as (λ t.
+    (if t then Some 0 else option_map time_of (find (λ (way : Way). point_eq way.from a && point_eq way.to b) params.ways)) ≡ Some n →
+    n ≤ 172800) [
       | true ↦ λ f. let same : 0 ≡ n = Some-same 0 n f in omega arith
       | false ↦ λ f. found-time (λ (way : Way). point_eq way.from a && point_eq way.to b) params.ways n h f
     ] e
@@ -102,7 +104,8 @@ open-fits g m end e =
     let most = day-most g.ten in
     (less, omega arith)
 
-pub on-fits : (d : DutyFacts) (g : Group) (p : Piece) (on : ℤ) → NetFits d → IsGroup g → IsShift p → sign_on d g p ≡ Some on → (neg_ℤ (pos 345600) ≤ℤ on) × (on ≤ℤ pos 345600)
+pub on-fits : (d : DutyFacts) (g : Group) (p : Piece) (on : ℤ) → NetFits d → IsGroup g → IsShift p → sign_on d g p ≡ Some on →
+    (neg_ℤ (pos 345600) ≤ℤ on) × (on ≤ℤ pos 345600)
 on-fits d g p on f m s e =
     let (way, is_way, e1) = and_then-Some _ (way_in d.params g.home p.from) on e in
     let same : p.begin.0 -ℤ pos way -ℤ pos g.sign_on ≡ on = Some-same _ on e1 in
@@ -110,7 +113,8 @@ on-fits d g p on f m s e =
     let begins = s.begins in let order = s.order in let ends = s.ends in let before = m.sign_on in
     (omega (arith, ints), omega (arith, ints))
 
-pub marking-safe : (d : DutyFacts) (prices : List Price) (class : ℕ) (g : Group) → NetFits d → IsGroup g → AllWithin 10000000000000 prices → IsSafe (marking d prices class g) (MarkFits (length d.pieces))
+pub marking-safe : (d : DutyFacts) (prices : List Price) (class : ℕ) (g : Group) → NetFits d → IsGroup g → AllWithin 10000000000000 prices →
+    IsSafe (marking d prices class g) (MarkFits (length d.pieces))
 marking-safe d prices class g f modest w = record {
   starts = λ k m e.
       let (p, is_p, e1) = and_then-Some _ (slice_get d.pieces k) m e in
@@ -124,7 +128,18 @@ marking-safe d prices class g f modest w = record {
       let below = at-below d.pieces k p is_p in
       let few = f.few in
       let P : Mark → Type 0 = λ x. MarkFits (length d.pieces) x in
-      let fits : MarkFits (length d.pieces) first = record { piece = omega arith; few = f.few; early = early; late = late; driving = driving; total = total; low = omega (arith, ints); high = omega (arith, ints) } in
+      let fits : MarkFits (length d.pieces) first =
+      record {
+        piece = omega arith;
+        few = f.few;
+        early = early;
+        late = late;
+        driving = driving;
+        total = total;
+        low =
+            omega (arith, ints);
+        high = omega (arith, ints);
+      } in
       subst P (Some-same first m made) fits;
   steps = λ a b k h e.
       let (p, is_p, e1) = and_then-Some _ (slice_get d.pieces a.piece) b e in
@@ -140,6 +155,16 @@ marking-safe d prices class g f modest w = record {
       let few = f.few in
       let low = h.low in let high = h.high in
       let P : Mark → Type 0 = λ x. MarkFits (length d.pieces) x in
-      let fits : MarkFits (length d.pieces) next = record { piece = omega arith; few = f.few; early = h.early; late = h.late; driving = driving; total = total; low = omega (arith, ints); high = omega (arith, ints) } in
+      let fits : MarkFits (length d.pieces) next = record {
+        piece = omega arith;
+        few = f.few;
+        early = h.early;
+        late = h.late;
+        driving =
+            driving;
+        total = total;
+        low = omega (arith, ints);
+        high = omega (arith, ints);
+      } in
       subst P (Some-same next b made) fits;
 }

@@ -82,21 +82,27 @@ test-good a b e =
 pub good-test : (a b : Mark) → IsAtLeastAsGood a b → is_as_good a b ≡ true
 good-test a b g =
     and_true _ _ (and_true _ _ (and_true _ _ (and_true _ _ (and_true _ _ (and_true _ _ (and_true _ _
-    (eq-onto a.class b.class g.class) (eq-onto a.piece b.piece g.piece)) (int-onto b.start.0 a.start.0 g.start)) (le-onto a.driving b.driving g.driving))
-    (bits-same a.quarter b.quarter g.quarter)) (le-onto a.total b.total g.total)) (bit-has a.three b.three g.three)) (int-onto a.value b.value g.value)
+    (eq-onto a.class b.class g.class) (eq-onto a.piece b.piece g.piece)) (int-onto b.start.0 a.start.0 g.start))
+    (le-onto a.driving b.driving g.driving))
+    (bits-same a.quarter b.quarter g.quarter)) (le-onto a.total b.total g.total)) (bit-has a.three b.three g.three))
+    (int-onto a.value b.value g.value)
 
 pub test-kept : (d : DutyFacts) (prices : List Price) (class : ℕ) (g : Group) → IsKept (marking d prices class g) (GoodAs is_as_good)
 test-kept d prices class g = kept-by (marking d prices class g) IsAtLeastAsGood is_as_good good-test test-good (good-kept d prices class g)
 
-pub test-valued : (d : DutyFacts) (prices : List Price) (class : ℕ) (g : Group) → IsValued (marking d prices class g) (GoodAs is_as_good) (λ m. m.value) (closed_value d g)
-test-valued d prices class g = valued-by (marking d prices class g) IsAtLeastAsGood is_as_good (λ m. m.value) (closed_value d g) test-good (good-valued d prices class g)
+pub test-valued : (d : DutyFacts) (prices : List Price) (class : ℕ) (g : Group) →
+    IsValued (marking d prices class g) (GoodAs is_as_good) (λ m. m.value) (closed_value d g)
+test-valued d prices class g =
+    valued-by (marking d prices class g) IsAtLeastAsGood is_as_good (λ m. m.value) (closed_value d g) test-good
+    (good-valued d prices class g)
 
 pub at-below : (xs : List Piece) (k : ℕ) (x : Piece) → slice_get xs k ≡ Some x → k < length xs
 at-below [] k x e = absurd (cc)
 at-below (y ∷ ys) zero x e = omega arith
 at-below (y ∷ ys) (suc k) x e = omega (arith, at-below ys k x e)
 
-to-piece : (d : DutyFacts) (g : Group) (prices : List Price) (a b : Mark) (k : ℕ) → extended_mark d g prices a k ≡ Some b → k < length d.pieces
+to-piece : (d : DutyFacts) (g : Group) (prices : List Price) (a b : Mark) (k : ℕ) →
+    extended_mark d g prices a k ≡ Some b → k < length d.pieces
 to-piece d g prices a b k e =
     let (p, is_p, e1) = and_then-Some _ (slice_get d.pieces a.piece) b e in
     let (q, is_q, e2) = and_then-Some _ (slice_get d.pieces k) b e1 in
@@ -105,7 +111,8 @@ to-piece d g prices a b k e =
 pub later-piece : (a k : ℕ) → nat_lt a k ≡ true → a < k
 later-piece a k e = grind (arith, nat_tests)
 
-pub marking-stepwise : (d : DutyFacts) (prices : List Price) (class : ℕ) (g : Group) → IsStepwise (marking d prices class g) (length d.pieces) (λ m. m.piece)
+pub marking-stepwise : (d : DutyFacts) (prices : List Price) (class : ℕ) (g : Group) →
+    IsStepwise (marking d prices class g) (length d.pieces) (λ m. m.piece)
 marking-stepwise d prices class g = record {
   starts = λ k m e.
       let (p, is_p, e1) = and_then-Some _ (slice_get d.pieces k) m e in
@@ -117,9 +124,11 @@ marking-stepwise d prices class g = record {
       (later-piece a.piece k later, to-piece d g prices a b k e, piece);
 }
 
-pub marking-tied : (d : DutyFacts) (prices : List Price) (class : ℕ) (g : Group) → slice_get d.params.groups class ≡ Some g → AreTimed d.pieces →
+pub marking-tied : (d : DutyFacts) (prices : List Price) (class : ℕ) (g : Group) →
+    slice_get d.params.groups class ≡ Some g → AreTimed d.pieces →
     IsTied (marking d prices class g) (closed_value d g) prices (duty_worth d class)
-marking-tied d prices class g is_g timed = record { onto = worth-closes d prices class g is_g timed; from = closes-worth d prices class g is_g timed }
+marking-tied d prices class g is_g timed =
+    record { onto = worth-closes d prices class g is_g timed; from = closes-worth d prices class g is_g timed }
 
 closing-up : (counts : Bool) (rate : ℕ) (off : ℤ) → pos 0 ≤ℤ off → pos 0 ≤ℤ cond counts (pos 0) (pos 1000 *ℤ (pos rate *ℤ off))
 closing-up true rate off h = omega (arith, ints)
@@ -153,8 +162,10 @@ marking-floor d prices class g timed long = record {
 }
 
 -- a cover of a class whose marks close at minus the class price or above pays the prices of every duty of the class
-pub duty-paid : (d : DutyFacts) (prices : List Price) (class : ℕ) (g : Group) (kept : Mark → Type 0) (class_price : ℤ) → slice_get d.params.groups class ≡ Some g → AreTimed d.pieces →
-    IsCover (marking d prices class g) IsAtLeastAsGood kept → ((m : Mark) (u : ℤ) → kept m → closed_value d g m ≡ Some u → neg_ℤ class_price ≤ℤ u) →
+pub duty-paid : (d : DutyFacts) (prices : List Price) (class : ℕ) (g : Group) (kept : Mark → Type 0) (class_price : ℤ) →
+    slice_get d.params.groups class ≡ Some g → AreTimed d.pieces →
+    IsCover (marking d prices class g) IsAtLeastAsGood kept →
+    ((m : Mark) (u : ℤ) → kept m → closed_value d g m ≡ Some u → neg_ℤ class_price ≤ℤ u) →
     (list : List ℕ) (worth : ℕ) → duty_worth d class list ≡ Some worth → price_of prices list ≤ℤ (pos (1000 * worth) +ℤ class_price)
 duty-paid d prices class g kept class_price is_g timed cover low =
     cover-pays (marking d prices class g) IsAtLeastAsGood (λ m. m.value) (closed_value d g) kept prices (duty_worth d class) class_price

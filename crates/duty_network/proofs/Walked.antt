@@ -29,15 +29,18 @@ pub walked-none : (d : DutyFacts) (k : ℕ) (ks : List ℕ) → IsWalked d k ks 
 walked-none d k ks = record { on = sym (option_map_id (drives_on d k ks)); last = refl }
 
 more-walked : (ds : List Drive) (y : Drive) (o : Option (List Drive)) →
-    option_map (λ (more : List Drive). ds ++ more) (option_map (λ (more : List Drive). y ∷ more) o) ≡ option_map (λ (more : List Drive). (ds ++ y ∷ []) ++ more) o
+    option_map (λ (more : List Drive). ds ++ more) (option_map (λ (more : List Drive). y ∷ more) o)
+    ≡ option_map (λ (more : List Drive). (ds ++ y ∷ []) ++ more) o
 more-walked ds y None = refl
 more-walked ds y (Some l) = ap (λ (m : List Drive). Some m) (sym (append_assoc ds (y ∷ []) l))
 
 -- one piece more
-pub walked-more : (d : DutyFacts) (k : ℕ) (ks : List ℕ) (j x : ℕ) (xs : List ℕ) (ds : List Drive) (time : ℕ) (q : Piece) → IsWalked d k ks j (x ∷ xs) ds →
+pub walked-more : (d : DutyFacts) (k : ℕ) (ks : List ℕ) (j x : ℕ) (xs : List ℕ) (ds : List Drive) (time : ℕ) (q : Piece) →
+    IsWalked d k ks j (x ∷ xs) ds →
     nat_lt j x ≡ true → pause_at d j x ≡ Some time → slice_get d.pieces x ≡ Some q → IsWalked d k ks x xs (ds ++ drive_of time q ∷ [])
 walked-more d k ks j x xs ds time q w up is_time is_q =
-    let step : drives_on d j (x ∷ xs) ≡ option_map (λ (more : List Drive). drive_of time q ∷ more) (drives_on d x xs) = rw (up, is_time, is_q) refl in
+    let step : drives_on d j (x ∷ xs) ≡ option_map (λ (more : List Drive). drive_of time q ∷ more) (drives_on d x xs) =
+    rw (up, is_time, is_q) refl in
     record {
       on = w.on ∙ ap (λ o. option_map (λ (more : List Drive). ds ++ more) o) step ∙ more-walked ds (drive_of time q) (drives_on d x xs);
       last = w.last;
@@ -48,7 +51,8 @@ given-none true = refl
 given-none false = refl
 
 -- the list goes on no further
-pub walked-stops : (d : DutyFacts) (k : ℕ) (ks : List ℕ) (j : ℕ) (js : List ℕ) (ds : List Drive) → IsWalked d k ks j js ds → drives_on d j js ≡ None → drives_on d k ks ≡ None
+pub walked-stops : (d : DutyFacts) (k : ℕ) (ks : List ℕ) (j : ℕ) (js : List ℕ) (ds : List Drive) → IsWalked d k ks j js ds →
+    drives_on d j js ≡ None → drives_on d k ks ≡ None
 walked-stops d k ks j js ds w e = w.on ∙ ap (λ o. option_map (λ (more : List Drive). ds ++ more) o) e
 
 pub stops-falling : (d : DutyFacts) (j x : ℕ) (xs : List ℕ) → nat_lt j x ≡ false → drives_on d j (x ∷ xs) ≡ None
@@ -56,7 +60,9 @@ stops-falling d j x xs e = rw e refl
 
 pub stops-paused : (d : DutyFacts) (j x : ℕ) (xs : List ℕ) → pause_at d j x ≡ None → drives_on d j (x ∷ xs) ≡ None
 stops-paused d j x xs e =
-    ap (λ o. given (nat_lt j x) (option_and_then (λ (time : ℕ). option_and_then (λ (q : Piece). option_map (λ (ds : List Drive). drive_of time q ∷ ds) (drives_on d x xs)) (slice_get d.pieces x)) o)) e
+    ap (λ o. given (nat_lt j x)
+    (option_and_then (λ (time : ℕ). option_and_then
+    (λ (q : Piece). option_map (λ (ds : List Drive). drive_of time q ∷ ds) (drives_on d x xs)) (slice_get d.pieces x)) o)) e
     ∙ given-none (nat_lt j x)
 
 append-none : (ds : List Drive) → ds ++ [] ≡ ds
@@ -68,12 +74,16 @@ pub walked-end : (d : DutyFacts) (k : ℕ) (ks : List ℕ) (j : ℕ) (ds : List 
 walked-end d k ks j ds w = w.on ∙ ap (λ (l : List Drive). Some l) (append-none ds)
 
 -- a tally that goes on
-pub tallying-none : (d : DutyFacts) (k : ℕ) (ks : List ℕ) (first : Drive) (tally : Summary) → k < length d.pieces → StandsFor tally (first ∷ []) → IsTallying d k ks first k ks tally
-tallying-none d k ks first tally below stands = record { ds = []; walked = walked-none d k ks; stands = stands; few = omega arith; there = below }
+pub tallying-none : (d : DutyFacts) (k : ℕ) (ks : List ℕ) (first : Drive) (tally : Summary) → k < length d.pieces →
+    StandsFor tally (first ∷ []) → IsTallying d k ks first k ks tally
+tallying-none d k ks first tally below stands =
+    record { ds = []; walked = walked-none d k ks; stands = stands; few = omega arith; there = below }
 
-pub tallying-more : (d : DutyFacts) (k : ℕ) (ks : List ℕ) (first : Drive) (j x : ℕ) (xs : List ℕ) (tally tally' : Summary) (time : ℕ) (q : Piece) → IsTallying d k ks first j (x ∷ xs) tally →
+pub tallying-more : (d : DutyFacts) (k : ℕ) (ks : List ℕ) (first : Drive) (j x : ℕ) (xs : List ℕ) (tally tally' : Summary) (time : ℕ)
+    (q : Piece) → IsTallying d k ks first j (x ∷ xs) tally →
     j < x → nat_lt j x ≡ true → pause_at d j x ≡ Some time → slice_get d.pieces x ≡ Some q →
-    ((drives : List Drive) → StandsFor tally drives → StandsFor tally' (drives ++ drive_of time q ∷ [])) → IsTallying d k ks first x xs tally'
+    ((drives : List Drive) → StandsFor tally drives → StandsFor tally' (drives ++ drive_of time q ∷ [])) →
+    IsTallying d k ks first x xs tally'
 tallying-more d k ks first j x xs tally tally' time q t order up is_time is_q add = record {
   ds = t.ds ++ drive_of time q ∷ [];
   walked = walked-more d k ks j x xs t.ds time q t.walked up is_time is_q;
@@ -82,8 +92,10 @@ tallying-more d k ks first j x xs tally tally' time q t order up is_time is_q ad
   there = at-below d.pieces x q is_q;
 }
 
-pub tallying-end : (d : DutyFacts) (k : ℕ) (ks : List ℕ) (first : Drive) (j : ℕ) (tally : Summary) → IsTallying d k ks first j [] tally → IsTallied d k ks first j tally
-tallying-end d k ks first j tally t = record { ds = t.ds; on = walked-end d k ks j t.ds t.walked; stands = t.stands; last_is = sym t.walked.last; there = t.there }
+pub tallying-end : (d : DutyFacts) (k : ℕ) (ks : List ℕ) (first : Drive) (j : ℕ) (tally : Summary) → IsTallying d k ks first j [] tally →
+    IsTallied d k ks first j tally
+tallying-end d k ks first j tally t =
+    record { ds = t.ds; on = walked-end d k ks j t.ds t.walked; stands = t.stands; last_is = sym t.walked.last; there = t.there }
 
 drop-on : (xs : List ℕ) (i : ℕ) → i < length xs → drop i xs ≡ slice_index_or xs i 0 ∷ drop (i + 1) xs
 drop-on xs i h = rw (add-one, drop-cons xs i 0)
@@ -101,26 +113,35 @@ lt-true : (a b : ℕ) → a < b → nat_lt a b ≡ true
 lt-true a b h = grind (arith, nat_tests)
 
 -- at a place of the list
-pub tallying-falls : (d : DutyFacts) (k : ℕ) (ks : List ℕ) (first : Drive) (j i : ℕ) (tally : Summary) → IsTallying d k ks first j (drop i ks) tally → i < length ks →
+pub tallying-falls : (d : DutyFacts) (k : ℕ) (ks : List ℕ) (first : Drive) (j i : ℕ) (tally : Summary) →
+    IsTallying d k ks first j (drop i ks) tally → i < length ks →
     slice_index_or ks i 0 ≤ j → drives_on d k ks ≡ None
 tallying-falls d k ks first j i tally t below falls =
-    let none : drives_on d j (drop i ks) ≡ None = ap (drives_on d j) (drop-on ks i below) ∙ stops-falling d j (slice_index_or ks i 0) (drop (i + 1) ks) (lt-false j (slice_index_or ks i 0) falls) in
+    let none : drives_on d j (drop i ks) ≡ None =
+    ap (drives_on d j) (drop-on ks i below)
+    ∙ stops-falling d j (slice_index_or ks i 0) (drop (i + 1) ks) (lt-false j (slice_index_or ks i 0) falls) in
     walked-stops d k ks j (drop i ks) t.ds t.walked none
 
-pub tallying-stops : (d : DutyFacts) (k : ℕ) (ks : List ℕ) (first : Drive) (j i : ℕ) (tally : Summary) → IsTallying d k ks first j (drop i ks) tally → i < length ks →
+pub tallying-stops : (d : DutyFacts) (k : ℕ) (ks : List ℕ) (first : Drive) (j i : ℕ) (tally : Summary) →
+    IsTallying d k ks first j (drop i ks) tally → i < length ks →
     pause_at d j (slice_index_or ks i 0) ≡ None → drives_on d k ks ≡ None
 tallying-stops d k ks first j i tally t below paused =
-    let none : drives_on d j (drop i ks) ≡ None = ap (drives_on d j) (drop-on ks i below) ∙ stops-paused d j (slice_index_or ks i 0) (drop (i + 1) ks) paused in
+    let none : drives_on d j (drop i ks) ≡ None =
+    ap (drives_on d j) (drop-on ks i below) ∙ stops-paused d j (slice_index_or ks i 0) (drop (i + 1) ks) paused in
     walked-stops d k ks j (drop i ks) t.ds t.walked none
 
-pub tallying-next : (d : DutyFacts) (k : ℕ) (ks : List ℕ) (first : Drive) (j i : ℕ) (tally tally' : Summary) (time : ℕ) (q : Piece) → IsTallying d k ks first j (drop i ks) tally → i < length ks →
+pub tallying-next : (d : DutyFacts) (k : ℕ) (ks : List ℕ) (first : Drive) (j i : ℕ) (tally tally' : Summary) (time : ℕ) (q : Piece) →
+    IsTallying d k ks first j (drop i ks) tally → i < length ks →
     j < slice_index_or ks i 0 → pause_at d j (slice_index_or ks i 0) ≡ Some time → slice_get d.pieces (slice_index_or ks i 0) ≡ Some q →
-    ((drives : List Drive) → StandsFor tally drives → StandsFor tally' (drives ++ drive_of time q ∷ [])) → IsTallying d k ks first (slice_index_or ks i 0) (drop (i + 1) ks) tally'
+    ((drives : List Drive) → StandsFor tally drives → StandsFor tally' (drives ++ drive_of time q ∷ [])) →
+    IsTallying d k ks first (slice_index_or ks i 0) (drop (i + 1) ks) tally'
 tallying-next d k ks first j i tally tally' time q t below up is_time is_q add =
     let P : List ℕ → Type 0 = λ l. IsTallying d k ks first j l tally in
-    tallying-more d k ks first j (slice_index_or ks i 0) (drop (i + 1) ks) tally tally' time q (subst P (drop-on ks i below) t) up (lt-true j (slice_index_or ks i 0) up) is_time is_q add
+    tallying-more d k ks first j (slice_index_or ks i 0) (drop (i + 1) ks) tally tally' time q (subst P (drop-on ks i below) t) up
+    (lt-true j (slice_index_or ks i 0) up) is_time is_q add
 
-pub tallying-all : (d : DutyFacts) (k : ℕ) (ks : List ℕ) (first : Drive) (j i : ℕ) (tally : Summary) → IsTallying d k ks first j (drop i ks) tally → length ks ≤ i → IsTallied d k ks first j tally
+pub tallying-all : (d : DutyFacts) (k : ℕ) (ks : List ℕ) (first : Drive) (j i : ℕ) (tally : Summary) →
+    IsTallying d k ks first j (drop i ks) tally → length ks ≤ i → IsTallied d k ks first j tally
 tallying-all d k ks first j i tally t past =
     let P : List ℕ → Type 0 = λ l. IsTallying d k ks first j l tally in
     tallying-end d k ks first j tally (subst P (drop-none ks i past) t)
@@ -150,16 +171,20 @@ map-Some : {A B : Type 0} (f : A → B) (o : Option A) (y : B) → option_map f 
 map-Some f None y e = absurd (cc)
 map-Some f (Some x) y e = (x, refl, Some-same (f x) y e)
 
-pieces-on : (pieces : List Piece) (k : ℕ) (ks : List ℕ) (q : Piece) (qs : List Piece) → slice_get pieces k ≡ Some q → pieces_at pieces ks ≡ Some qs → pieces_at pieces (k ∷ ks) ≡ Some (q ∷ qs)
+pieces-on : (pieces : List Piece) (k : ℕ) (ks : List ℕ) (q : Piece) (qs : List Piece) → slice_get pieces k ≡ Some q →
+    pieces_at pieces ks ≡ Some qs → pieces_at pieces (k ∷ ks) ≡ Some (q ∷ qs)
 pieces-on pieces k ks q qs e h = rw (e, h) refl
 
-drives-on : (d : DutyFacts) (p q : Piece) (qs : List Piece) (time : ℕ) (ds : List Drive) → pause d p q ≡ Some time → drives_after d q qs ≡ Some ds → drives_after d p (q ∷ qs) ≡ Some (drive_of time q ∷ ds)
+drives-on : (d : DutyFacts) (p q : Piece) (qs : List Piece) (time : ℕ) (ds : List Drive) → pause d p q ≡ Some time →
+    drives_after d q qs ≡ Some ds → drives_after d p (q ∷ qs) ≡ Some (drive_of time q ∷ ds)
 drives-on d p q qs time ds e h = rw (e, h) refl
 
-pause-numbers : (d : DutyFacts) (j x : ℕ) (p q : Piece) → slice_get d.pieces j ≡ Some p → slice_get d.pieces x ≡ Some q → pause_at d j x ≡ pause d p q
+pause-numbers : (d : DutyFacts) (j x : ℕ) (p q : Piece) → slice_get d.pieces j ≡ Some p → slice_get d.pieces x ≡ Some q →
+    pause_at d j x ≡ pause d p q
 pause-numbers d j x p q from to = rw (from, to) refl
 
-pub from-walk : (d : DutyFacts) (ks : List ℕ) (k : ℕ) (p : Piece) (ds : List Drive) → slice_get d.pieces k ≡ Some p → drives_on d k ks ≡ Some ds → Along d k p ks ds
+pub from-walk : (d : DutyFacts) (ks : List ℕ) (k : ℕ) (p : Piece) (ds : List Drive) → slice_get d.pieces k ≡ Some p →
+    drives_on d k ks ≡ Some ds → Along d k p ks ds
 from-walk d [] k p ds here e = record { qs = []; pieces = refl; drives = e; rising = refl; last = here }
 from-walk d (j ∷ js) k p ds here e =
     let (up, e1) = given-Some _ _ ds e in
@@ -180,7 +205,8 @@ pub record Onto (d : DutyFacts) (k : ℕ) (p : Piece) (ks : List ℕ) (qs : List
   pub on : drives_on d k ks ≡ Some ds
   pub last : slice_get d.pieces (last_number k ks) ≡ Some (last_piece p qs)
 
-pub onto-walk : (d : DutyFacts) (ks : List ℕ) (k : ℕ) (p : Piece) (qs : List Piece) (ds : List Drive) → slice_get d.pieces k ≡ Some p → pieces_at d.pieces ks ≡ Some qs → drives_after d p qs ≡ Some ds →
+pub onto-walk : (d : DutyFacts) (ks : List ℕ) (k : ℕ) (p : Piece) (qs : List Piece) (ds : List Drive) → slice_get d.pieces k ≡ Some p →
+    pieces_at d.pieces ks ≡ Some qs → drives_after d p qs ≡ Some ds →
     rises (k ∷ ks) ≡ true → Onto d k p ks qs ds
 onto-walk d [] k p [] ds here is_qs is_ds up = record { on = is_ds; last = here }
 onto-walk d [] k p (q ∷ qs) ds here is_qs is_ds up = absurd (cc)
@@ -196,7 +222,8 @@ onto-walk d (j ∷ js) k p (q ∷ qs) ds here is_qs is_ds up =
     let between : pause_at d k j ≡ Some time = pause-numbers d k j p q here is_q ∙ is_time in
     let on = x.on in
     record {
-      on = (let step : drives_on d k (j ∷ js) ≡ Some (drive_of time q ∷ more) = rw (later, between, is_q, on) refl in step ∙ ap (λ (l : List Drive). Some l) same_d);
+      on = (let step : drives_on d k (j ∷ js) ≡ Some (drive_of time q ∷ more) = rw (later, between, is_q, on) refl in
+          step ∙ ap (λ (l : List Drive). Some l) same_d);
       last = x.last;
     }
 
@@ -205,7 +232,8 @@ none-if : {A : Type 0} (o : Option A) → ((x : A) → o ≡ Some x → ⊥) →
 none-if None h = refl
 none-if (Some x) h = absurd (h x refl)
 
-pub none-walk : (d : DutyFacts) (class : ℕ) (g : Group) (k : ℕ) (ks : List ℕ) (p : Piece) → slice_get d.params.groups class ≡ Some g → slice_get d.pieces k ≡ Some p → drives_on d k ks ≡ None → duty_of d class (k ∷ ks) ≡ None
+pub none-walk : (d : DutyFacts) (class : ℕ) (g : Group) (k : ℕ) (ks : List ℕ) (p : Piece) → slice_get d.params.groups class ≡ Some g →
+    slice_get d.pieces k ≡ Some p → drives_on d k ks ≡ None → duty_of d class (k ∷ ks) ≡ None
 none-walk d class g k ks p is_g is_p none = none-if (duty_of d class (k ∷ ks)) (λ duty e.
     let x : IsDuty d g k ks duty = duty-parts d class g k ks duty is_g e in
     let y = onto-walk d ks k x.p x.qs x.ds x.first x.pieces x.drives x.rising in
@@ -213,7 +241,8 @@ none-walk d class g k ks p is_g is_p none = none-if (duty_of d class (k ∷ ks))
     let bad : Some x.ds ≡ None = sym on ∙ none in
     cc)
 
-pub none-span : (d : DutyFacts) (class : ℕ) (g : Group) (k : ℕ) (ks : List ℕ) (p q : Piece) → slice_get d.params.groups class ≡ Some g → slice_get d.pieces k ≡ Some p →
+pub none-span : (d : DutyFacts) (class : ℕ) (g : Group) (k : ℕ) (ks : List ℕ) (p q : Piece) → slice_get d.params.groups class ≡ Some g →
+    slice_get d.pieces k ≡ Some p →
     slice_get d.pieces (last_number k ks) ≡ Some q → HasNoSpan d g p q → duty_of d class (k ∷ ks) ≡ None
 none-span d class g k ks p q is_g is_p is_q none = none-if (duty_of d class (k ∷ ks)) (λ duty e.
     let x : IsDuty d g k ks duty = duty-parts d class g k ks duty is_g e in
@@ -223,8 +252,10 @@ none-span d class g k ks p q is_g is_p is_q none = none-if (duty_of d class (k �
     none x.on x.off x.time (ap (sign_on d g) (sym same_p) ∙ x.sign_on_is) (ap (sign_off d g) (sym same_q) ∙ x.sign_off_is) x.span)
 
 -- a list with a course is a duty
-pub course-of : (d : DutyFacts) (class : ℕ) (g : Group) (k : ℕ) (ks : List ℕ) (p q : Piece) (last : ℕ) (tally : Summary) (course : Course) → slice_get d.params.groups class ≡ Some g → slice_get d.pieces k ≡ Some p →
-    slice_get d.pieces last ≡ Some q → IsTallied d k ks (drive_of 0 p) last tally → tally.limits ≡ limits_of g → IsSpanned d g p q tally course →
+pub course-of : (d : DutyFacts) (class : ℕ) (g : Group) (k : ℕ) (ks : List ℕ) (p q : Piece) (last : ℕ) (tally : Summary) (course : Course) →
+    slice_get d.params.groups class ≡ Some g → slice_get d.pieces k ≡ Some p →
+    slice_get d.pieces last ≡ Some q → IsTallied d k ks (drive_of 0 p) last tally → tally.limits ≡ limits_of g →
+    IsSpanned d g p q tally course →
     (duty : Duty) × (duty_of d class (k ∷ ks) ≡ Some duty) × IsCourse d g duty course
 course-of d class g k ks p q last tally course is_g is_p is_q t limits span =
     let x = from-walk d ks k p t.ds is_p t.on in
@@ -254,35 +285,43 @@ course-of d class g k ks p q last tally course is_g is_p is_q t limits span =
     )
 
 -- what a verdict says of the worth
-lawful-true : (drives : List Drive) (spread : ℕ) (limits : Limits) → Judged drives spread limits Lawful → is_lawful limits drives spread ≡ true
+lawful-true : (drives : List Drive) (spread : ℕ) (limits : Limits) → Judged drives spread limits Lawful →
+    is_lawful limits drives spread ≡ true
 lawful-true drives spread limits j = lawful-test limits drives spread j
 
-lawful-false : (drives : List Drive) (spread : ℕ) (limits : Limits) (v : Verdict) → Judged drives spread limits v → (v ≡ Lawful → ⊥) → is_lawful limits drives spread ≡ false
+lawful-false : (drives : List Drive) (spread : ℕ) (limits : Limits) (v : Verdict) → Judged drives spread limits v → (v ≡ Lawful → ⊥) →
+    is_lawful limits drives spread ≡ false
 lawful-false drives spread limits v j not = elim (is_lawful limits drives spread) as (λ b. is_lawful limits drives spread ≡ b → b ≡ false) [
   | true ↦ λ is. absurd (not ((judged-lawful drives spread limits v j).1 (test-lawful limits drives spread is)))
   | false ↦ λ is. refl
 ] refl
 
 -- the worth of a duty by its verdict
-pub worth-lawful : (d : DutyFacts) (class : ℕ) (list : List ℕ) (g : Group) (duty : Duty) (course : Course) → duty_of d class list ≡ Some duty → IsCourse d g duty course →
-    Judged duty.drives course.spread course.tally.limits Lawful → duty_worth d class list ≡ Some (cond d.counts 1 (g.fixed + g.rate * course.spread))
+pub worth-lawful : (d : DutyFacts) (class : ℕ) (list : List ℕ) (g : Group) (duty : Duty) (course : Course) →
+    duty_of d class list ≡ Some duty → IsCourse d g duty course →
+    Judged duty.drives course.spread course.tally.limits Lawful →
+    duty_worth d class list ≡ Some (cond d.counts 1 (g.fixed + g.rate * course.spread))
 worth-lawful d class list g duty course is c j =
     let J : ℕ → Type 0 = λ s. Judged duty.drives s course.tally.limits Lawful in
     let K : Limits → Type 0 = λ l. Judged duty.drives duty.spread l Lawful in
     let limits : course.tally.limits ≡ limits_of duty.group = c.limits ∙ ap limits_of (sym c.group) in
-    let test : is_lawful (limits_of duty.group) duty.drives duty.spread ≡ true = lawful-true duty.drives duty.spread (limits_of duty.group) (subst K limits (subst J c.spread j)) in
+    let test : is_lawful (limits_of duty.group) duty.drives duty.spread ≡ true =
+    lawful-true duty.drives duty.spread (limits_of duty.group) (subst K limits (subst J c.spread j)) in
     let cost : cost_of d.counts duty ≡ cond d.counts 1 (g.fixed + g.rate * course.spread) =
-    ap (λ (x : Group). cond d.counts 1 (x.fixed + x.rate * duty.spread)) c.group ∙ ap (λ (s : ℕ). cond d.counts 1 (g.fixed + g.rate * s)) (sym c.spread) in
+    ap (λ (x : Group). cond d.counts 1 (x.fixed + x.rate * duty.spread)) c.group
+    ∙ ap (λ (s : ℕ). cond d.counts 1 (g.fixed + g.rate * s)) (sym c.spread) in
     let worth : duty_worth d class list ≡ Some (cost_of d.counts duty) = rw (is, test) refl in
     worth ∙ ap (λ (n : ℕ). Some n) cost
 
-pub worth-unlawful : (d : DutyFacts) (class : ℕ) (list : List ℕ) (g : Group) (duty : Duty) (course : Course) (v : Verdict) → duty_of d class list ≡ Some duty → IsCourse d g duty course →
+pub worth-unlawful : (d : DutyFacts) (class : ℕ) (list : List ℕ) (g : Group) (duty : Duty) (course : Course) (v : Verdict) →
+    duty_of d class list ≡ Some duty → IsCourse d g duty course →
     Judged duty.drives course.spread course.tally.limits v → (v ≡ Lawful → ⊥) → duty_worth d class list ≡ None
 worth-unlawful d class list g duty course v is c j not =
     let J : ℕ → Type 0 = λ s. Judged duty.drives s course.tally.limits v in
     let K : Limits → Type 0 = λ l. Judged duty.drives duty.spread l v in
     let limits : course.tally.limits ≡ limits_of duty.group = c.limits ∙ ap limits_of (sym c.group) in
-    let test : is_lawful (limits_of duty.group) duty.drives duty.spread ≡ false = lawful-false duty.drives duty.spread (limits_of duty.group) v (subst K limits (subst J c.spread j)) not in
+    let test : is_lawful (limits_of duty.group) duty.drives duty.spread ≡ false =
+    lawful-false duty.drives duty.spread (limits_of duty.group) v (subst K limits (subst J c.spread j)) not in
     rw (is, test) refl
 
 pub worth-none : (d : DutyFacts) (class : ℕ) (list : List ℕ) → duty_of d class list ≡ None → duty_worth d class list ≡ None

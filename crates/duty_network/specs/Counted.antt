@@ -29,11 +29,14 @@ module _ (params : ParamRows) (pieces : List Piece) where
   drives_same : (p : Piece) (ps : List Piece) → drives_after (facts false) p ps ≡ drives_after (facts true) p ps
   drives_same p [] = refl
   drives_same p (q ∷ qs) =
-      ap (λ more. option_and_then (λ (time : ℕ). option_and_then (λ (rest : List Drive). Some (record { pause = time; driving = q.driving } ∷ rest)) more) (pause (facts false) p q)) (drives_same q qs)
+      ap (λ more. option_and_then
+      (λ (time : ℕ). option_and_then (λ (rest : List Drive). Some (record { pause = time; driving = q.driving } ∷ rest)) more)
+      (pause (facts false) p q)) (drives_same q qs)
 
   abbrev timed : Bool → Group → List Piece → List Drive → Option Duty
   timed counts g ps drives =
-      option_and_then (λ (on : ℤ). option_and_then (λ (off : ℤ). option_and_then (λ (spread : ℕ). Some (record { group = g; drives = drives; on = on; off = off; spread = spread }))
+      option_and_then (λ (on : ℤ). option_and_then
+      (λ (off : ℤ). option_and_then (λ (spread : ℕ). Some (record { group = g; drives = drives; on = on; off = off; spread = spread }))
       (seconds (off -ℤ on))) (ends (facts counts) g ps)) (begins (facts counts) g ps)
 
   abbrev of_pieces : Bool → Group → List Piece → Option Duty
@@ -42,14 +45,16 @@ module _ (params : ParamRows) (pieces : List Piece) where
   pieces_same : (g : Group) (ps : List Piece) → of_pieces false g ps ≡ of_pieces true g ps
   pieces_same g [] = refl
   pieces_same g (p ∷ ps) =
-      ap (λ more. option_and_then (timed false g (p ∷ ps)) (option_and_then (λ (rest : List Drive). Some (record { pause = 0; driving = p.driving } ∷ rest)) more)) (drives_same p ps)
+      ap (λ more. option_and_then (timed false g (p ∷ ps))
+      (option_and_then (λ (rest : List Drive). Some (record { pause = 0; driving = p.driving } ∷ rest)) more)) (drives_same p ps)
 
   found_same : (g : Group) (o : Option (List Piece)) → option_and_then (of_pieces false g) o ≡ option_and_then (of_pieces true g) o
   found_same g None = refl
   found_same g (Some ps) = pieces_same g ps
 
   group_same : (o : Option Group) (list : List ℕ) →
-      option_and_then (λ g. option_and_then (of_pieces false g) (pieces_at pieces list)) o ≡ option_and_then (λ g. option_and_then (of_pieces true g) (pieces_at pieces list)) o
+      option_and_then (λ g. option_and_then (of_pieces false g) (pieces_at pieces list)) o
+      ≡ option_and_then (λ g. option_and_then (of_pieces true g) (pieces_at pieces list)) o
   group_same None list = refl
   group_same (Some g) list = found_same g (pieces_at pieces list)
 

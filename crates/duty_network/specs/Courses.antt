@@ -19,7 +19,9 @@ drive_of time q = record { pause = time; driving = q.driving }
 abbrev pub drives_on : DutyFacts → ℕ → List ℕ → Option (List Drive)
 drives_on d k [] = Some []
 drives_on d k (j ∷ js) =
-    given (nat_lt k j) (option_and_then (λ time. option_and_then (λ q. option_map (λ (ds : List Drive). drive_of time q ∷ ds) (drives_on d j js)) (slice_get d.pieces j)) (pause_at d k j))
+    given (nat_lt k j) (option_and_then
+    (λ time. option_and_then (λ q. option_map (λ (ds : List Drive). drive_of time q ∷ ds) (drives_on d j js)) (slice_get d.pieces j))
+    (pause_at d k j))
 
 abbrev pub last_number : ℕ → List ℕ → ℕ
 last_number k [] = k

@@ -48,7 +48,8 @@ pieces_at pieces (k ∷ ks) = option_and_then (λ p. option_and_then (λ ps. Som
 abbrev pub drives_after : DutyFacts → Piece → List Piece → Option (List Drive)
 drives_after d p [] = Some []
 drives_after d p (q ∷ qs) =
-    option_and_then (λ time. option_and_then (λ rest. Some (record { pause = time; driving = q.driving } ∷ rest)) (drives_after d q qs)) (pause d p q)
+    option_and_then (λ time. option_and_then (λ rest. Some (record { pause = time; driving = q.driving } ∷ rest)) (drives_after d q qs))
+    (pause d p q)
 
 -- the drives of pieces, where all pauses are there
 abbrev pub drives_of : DutyFacts → List Piece → Option (List Drive)
@@ -100,7 +101,8 @@ cost_of counts duty = cond counts 1 (duty.group.fixed + duty.group.rate * duty.s
 -- A list has one where it is a duty that keeps articles 6(1), 7 and 8(2) in the limits of its group.
 abbrev pub duty_worth : DutyFacts → ℕ → List ℕ → Option ℕ
 duty_worth d class list =
-    option_and_then (λ (duty : Duty). given (is_lawful (limits_of duty.group) duty.drives duty.spread) (Some (cost_of d.counts duty))) (duty_of d class list)
+    option_and_then (λ (duty : Duty). given (is_lawful (limits_of duty.group) duty.drives duty.spread) (Some (cost_of d.counts duty)))
+    (duty_of d class list)
 
 abbrev pub caps_of : List Group → List ℕ
 caps_of groups = map (λ (g : Group). g.cap) groups

@@ -28,8 +28,8 @@ pub record IsNumbering (n : ℕ) (numbers : PieceNumbers) : Type 0 where
 abbrev pub facts : List Piece → ParamRows → DutyFacts
 facts pieces params = record { pieces = pieces; params = params; counts = false }
 
--- For each number a piece behind another one. Of the pieces from a place on none that comes before the one of its number follows after a pause of
--- at least so long, a direct one aside.
+-- For each number a piece behind another one. Of the pieces from a place on none that comes before the one of its number follows after a
+-- pause of at least so long, a direct one aside.
 pub record AreFirstBehind (d : DutyFacts) (numbers : List ℕ) (item direct long place : ℕ) (firsts : List ℕ) : Type 0 where
   pub own : (m : ℕ) → m < length firsts → entry_at firsts m < length d.pieces → entry_at numbers (entry_at firsts m) ≡ m
   pub behind : (m : ℕ) → m < length firsts → item < entry_at firsts m

@@ -15,5 +15,6 @@ pub record AreLaidOut (pieces : List Piece) (params : ParamRows) (layout : Layou
       IsCell layout.between (slice_index layout.ends p) (slice_index layout.begins q) (way_in params piece.to next.from)
   pub outward : (class q : ℕ) (group : Group) (next : Piece) → slice_get params.groups class ≡ Some group → slice_get pieces q ≡ Some next →
       IsCell layout.outward class (slice_index layout.begins q) (way_in params group.home next.from)
-  pub inward : (class p : ℕ) (group : Group) (piece : Piece) → slice_get params.groups class ≡ Some group → slice_get pieces p ≡ Some piece →
+  pub inward : (class p : ℕ) (group : Group) (piece : Piece) → slice_get params.groups class ≡ Some group →
+      slice_get pieces p ≡ Some piece →
       IsCell layout.inward (slice_index layout.ends p) class (way_in params piece.to group.home)

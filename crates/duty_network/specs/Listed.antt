@@ -15,7 +15,8 @@ use Rattle.duty_network.specs.Duties.{Duty, DutyFacts, begins, cost_of, drives_o
 some_same : {A : Type 0} (x y : A) → Some x ≡ Some y → x ≡ y
 some_same {A = A} x y e = let f : Option A → A = λ o. unwrap_or o x in ap f e
 
-and_then_some : {A B : Type 0} (f : A → Option B) (o : Option A) (y : B) → option_and_then f o ≡ Some y → (x : A) × (o ≡ Some x) × (f x ≡ Some y)
+and_then_some : {A B : Type 0} (f : A → Option B) (o : Option A) (y : B) → option_and_then f o ≡ Some y →
+    (x : A) × (o ≡ Some x) × (f x ≡ Some y)
 and_then_some f None y e = absurd (cc)
 and_then_some f (Some x) y e = (x, refl, e)
 
@@ -36,14 +37,17 @@ rises_rise (x ∷ y ∷ rest) e =
     let below : x < y = grind (arith, nat_tests) in
     (below, rises_rise (y ∷ rest) parts.1)
 
-pieces_below : (pieces : List Piece) (list : List ℕ) (found : List Piece) → pieces_at pieces list ≡ Some found → AllBelow (length pieces) list
+pieces_below : (pieces : List Piece) (list : List ℕ) (found : List Piece) → pieces_at pieces list ≡ Some found →
+    AllBelow (length pieces) list
 pieces_below pieces [] found e = tt
 pieces_below pieces (k ∷ ks) found e =
-    let first = and_then_some (λ (p : Piece). option_and_then (λ (ps : List Piece). Some (p ∷ ps)) (pieces_at pieces ks)) (slice_get pieces k) found e in
+    let first = and_then_some (λ (p : Piece). option_and_then (λ (ps : List Piece). Some (p ∷ ps)) (pieces_at pieces ks))
+    (slice_get pieces k) found e in
     let rest = and_then_some (λ (ps : List Piece). Some (first.0 ∷ ps)) (pieces_at pieces ks) found first.2 in
     (slice_get_within pieces k first.0 first.1, pieces_below pieces ks rest.0 rest.1)
 
-none_of_none : (d : DutyFacts) (list : List ℕ) (found : List Piece) (drives : List Drive) → pieces_at d.pieces list ≡ Some found → drives_of d found ≡ Some drives → list ≢ []
+none_of_none : (d : DutyFacts) (list : List ℕ) (found : List Piece) (drives : List Drive) → pieces_at d.pieces list ≡ Some found →
+    drives_of d found ≡ Some drives → list ≢ []
 none_of_none d list found drives at is = λ e.
     let P : List ℕ → Type 0 = λ ks. pieces_at d.pieces ks ≡ Some found in
     let none : found ≡ [] = sym (some_same [] found (subst P e at)) in
@@ -53,15 +57,23 @@ none_of_none d list found drives at is = λ e.
 
 abbrev timed : DutyFacts → Group → List Piece → List Drive → Option Duty
 timed d g ps drives =
-    option_and_then (λ (on : ℤ). option_and_then (λ (off : ℤ). option_and_then (λ (spread : ℕ). Some (record { group = g; drives = drives; on = on; off = off; spread = spread }))
+    option_and_then (λ (on : ℤ). option_and_then
+    (λ (off : ℤ). option_and_then (λ (spread : ℕ). Some (record { group = g; drives = drives; on = on; off = off; spread = spread }))
     (seconds (off -ℤ on))) (ends d g ps)) (begins d g ps)
 
 -- the law of columns
 pub duties_listed : (d : DutyFacts) → HasListedColumns (duties d)
 duties_listed d class list worth e =
-    let (duty, is_duty, worth_is) = and_then_some (λ (duty : Duty). given (is_lawful (limits_of duty.group) duty.drives duty.spread) (Some (cost_of d.counts duty))) (duty_of d class list) worth e in
-    let (up, e1) = given_some (rises list) (option_and_then (λ (g : Group). option_and_then (λ (ps : List Piece). option_and_then (timed d g ps) (drives_of d ps)) (pieces_at d.pieces list)) (slice_get d.params.groups class)) duty is_duty in
-    let (g, is_g, e2) = and_then_some (λ (g : Group). option_and_then (λ (ps : List Piece). option_and_then (timed d g ps) (drives_of d ps)) (pieces_at d.pieces list)) (slice_get d.params.groups class) duty e1 in
-    let (ps, is_ps, e3) = and_then_some (λ (ps : List Piece). option_and_then (timed d g ps) (drives_of d ps)) (pieces_at d.pieces list) duty e2 in
+    let (duty, is_duty, worth_is) =
+    and_then_some (λ (duty : Duty). given (is_lawful (limits_of duty.group) duty.drives duty.spread) (Some (cost_of d.counts duty)))
+    (duty_of d class list) worth e in
+    let (up, e1) = given_some (rises list)
+    (option_and_then (λ (g : Group). option_and_then (λ (ps : List Piece). option_and_then (timed d g ps) (drives_of d ps))
+    (pieces_at d.pieces list)) (slice_get d.params.groups class)) duty is_duty in
+    let (g, is_g, e2) = and_then_some
+    (λ (g : Group). option_and_then (λ (ps : List Piece). option_and_then (timed d g ps) (drives_of d ps)) (pieces_at d.pieces list))
+    (slice_get d.params.groups class) duty e1 in
+    let (ps, is_ps, e3) = and_then_some (λ (ps : List Piece). option_and_then (timed d g ps) (drives_of d ps))
+    (pieces_at d.pieces list) duty e2 in
     let (drives, is_drives, e4) = and_then_some (timed d g ps) (drives_of d ps) duty e3 in
     (none_of_none d list ps drives is_ps is_drives, rises_rise list up, pieces_below d.pieces list ps is_ps)

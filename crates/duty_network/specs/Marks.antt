@@ -12,7 +12,8 @@ use Rattle.duty_network.specs.Duties.{DutyFacts, limits_of, pause, sign_on, sign
 
 -- a mark may be continued: its driving keeps the limits so far, and its last piece ends at most 15 hours after sign-on
 abbrev pub is_open : Group → Mark → ℤ → Bool
-is_open g m end = nat_le m.driving (limits_of g).block && nat_le m.total (limits_of g).day && int_le end (m.start.0 +ℤ pos (limits_of g).long_spread)
+is_open g m end = nat_le m.driving (limits_of g).block && nat_le m.total (limits_of g).day
+    && int_le end (m.start.0 +ℤ pos (limits_of g).long_spread)
 
 -- the fields of the mark of a list of one piece
 abbrev pub one_mark : Bool → List Price → ℕ → Group → ℕ → Piece → ℤ → Mark

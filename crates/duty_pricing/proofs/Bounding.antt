@@ -52,37 +52,46 @@ row-read (x ∷ xs) zero v h = refl
 row-read (x ∷ xs) (suc i) v h = row-read xs i v (omega arith)
 
 -- what holds of all rows holds with another one put in
-pub rows-with : (P : List ℤ → Type 0) (rows : List (List ℤ)) (i k : ℕ) (row : List ℤ) → i < length rows → P (row_at rows k) → P row → P (row_at (set rows i row) k)
+pub rows-with : (P : List ℤ → Type 0) (rows : List (List ℤ)) (i k : ℕ) (row : List ℤ) → i < length rows → P (row_at rows k) → P row →
+    P (row_at (set rows i row) k)
 rows-with P rows i k row below old new = split (P (row_at (set rows i row) k)) k i
     (λ e. let Q : ℕ → Type 0 = λ n. P (row_at (set rows i row) n) in subst Q (sym e) (subst P (sym (row-here rows i row below)) new))
     (λ n. subst P (sym (row-others rows i k row n)) old)
 
 -- a smaller number is not undercut either
-pub under-less : (d : DutyFacts) (prices : List Price) (r : Reach) (rows : List (List ℤ)) (next x : ℕ) (z w : ℤ) → IsUnder d prices r rows next x w → z ≤ℤ w → IsUnder d prices r rows next x z
+pub under-less : (d : DutyFacts) (prices : List Price) (r : Reach) (rows : List (List ℤ)) (next x : ℕ) (z w : ℤ) →
+    IsUnder d prices r rows next x w → z ≤ℤ w → IsUnder d prices r rows next x z
 under-less d prices r rows next x z w u less q is_q in_time taken small = let own = u q is_q in_time taken small in omega (arith, ints)
 
 -- nor by the rows of a table that is no lower
-pub under-below : (d : DutyFacts) (prices : List Price) (r : Reach) (rows over : List (List ℤ)) (next x : ℕ) (z : ℤ) → IsReach r → AreBelow over rows →
+pub under-below : (d : DutyFacts) (prices : List Price) (r : Reach) (rows over : List (List ℤ)) (next x : ℕ) (z : ℤ) →
+    IsReach r → AreBelow over rows →
     IsUnder d prices r over next x z → IsUnder d prices r rows next x z
 under-below d prices r rows over next x z reach below u q is_q in_time taken small =
-    let own = u q is_q in_time taken small in let width = reach.width in let less = below next (x - q.driving / r.unit) (omega arith) in omega (arith, ints)
+    let own = u q is_q in_time taken small in let width = reach.width in let less = below next (x - q.driving / r.unit) (omega arith) in
+    omega (arith, ints)
 
-pub under-either : (is : Bool) (d : DutyFacts) (prices : List Price) (r : Reach) (rows over : List (List ℤ)) (next x : ℕ) (z : ℤ) → IsReach r → AreBelow over rows →
+pub under-either : (is : Bool) (d : DutyFacts) (prices : List Price) (r : Reach) (rows over : List (List ℤ)) (next x : ℕ) (z : ℤ) →
+    IsReach r → AreBelow over rows →
     IsUnder d prices r over next x z → IsUnder d prices r (cond is over rows) next x z
 under-either true d prices r rows over next x z reach below u = u
 under-either false d prices r rows over next x z reach below u = under-below d prices r rows over next x z reach below u
 
 -- what is said of a piece hangs on its row alone
-pub under-same : (d : DutyFacts) (prices : List Price) (r : Reach) (old new : List (List ℤ)) (next x : ℕ) (z : ℤ) → row_at new next ≡ row_at old next →
+pub under-same : (d : DutyFacts) (prices : List Price) (r : Reach) (old new : List (List ℤ)) (next x : ℕ) (z : ℤ) →
+    row_at new next ≡ row_at old next →
     IsUnder d prices r old next x z → IsUnder d prices r new next x z
 under-same d prices r old new next x z same u q is_q in_time taken small =
     let own = u q is_q in_time taken small in
-    let there : cell_at new next (x - q.driving / r.unit) ≡ cell_at old next (x - q.driving / r.unit) = ap (λ l. number_at l (x - q.driving / r.unit)) same in
+    let there : cell_at new next (x - q.driving / r.unit) ≡ cell_at old next (x - q.driving / r.unit) =
+    ap (λ l. number_at l (x - q.driving / r.unit)) same in
     omega (arith, ints)
 
 -- a row lowered to what going on with a piece adds
-pub lowered-by : (d : DutyFacts) (prices : List Price) (r : Reach) (rows : List (List ℤ)) (next : ℕ) (q : Piece) (old new : List ℤ) → IsReach r → slice_get d.pieces next ≡ Some q →
-    AllWithin 10000000000000 prices → IsLow (low_of next) (row_at rows next) → IsRowLowered old new (row_at rows next) (q.driving / r.unit) r.width (price_at prices next) →
+pub lowered-by : (d : DutyFacts) (prices : List Price) (r : Reach) (rows : List (List ℤ)) (next : ℕ) (q : Piece) (old new : List ℤ) →
+    IsReach r → slice_get d.pieces next ≡ Some q →
+    AllWithin 10000000000000 prices → IsLow (low_of next) (row_at rows next) →
+    IsRowLowered old new (row_at rows next) (q.driving / r.unit) r.width (price_at prices next) →
     IsLoweredBy d prices r rows next old new
 lowered-by d prices r rows next q old new reach is_q within low l =
     let own = price_at-within 10000000000000 prices next within in
@@ -92,13 +101,15 @@ lowered-by d prices r rows next q old new reach is_q within low l =
       at_most = λ x. l.at_most x;
       under = λ x p is_p in_time taken less.
           let same : q ≡ p = Some-same q p (sym is_q ∙ is_p) in
-          let P : Piece → Type 0 = λ s. s.driving / r.unit ≤ x → number_at new x ≤ℤ (cell_at rows next (x - s.driving / r.unit) -ℤ price_at prices next) in
+          let P : Piece → Type 0 =
+          λ s. s.driving / r.unit ≤ x → number_at new x ≤ℤ (cell_at rows next (x - s.driving / r.unit) -ℤ price_at prices next) in
           subst P same (λ t. l.below x t less) taken;
       least = λ z x small h bound. l.least z x h (λ from to. let least = low (x - q.driving / r.unit) (omega arith) in omega (arith, ints));
     }
 
 -- or left, where no list in time goes on with it
-pub not-lowered : (d : DutyFacts) (prices : List Price) (r : Reach) (rows : List (List ℤ)) (next : ℕ) (q : Piece) (row : List ℤ) → slice_get d.pieces next ≡ Some q →
+pub not-lowered : (d : DutyFacts) (prices : List Price) (r : Reach) (rows : List (List ℤ)) (next : ℕ) (q : Piece) (row : List ℤ) →
+    slice_get d.pieces next ≡ Some q →
     (q.end.0 ≤ℤ r.until → q.driving / r.unit < r.width → ⊥) → IsLoweredBy d prices r rows next row row
 not-lowered d prices r rows next q row is_q none = record {
   at_most = λ x. omega (arith, ints);
@@ -111,39 +122,48 @@ not-lowered d prices r rows next q row is_q none = record {
   least = λ z x small h bound. h;
 }
 
-kept-either : (is : Bool) (d : DutyFacts) (prices : List Price) (r : Reach) (old new over above : List (List ℤ)) (next x : ℕ) (z : ℤ) → row_at new next ≡ row_at old next →
+kept-either : (is : Bool) (d : DutyFacts) (prices : List Price) (r : Reach) (old new over above : List (List ℤ)) (next x : ℕ) (z : ℤ) →
+    row_at new next ≡ row_at old next →
     row_at above next ≡ row_at over next → IsUnder d prices r (cond is over old) next x z → IsUnder d prices r (cond is above new) next x z
 kept-either true d prices r old new over above next x z same also u = under-same d prices r over above next x z also u
 kept-either false d prices r old new over above next x z same also u = under-same d prices r old new next x z same u
 
 -- what is said of a row hangs on later rows alone
-pub kept-row : (d : DutyFacts) (prices : List Price) (g : Group) (r : Reach) (long : ℕ) (last : ℤ) (old new over above : List (List ℤ)) (k : ℕ) (row : List ℤ) →
-    IsBoundRow d prices g r long last old over k row → ((n : ℕ) → k < n → row_at new n ≡ row_at old n) → ((n : ℕ) → k < n → row_at above n ≡ row_at over n) →
+pub kept-row : (d : DutyFacts) (prices : List Price) (g : Group) (r : Reach) (long : ℕ) (last : ℤ) (old new over above : List (List ℤ))
+    (k : ℕ) (row : List ℤ) →
+    IsBoundRow d prices g r long last old over k row → ((n : ℕ) → k < n → row_at new n ≡ row_at old n) →
+    ((n : ℕ) → k < n → row_at above n ≡ row_at over n) →
     IsBoundRow d prices g r long last new above k row
 kept-row d prices g r long last old new over above k row b same also = record {
   closes = b.closes;
-  steps = λ next time x from to is_time. kept-either (nat_le long time) d prices r old new over above next x (number_at row x) (same next from) (also next from) (b.steps next time x from to is_time);
+  steps = λ next time x from to is_time. kept-either (nat_le long time) d prices r old new over above next x (number_at row x)
+      (same next from) (also next from) (b.steps next time x from to is_time);
 }
 
 -- one row more
-pub more-rows : (n k : ℕ) (rows : List (List ℤ)) (row : List ℤ) → AreRows n (k + 1) rows → k < n → IsFalling row → IsLow (low_of k) row → AreRows n k (set rows k row)
+pub more-rows : (n k : ℕ) (rows : List (List ℤ)) (row : List ℤ) → AreRows n (k + 1) rows → k < n → IsFalling row → IsLow (low_of k) row →
+    AreRows n k (set rows k row)
 more-rows n k rows row a below falling low =
     let count = a.count in
     record {
       count = row-count rows k row ∙ a.count;
       falling = λ m. rows-with IsFalling rows k m row (omega arith) (a.falling m) falling;
       low = λ m from to. split (IsLow (low_of m) (row_at (set rows k row) m)) m k
-          (λ e. let P : ℕ → Type 0 = λ i. IsLow (low_of i) (row_at (set rows k row) i) in subst P (sym e) (subst (IsLow (low_of k)) (sym (row-here rows k row (omega arith))) low))
+          (λ e. let P : ℕ → Type 0 = λ i. IsLow (low_of i) (row_at (set rows k row) i) in
+          subst P (sym e) (subst (IsLow (low_of k)) (sym (row-here rows k row (omega arith))) low))
           (λ apart. subst (IsLow (low_of m)) (sym (row-others rows k m row apart)) (a.low m (omega arith) to));
     }
 
-pub placed : (d : DutyFacts) (prices : List Price) (g : Group) (r : Reach) (long : ℕ) (last : ℤ) (k : ℕ) (rows over above : List (List ℤ)) (row : List ℤ) →
-    IsBoundFrom d prices g r long last (k + 1) rows over → k < length d.pieces → IsBoundRow d prices g r long last rows over k row → IsFalling row → IsLow (low_of k) row →
+pub placed : (d : DutyFacts) (prices : List Price) (g : Group) (r : Reach) (long : ℕ) (last : ℤ) (k : ℕ)
+    (rows over above : List (List ℤ)) (row : List ℤ) →
+    IsBoundFrom d prices g r long last (k + 1) rows over → k < length d.pieces → IsBoundRow d prices g r long last rows over k row →
+    IsFalling row → IsLow (low_of k) row →
     ((n : ℕ) → k < n → row_at above n ≡ row_at over n) → IsBoundFrom d prices g r long last k (set rows k row) above
 placed d prices g r long last k rows over above row b below is falling low also =
     let count = b.are.count in
     let here : row_at (set rows k row) k ≡ row = row-here rows k row (omega arith) in
-    let others : (n : ℕ) → k < n → row_at (set rows k row) n ≡ row_at rows n = λ n order. row-others rows k n row (λ e. absurd (omega arith)) in
+    let others : (n : ℕ) → k < n → row_at (set rows k row) n ≡ row_at rows n =
+    λ n order. row-others rows k n row (λ e. absurd (omega arith)) in
     record {
       are = more-rows (length d.pieces) k rows row b.are below falling low;
       bounds = λ n from to. split (IsBoundRow d prices g r long last (set rows k row) above n (row_at (set rows k row) n)) n k
@@ -152,7 +172,8 @@ placed d prices g r long last k rows over above row b below is falling low also 
           subst P (sym e) (subst Q (sym here) (kept-row d prices g r long last rows (set rows k row) over above k row is others also)))
           (λ apart. let later : k < n = omega arith in
           let Q : List ℤ → Type 0 = λ l. IsBoundRow d prices g r long last (set rows k row) above n l in
-          subst Q (sym (others n later)) (kept-row d prices g r long last rows (set rows k row) over above n (row_at rows n) (b.bounds n (omega arith) to)
+          subst Q (sym (others n later))
+          (kept-row d prices g r long last rows (set rows k row) over above n (row_at rows n) (b.bounds n (omega arith) to)
           (λ m order. others m (omega arith)) (λ m order. also m (omega arith))));
     }
 
@@ -161,7 +182,8 @@ pub out-falls : IsFalling (replicate 16 (pos 7000000000000))
 out-falls = record {
   high = λ x. repeated-high 16 x (pos 7000000000000) (omega (arith, ints));
   falls = λ x y order less.
-      let one = repeated 16 x (pos 7000000000000) less in let other = repeated 16 y (pos 7000000000000) (omega arith) in omega (arith, ints);
+      let one = repeated 16 x (pos 7000000000000) less in let other = repeated 16 y (pos 7000000000000) (omega arith) in
+      omega (arith, ints);
 }
 
 pub none-falls : AreFalling []
@@ -192,16 +214,24 @@ row-beyond [] (suc k) h = refl
 row-beyond (x ∷ xs) zero h = absurd (omega arith)
 row-beyond (x ∷ xs) (suc k) h = row-beyond xs k (omega arith)
 
-low-apart : (n : ℕ) (rows : List (List ℤ)) (row : List ℤ) (k x : ℕ) → length rows ≡ n → x < 16 → k ≢ n → ((m : ℕ) → IsLow (pos 0) (row_at rows m)) → pos 0 ≤ℤ cell_at (rows ++ row ∷ []) k x
+low-apart : (n : ℕ) (rows : List (List ℤ)) (row : List ℤ) (k x : ℕ) → length rows ≡ n → x < 16 → k ≢ n →
+    ((m : ℕ) → IsLow (pos 0) (row_at rows m)) → pos 0 ≤ℤ cell_at (rows ++ row ∷ []) k x
 low-apart n [] row zero x e small apart all = absurd (apart e)
 low-apart n [] row (suc k) x e small apart all = omega (arith, ints)
 low-apart n (y ∷ ys) row zero x e small apart all = all 0 x small
 low-apart zero (y ∷ ys) row (suc k) x e small apart all = absurd (omega arith)
-low-apart (suc n) (y ∷ ys) row (suc k) x e small apart all = low-apart n ys row k x (omega arith) small (λ same. apart (ap suc same)) (λ m. all (suc m))
+low-apart (suc n) (y ∷ ys) row (suc k) x e small apart all =
+    low-apart n ys row k x (omega arith) small (λ same. apart (ap suc same)) (λ m. all (suc m))
 
 -- rows that are out of reach
 pub none-out : AreOut 0 []
-none-out = record { count = refl; falling = none-falls; low = λ k x less. omega (arith, ints); full = λ k x less small. absurd (omega arith) }
+none-out = record {
+  count = refl;
+  falling = none-falls;
+  low = λ k x less. omega (arith, ints);
+  full =
+      λ k x less small. absurd (omega arith);
+}
 
 pub more-out : (n : ℕ) (rows : List (List ℤ)) → AreOut n rows → AreOut (n + 1) (rows ++ replicate 16 (pos 7000000000000) ∷ [])
 more-out n rows a =
@@ -209,30 +239,36 @@ more-out n rows a =
     let count = a.count in
     let own : (x : ℕ) → x < 16 → number_at row x ≡ pos 7000000000000 = λ x less. repeated 16 x (pos 7000000000000) less in
     let long = length-more rows row in
-    let last : row_at (rows ++ row ∷ []) n ≡ row = (let P : ℕ → Type 0 = λ m. row_at (rows ++ row ∷ []) m ≡ row in subst P count (row-last rows row)) in
+    let last : row_at (rows ++ row ∷ []) n ≡ row =
+    (let P : ℕ → Type 0 = λ m. row_at (rows ++ row ∷ []) m ≡ row in subst P count (row-last rows row)) in
     record {
       count = omega arith;
       falling = more-fall rows row a.falling out-falls;
       low = λ k x small. split (pos 0 ≤ℤ cell_at (rows ++ row ∷ []) k x) k n
           (λ e. let P : ℕ → Type 0 = λ m. pos 0 ≤ℤ cell_at (rows ++ row ∷ []) m x in
           let Q : List ℤ → Type 0 = λ l. pos 0 ≤ℤ number_at l x in
-          let high : pos 0 ≤ℤ number_at row x = (let same = own x small in omega (arith, ints)) in subst P (sym e) (subst Q (sym last) high))
+          let high : pos 0 ≤ℤ number_at row x =
+          (let same = own x small in omega (arith, ints)) in subst P (sym e) (subst Q (sym last) high))
           (λ apart. low-apart n rows row k x count small apart a.low);
       full = λ k x less small. split (cell_at (rows ++ row ∷ []) k x ≡ pos 7000000000000) k n
           (λ e. let P : ℕ → Type 0 = λ m. cell_at (rows ++ row ∷ []) m x ≡ pos 7000000000000 in
           let Q : List ℤ → Type 0 = λ l. number_at l x ≡ pos 7000000000000 in subst P (sym e) (subst Q (sym last) (own x small)))
-          (λ apart. let Q : List ℤ → Type 0 = λ l. number_at l x ≡ pos 7000000000000 in subst Q (sym (row-before rows row k (omega arith))) (a.full k x (omega arith) small));
+          (λ apart. let Q : List ℤ → Type 0 = λ l. number_at l x ≡ pos 7000000000000 in
+          subst Q (sym (row-before rows row k (omega arith))) (a.full k x (omega arith) small));
     }
 
 -- behind the last piece there is nothing yet
 pub out-rows : (n : ℕ) (rows : List (List ℤ)) → AreOut n rows → AreRows n n rows
 out-rows n rows a = record { count = a.count; falling = a.falling; low = λ k from to. absurd (omega arith) }
 
-pub unbounded : (d : DutyFacts) (prices : List Price) (g : Group) (r : Reach) (long : ℕ) (last : ℤ) (rows over : List (List ℤ)) → AreOut (length d.pieces) rows →
+pub unbounded : (d : DutyFacts) (prices : List Price) (g : Group) (r : Reach) (long : ℕ) (last : ℤ) (rows over : List (List ℤ)) →
+    AreOut (length d.pieces) rows →
     IsBoundFrom d prices g r long last (length d.pieces) rows over
-unbounded d prices g r long last rows over a = record { are = out-rows (length d.pieces) rows a; bounds = λ k from to. absurd (omega arith) }
+unbounded d prices g r long last rows over a =
+    record { are = out-rows (length d.pieces) rows a; bounds = λ k from to. absurd (omega arith) }
 
-pub out-chain : (d : DutyFacts) (prices : List Price) (r : Reach) (numbers : List ℕ) (rows chain : List (List ℤ)) → AreOut (length d.pieces) chain →
+pub out-chain : (d : DutyFacts) (prices : List Price) (r : Reach) (numbers : List ℕ) (rows chain : List (List ℤ)) →
+    AreOut (length d.pieces) chain →
     IsChain d prices r numbers rows (length d.pieces) chain
 out-chain d prices r numbers rows chain a = record {
   count = a.count;
@@ -241,7 +277,8 @@ out-chain d prices r numbers rows chain a = record {
   under = λ k later x from order to same. absurd (omega arith);
 }
 
-pub out-tail : (d : DutyFacts) (prices : List Price) (r : Reach) (numbers : List ℕ) (rows tail : List (List ℤ)) → length d.pieces ≤ 3000 → AreOut (length d.pieces) tail →
+pub out-tail : (d : DutyFacts) (prices : List Price) (r : Reach) (numbers : List ℕ) (rows tail : List (List ℤ)) → length d.pieces ≤ 3000 →
+    AreOut (length d.pieces) tail →
     IsTail d prices r numbers rows (length d.pieces) tail
 out-tail d prices r numbers rows tail few a = record {
   count = a.count;
@@ -269,14 +306,16 @@ out-below n over rows count falling a k x small = elim (nat_lt k n) as (λ b. na
 ] refl
 
 -- fewer rows are asked of
-pub bounded-from : (d : DutyFacts) (prices : List Price) (g : Group) (r : Reach) (long : ℕ) (last : ℤ) (place first : ℕ) (rows over : List (List ℤ)) → IsBoundFrom d prices g r long last place rows over → place ≤ first →
+pub bounded-from : (d : DutyFacts) (prices : List Price) (g : Group) (r : Reach) (long : ℕ) (last : ℤ) (place first : ℕ)
+    (rows over : List (List ℤ)) → IsBoundFrom d prices g r long last place rows over → place ≤ first →
     IsBoundFrom d prices g r long last first rows over
 bounded-from d prices g r long last place first rows over b order = record {
   are = record { count = b.are.count; falling = b.are.falling; low = λ k from to. b.are.low k (omega arith) to };
   bounds = λ k from to. b.bounds k (omega arith) to;
 }
 
-pub chain-from : (d : DutyFacts) (prices : List Price) (r : Reach) (numbers : List ℕ) (rows : List (List ℤ)) (place first : ℕ) (chain : List (List ℤ)) → IsChain d prices r numbers rows place chain → place ≤ first →
+pub chain-from : (d : DutyFacts) (prices : List Price) (r : Reach) (numbers : List ℕ) (rows : List (List ℤ)) (place first : ℕ)
+    (chain : List (List ℤ)) → IsChain d prices r numbers rows place chain → place ≤ first →
     IsChain d prices r numbers rows first chain
 chain-from d prices r numbers rows place first chain c order = record {
   count = c.count;
@@ -286,30 +325,37 @@ chain-from d prices r numbers rows place first chain c order = record {
 }
 
 -- rows that change before a place alone
-pub chain-kept : (d : DutyFacts) (prices : List Price) (r : Reach) (numbers : List ℕ) (old new : List (List ℤ)) (place : ℕ) (chain : List (List ℤ)) → IsChain d prices r numbers old place chain →
+pub chain-kept : (d : DutyFacts) (prices : List Price) (r : Reach) (numbers : List ℕ) (old new : List (List ℤ)) (place : ℕ)
+    (chain : List (List ℤ)) → IsChain d prices r numbers old place chain →
     ((n : ℕ) → place ≤ n → row_at new n ≡ row_at old n) → IsChain d prices r numbers new place chain
 chain-kept d prices r numbers old new place chain c same = record {
   count = c.count;
   low = c.low;
   high = c.high;
-  under = λ k later x from up to alike. under-same d prices r old new later x (cell_at chain k x) (same later (omega arith)) (c.under k later x from up to alike);
+  under = λ k later x from up to alike. under-same d prices r old new later x (cell_at chain k x) (same later (omega arith))
+      (c.under k later x from up to alike);
 }
 
-pub tail-kept : (d : DutyFacts) (prices : List Price) (r : Reach) (numbers : List ℕ) (old new : List (List ℤ)) (place : ℕ) (tail : List (List ℤ)) → IsTail d prices r numbers old place tail →
+pub tail-kept : (d : DutyFacts) (prices : List Price) (r : Reach) (numbers : List ℕ) (old new : List (List ℤ)) (place : ℕ)
+    (tail : List (List ℤ)) → IsTail d prices r numbers old place tail →
     ((n : ℕ) → place ≤ n → row_at new n ≡ row_at old n) → IsTail d prices r numbers new place tail
 tail-kept d prices r numbers old new place tail t same = record {
   count = t.count;
   low = t.low;
   high = t.high;
-  under = λ later x from to. under-same d prices r old new later x (cell_at tail (entry_at numbers later) x) (same later from) (t.under later x from to);
+  under = λ later x from to. under-same d prices r old new later x (cell_at tail (entry_at numbers later) x) (same later from)
+      (t.under later x from to);
 }
 
 tail-order : (numbers : List ℕ) (item later : ℕ) → item ≤ later → entry_at numbers later ≢ entry_at numbers item → item + 1 ≤ later
-tail-order numbers item later from other = split (item + 1 ≤ later) later item (λ e. absurd (other (ap (entry_at numbers) e))) (λ n. omega arith)
+tail-order numbers item later from other =
+    split (item + 1 ≤ later) later item (λ e. absurd (other (ap (entry_at numbers) e))) (λ n. omega arith)
 
 -- the row of a number lowered by one piece more
-pub tailed : (d : DutyFacts) (prices : List Price) (r : Reach) (numbers : List ℕ) (rows tail : List (List ℤ)) (item : ℕ) (row : List ℤ) → item < length d.pieces →
-    AreNumbered (length d.pieces) numbers → IsTail d prices r numbers rows (item + 1) tail → IsLoweredBy d prices r rows item (row_at tail (entry_at numbers item)) row →
+pub tailed : (d : DutyFacts) (prices : List Price) (r : Reach) (numbers : List ℕ) (rows tail : List (List ℤ)) (item : ℕ) (row : List ℤ) →
+    item < length d.pieces →
+    AreNumbered (length d.pieces) numbers → IsTail d prices r numbers rows (item + 1) tail →
+    IsLoweredBy d prices r rows item (row_at tail (entry_at numbers item)) row →
     IsTail d prices r numbers rows item (set tail (entry_at numbers item) row)
 tailed d prices r numbers rows tail item row below n t l =
     let number = entry_at numbers item in
@@ -322,22 +368,27 @@ tailed d prices r numbers rows tail item row below n t l =
       low = λ m. rows-with (IsLow least) tail number m row (omega arith) (λ x small. let own = t.low m x small in omega (arith, ints))
           (λ x small. l.least least x small (let own = t.low number x small in omega (arith, ints)) (omega (arith, ints)));
       high = λ m x. let P : List ℤ → Type 0 = λ z. number_at z x ≤ℤ pos 7000000000000 in
-          rows-with P tail number m row (omega arith) (t.high m x) (let most = l.at_most x in let own = t.high number x in omega (arith, ints));
-      under = λ later x from to. split (IsUnder d prices r rows later x (cell_at (set tail number row) (entry_at numbers later) x)) (entry_at numbers later) number
+          rows-with P tail number m row (omega arith) (t.high m x) (let most = l.at_most x in let own =
+          t.high number x in omega (arith, ints));
+      under = λ later x from to. split (IsUnder d prices r rows later x (cell_at (set tail number row) (entry_at numbers later) x))
+          (entry_at numbers later) number
           (λ e. let P : ℕ → Type 0 = λ m. IsUnder d prices r rows later x (cell_at (set tail number row) m x) in
           let Q : List ℤ → Type 0 = λ z. IsUnder d prices r rows later x (number_at z x) in
           subst P (sym e) (subst Q (sym here) (split (IsUnder d prices r rows later x (number_at row x)) later item
           (λ same. let R : ℕ → Type 0 = λ m. IsUnder d prices r rows m x (number_at row x) in subst R (sym same) (l.under x))
           (λ apart. let S : ℕ → Type 0 = λ m. IsUnder d prices r rows later x (cell_at tail m x) in
-          under-less d prices r rows later x (number_at row x) (number_at (row_at tail number) x) (subst S e (t.under later x (omega arith) to)) (l.at_most x)))))
+          under-less d prices r rows later x (number_at row x) (number_at (row_at tail number) x)
+          (subst S e (t.under later x (omega arith) to)) (l.at_most x)))))
           (λ other. let later_on : item + 1 ≤ later = tail-order numbers item later from other in
           let Q : List ℤ → Type 0 = λ z. IsUnder d prices r rows later x (number_at z x) in
           subst Q (sym (row-others tail number (entry_at numbers later) row other)) (t.under later x later_on to));
     }
 
 -- a row more in the chain
-pub chained : (d : DutyFacts) (prices : List Price) (r : Reach) (numbers : List ℕ) (rows chain tail : List (List ℤ)) (item : ℕ) (row : List ℤ) → item < length d.pieces →
-    IsChain d prices r numbers rows (item + 1) chain → IsTail d prices r numbers rows item tail → row ≡ row_at tail (entry_at numbers item) →
+pub chained : (d : DutyFacts) (prices : List Price) (r : Reach) (numbers : List ℕ) (rows chain tail : List (List ℤ)) (item : ℕ)
+    (row : List ℤ) → item < length d.pieces →
+    IsChain d prices r numbers rows (item + 1) chain → IsTail d prices r numbers rows item tail →
+    row ≡ row_at tail (entry_at numbers item) →
     IsChain d prices r numbers rows item (set chain item row)
 chained d prices r numbers rows chain tail item row below c t is =
     let count = c.count in
@@ -369,15 +420,19 @@ all-over : (time : ℕ) (rows : List (List ℤ)) → behind 0 time rows rows ≡
 all-over time rows = same-over (nat_le 0 time) rows
 
 -- a row raised to that of lists with a long pause
-pub raised-row : (d : DutyFacts) (prices : List Price) (g : Group) (r : Reach) (last : ℤ) (rows over : List (List ℤ)) (k : ℕ) (old new by : List ℤ) → IsReach r → AreBelow over rows → last ≤ℤ r.until →
-    IsBoundRow d prices g r 10800 last rows over k old → IsBoundRow d prices g r 0 r.until over over k by → IsRaised old new by 16 → IsBoundRow d prices g r 10800 last rows over k new
+pub raised-row : (d : DutyFacts) (prices : List Price) (g : Group) (r : Reach) (last : ℤ) (rows over : List (List ℤ)) (k : ℕ)
+    (old new by : List ℤ) → IsReach r → AreBelow over rows → last ≤ℤ r.until →
+    IsBoundRow d prices g r 10800 last rows over k old → IsBoundRow d prices g r 0 r.until over over k by → IsRaised old new by 16 →
+    IsBoundRow d prices g r 10800 last rows over k new
 raised-row d prices g r last rows over k old new by reach below order b o raised = record {
-  closes = λ p off x less is_p is_off in_time. raised.most (off_value d.counts g off) x (b.closes p off x less is_p is_off in_time) (o.closes p off x less is_p is_off (omega (arith, ints)));
+  closes = λ p off x less is_p is_off in_time. raised.most (off_value d.counts g off) x (b.closes p off x less is_p is_off in_time)
+      (o.closes p off x less is_p is_off (omega (arith, ints)));
   steps = λ next time x from to is_time q is_q in_time taken small.
       let own = b.steps next time x from to is_time q is_q in_time taken small in
       let P : List (List ℤ) → Type 0 = λ l. IsUnder d prices r l next x (number_at by x) in
       let under = subst P (all-over time over) (o.steps next time x from to is_time) in
-      let also = under-either (nat_le 10800 time) d prices r rows over next x (number_at by x) reach below under q is_q in_time taken small in
+      let also = under-either (nat_le 10800 time) d prices r rows over next x (number_at by x) reach below under
+      q is_q in_time taken small in
       raised.most _ x own also;
 }
 
@@ -385,24 +440,28 @@ pub raised-falls : (old new by : List ℤ) → IsFalling old → IsFalling by �
 raised-falls old new by f h raised = record {
   high = λ x. raised.most (pos 7000000000000) x (f.high x) (h.high x);
   falls = λ x y order less.
-      let own = f.falls x y order less in let also = h.falls x y order less in let up = raised.own y in let by_up = raised.other y (omega arith) in
+      let own = f.falls x y order less in let also = h.falls x y order less in let up = raised.own y in
+      let by_up = raised.other y (omega arith) in
       raised.most (number_at new y) x (omega (arith, ints)) (omega (arith, ints));
 }
 
 pub raised-low : (z : ℤ) (old new by : List ℤ) → IsLow z old → IsRaised old new by 16 → IsLow z new
 raised-low z old new by low raised x small = let own = low x small in let up = raised.own x in omega (arith, ints)
 
-pub raised-below : (over rows : List (List ℤ)) (k : ℕ) (old new : List ℤ) → AreBelow over rows → k < length rows → IsRaised old new (row_at over k) 16 → AreBelow over (set rows k new)
+pub raised-below : (over rows : List (List ℤ)) (k : ℕ) (old new : List ℤ) → AreBelow over rows → k < length rows →
+    IsRaised old new (row_at over k) 16 → AreBelow over (set rows k new)
 raised-below over rows k old new below less raised n x small = split (cell_at over n x ≤ℤ cell_at (set rows k new) n x) n k
     (λ e. let P : ℕ → Type 0 = λ m. cell_at over m x ≤ℤ cell_at (set rows k new) m x in
     let Q : List ℤ → Type 0 = λ l. cell_at over k x ≤ℤ number_at l x in
     subst P (sym e) (subst Q (sym (row-here rows k new less)) (raised.other x small)))
-    (λ apart. let Q : List ℤ → Type 0 = λ l. cell_at over n x ≤ℤ number_at l x in subst Q (sym (row-others rows k n new apart)) (below n x small))
+    (λ apart. let Q : List ℤ → Type 0 = λ l. cell_at over n x ≤ℤ number_at l x in
+    subst Q (sym (row-others rows k n new apart)) (below n x small))
 
 pub below-self : (rows : List (List ℤ)) → AreBelow rows rows
 below-self rows k x small = omega (arith, ints)
 
-pub chosen-rows : (is : Bool) (n place : ℕ) (over rows : List (List ℤ)) → AreRows n place over → AreRows n place rows → AreRows n place (cond is over rows)
+pub chosen-rows : (is : Bool) (n place : ℕ) (over rows : List (List ℤ)) → AreRows n place over → AreRows n place rows →
+    AreRows n place (cond is over rows)
 chosen-rows true n place over rows a b = a
 chosen-rows false n place over rows a b = b
 

@@ -1,4 +1,5 @@
--- Labels by prices that are the same before an end are the same for lists that end before it: a mark reads the prices of its list's pieces alone.
+-- Labels by prices that are the same before an end are the same for lists that end before it: a mark reads the prices of its list's
+-- pieces alone.
 use Rattle.std.proofs.Common.{◌≡◌, ℕ, neg_ℤ, pos, ◌≤ℤ◌, ◌-◌, ◌<◌, ◌≤◌, zero, suc, List, [], ◌∷◌, ◌++◌, length, take, replicate, refl, sym, ap, ◌∙◌, cond, arith}
 use Rattle.std.proofs.lemmas.Int.{ints}
 use Rattle.std.specs.Prelude.{Option, Some, None, slice_get}
@@ -44,7 +45,8 @@ take-price (suc end) k [] rest h there = absurd (omega arith)
 take-price (suc end) zero (x ∷ xs) rest h there = refl
 take-price (suc end) (suc k) (x ∷ xs) rest h there = take-price end k xs rest (omega arith) (omega arith)
 
-pub before-price : (end : ℕ) (prices : List Price) → end ≤ length prices → (k : ℕ) → k < end → price_at (priced_before end prices) k ≡ price_at prices k
+pub before-price : (end : ℕ) (prices : List Price) → end ≤ length prices → (k : ℕ) → k < end →
+    price_at (priced_before end prices) k ≡ price_at prices k
 before-price end prices there k h = take-price end k prices (replicate (length prices - end) least) h (omega arith)
 
 module _ (d : DutyFacts) (class : ℕ) (g : Group) (prices early : List Price) where
@@ -61,24 +63,29 @@ module _ (d : DutyFacts) (class : ℕ) (g : Group) (prices early : List Price) w
     after-same None (x ∷ xs) h = refl
     after-same (Some m) [] h = refl
     after-same (Some m) (x ∷ xs) h =
-        ap (λ o. label_after (duty_labels d early class g first stop) o xs) (extended-same m x (alike x h.0)) ∙ after-same (extended_mark d g prices m x) xs h.1
+        ap (λ o. label_after (duty_labels d early class g first stop) o xs) (extended-same m x (alike x h.0))
+        ∙ after-same (extended_mark d g prices m x) xs h.1
 
     label-same : AreSameBefore (duty_labels d prices class g first stop) (duty_labels d early class g first stop) end
     label-same [] h = refl
     label-same (x ∷ xs) h =
-        ap (λ o. label_after (duty_labels d early class g first stop) (cond (is_between first stop x) o None) xs) (first-same x (alike x h.0)) ∙
+        ap (λ o. label_after (duty_labels d early class g first stop) (cond (is_between first stop x) o None) xs)
+        (first-same x (alike x h.0)) ∙
         after-same (cond (is_between first stop x) (first_mark d prices class g x) None) xs h.1
 
 -- the same of labels whose parts are known by equations
-module _ (d n m : DutyFacts) (prices own early other : List Price) (class c1 c2 : ℕ) (g h : Group) (first f1 f2 stop t1 t2 : ℕ) (of_n : n ≡ d) (of_m : m ≡ d) (of_g : slice_get d.params.groups class ≡ Some g)
+module _ (d n m : DutyFacts) (prices own early other : List Price) (class c1 c2 : ℕ) (g h : Group) (first f1 f2 stop t1 t2 : ℕ)
+    (of_n : n ≡ d) (of_m : m ≡ d) (of_g : slice_get d.params.groups class ≡ Some g)
     (of_h : slice_get d.params.groups class ≡ Some h) where
   one-group : g ≡ h
   one-group = Some-same g h (sym of_g ∙ of_h)
 
   pub made-same : (end : ℕ) → own ≡ prices → other ≡ early → c1 ≡ class → c2 ≡ class → f1 ≡ first → f2 ≡ first → t1 ≡ stop → t2 ≡ stop →
-      ((k : ℕ) → k < end → price_at early k ≡ price_at prices k) → AreSameBefore (duty_labels n own c1 g f1 t1) (duty_labels m other c2 h f2 t2) end
+      ((k : ℕ) → k < end → price_at early k ≡ price_at prices k) →
+      AreSameBefore (duty_labels n own c1 g f1 t1) (duty_labels m other c2 h f2 t2) end
   made-same end of_own of_other of_c1 of_c2 of_f1 of_f2 of_t1 of_t2 alike =
-      rw (of_n, of_m, of_own, of_other, of_c1, of_c2, of_f1, of_f2, of_t1, of_t2, one-group) (label-same d class h prices early first stop end alike)
+      rw (of_n, of_m, of_own, of_other, of_c1, of_c2, of_f1, of_f2, of_t1, of_t2, one-group)
+      (label-same d class h prices early first stop end alike)
 
   pub made-alike : CloseAlike (closed_value n g) (closed_value m h)
   made-alike = λ a. rw (of_n, of_m, one-group) refl

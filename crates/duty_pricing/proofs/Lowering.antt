@@ -65,7 +65,8 @@ row-begun row next shift width price none = record {
 pub row-more : (old row new next : List ℤ) (shift place : ℕ) (price : ℤ) → shift ≤ place → IsRowLowered old row next shift place price →
     IsLowered row new place (number_at next (place - shift) -ℤ price) → IsRowLowered old new next shift (place + 1) price
 row-more old row new next shift place price order r l = record {
-  at_most = λ x. let more = all-most row new place (number_at next (place - shift) -ℤ price) l x in let most = r.at_most x in omega (arith, ints);
+  at_most = λ x. let more = all-most row new place (number_at next (place - shift) -ℤ price) l x in
+      let most = r.at_most x in omega (arith, ints);
   below = λ x from to. split (number_at new x ≤ℤ (number_at next (x - shift) -ℤ price)) x place
       (λ e. let P : ℕ → Type 0 = λ n. number_at new n ≤ℤ (number_at next (n - shift) -ℤ price) in subst P (sym e) l.below)
       (λ n. let same = l.others x n in let under = r.below x from (omega arith) in omega (arith, ints));
@@ -88,7 +89,8 @@ settle-begun row = record {
   least = λ z h. h;
 }
 
-pub settle-more : (old row new : List ℤ) (place : ℕ) → 1 ≤ place → place < 16 → IsSettled old row place → IsLowered row new place (number_at row (place - 1)) → IsSettled old new (place + 1)
+pub settle-more : (old row new : List ℤ) (place : ℕ) → 1 ≤ place → place < 16 → IsSettled old row place →
+    IsLowered row new place (number_at row (place - 1)) → IsSettled old new (place + 1)
 settle-more old row new place some small s l = record {
   at_most = λ x. let more = all-most row new place (number_at row (place - 1)) l x in let most = s.at_most x in omega (arith, ints);
   falls = λ x y order less.
@@ -124,7 +126,8 @@ lifted-of old place value v here below is first second least =
 pub raise-begun : (row by : List ℤ) → IsRaised row row by 0
 raise-begun row by = record { own = λ x. omega (arith, ints); other = λ x less. absurd (omega arith); most = λ z x h k. h }
 
-pub raise-more : (old row new by : List ℤ) (place : ℕ) → IsRaised old row by place → IsLifted row new place (number_at by place) → IsRaised old new by (place + 1)
+pub raise-more : (old row new by : List ℤ) (place : ℕ) → IsRaised old row by place → IsLifted row new place (number_at by place) →
+    IsRaised old new by (place + 1)
 raise-more old row new by place r l = record {
   own = λ x. let before = r.own x in split (number_at old x ≤ℤ number_at new x) x place
       (λ e. let P : ℕ → Type 0 = λ n. number_at old n ≤ℤ number_at row n → number_at old n ≤ℤ number_at new n in
@@ -134,6 +137,7 @@ raise-more old row new by place r l = record {
       (λ e. let P : ℕ → Type 0 = λ n. number_at by n ≤ℤ number_at new n in subst P (sym e) l.above)
       (λ n. let same = l.others x n in let before = r.other x (omega arith) in omega (arith, ints));
   most = λ z x h k. let before = r.most z x h k in split (number_at new x ≤ℤ z) x place
-      (λ e. let P : ℕ → Type 0 = λ n. number_at row n ≤ℤ z → number_at by n ≤ℤ z → number_at new n ≤ℤ z in subst P (sym e) (l.most z) before k)
+      (λ e. let P : ℕ → Type 0 = λ n. number_at row n ≤ℤ z → number_at by n ≤ℤ z → number_at new n ≤ℤ z in
+      subst P (sym e) (l.most z) before k)
       (λ n. let same = l.others x n in omega (arith, ints));
 }

@@ -40,14 +40,17 @@ behind long time rows over = cond (nat_le long time) over rows
 -- than in truth.
 abbrev pub IsUnder : DutyFacts → List Price → Reach → List (List ℤ) → ℕ → ℕ → ℤ → Type 0
 IsUnder d prices r rows next x z =
-    (q : Piece) → slice_get d.pieces next ≡ Some q → q.end.0 ≤ℤ r.until → q.driving / r.unit ≤ x → x < r.width → z ≤ℤ (cell_at rows next (x - q.driving / r.unit) -ℤ price_at prices next)
+    (q : Piece) → slice_get d.pieces next ≡ Some q → q.end.0 ≤ℤ r.until → q.driving / r.unit ≤ x → x < r.width →
+    z ≤ℤ (cell_at rows next (x - q.driving / r.unit) -ℤ price_at prices next)
 
 -- The row of a piece: for each amount of driving left a number that neither ending behind the piece in time undercuts, nor going on with a
 -- later piece after a pause. Article 7 and the other limits are left out, since they only forbid.
-pub record IsBoundRow (d : DutyFacts) (prices : List Price) (g : Group) (r : Reach) (long : ℕ) (last : ℤ) (rows over : List (List ℤ)) (k : ℕ) (row : List ℤ) : Type 0 where
+pub record IsBoundRow (d : DutyFacts) (prices : List Price) (g : Group) (r : Reach) (long : ℕ) (last : ℤ) (rows over : List (List ℤ))
+    (k : ℕ) (row : List ℤ) : Type 0 where
   pub closes : (p : Piece) (off : ℤ) (x : ℕ) → x < r.width → slice_get d.pieces k ≡ Some p → sign_off d g p ≡ Some off → off ≤ℤ last →
       number_at row x ≤ℤ off_value d.counts g off
-  pub steps : (next time x : ℕ) → k < next → next < length d.pieces → pause_at d k next ≡ Some time → IsUnder d prices r (behind long time rows over) next x (number_at row x)
+  pub steps : (next time x : ℕ) → k < next → next < length d.pieces → pause_at d k next ≡ Some time →
+      IsUnder d prices r (behind long time rows over) next x (number_at row x)
 
 -- a number is the lower the more driving is left, and is out of reach at most
 pub record IsFalling (row : List ℤ) : Type 0 where
@@ -72,7 +75,8 @@ pub record AreRows (n place : ℕ) (rows : List (List ℤ)) : Type 0 where
   pub low : (k : ℕ) → place ≤ k → k < n → IsLow (low_of k) (row_at rows k)
 
 -- the rows of all pieces from a place on are bounds
-pub record IsBoundFrom (d : DutyFacts) (prices : List Price) (g : Group) (r : Reach) (long : ℕ) (last : ℤ) (place : ℕ) (rows over : List (List ℤ)) : Type 0 where
+pub record IsBoundFrom (d : DutyFacts) (prices : List Price) (g : Group) (r : Reach) (long : ℕ) (last : ℤ) (place : ℕ)
+    (rows over : List (List ℤ)) : Type 0 where
   pub are : AreRows (length d.pieces) place rows
   pub bounds : (k : ℕ) → place ≤ k → k < length d.pieces → IsBoundRow d prices g r long last rows over k (row_at rows k)
 
@@ -80,9 +84,10 @@ pub record IsBoundFrom (d : DutyFacts) (prices : List Price) (g : Group) (r : Re
 abbrev pub AreBelow : List (List ℤ) → List (List ℤ) → Type 0
 AreBelow over rows = (k x : ℕ) → x < 16 → cell_at over k x ≤ℤ cell_at rows k x
 
--- The bounds of lists without a long pause so far, and of lists with one: the former must end in time for a duty without a long pause, unless
--- one is still to come; the latter are no higher.
-pub record AreBounds (d : DutyFacts) (prices : List Price) (g : Group) (r : Reach) (latest : ℤ) (place : ℕ) (rows over : List (List ℤ)) : Type 0 where
+-- The bounds of lists without a long pause so far, and of lists with one: the former must end in time for a duty without a long pause,
+-- unless one is still to come; the latter are no higher.
+pub record AreBounds (d : DutyFacts) (prices : List Price) (g : Group) (r : Reach) (latest : ℤ) (place : ℕ)
+    (rows over : List (List ℤ)) : Type 0 where
   pub plain : IsBoundFrom d prices g r 10800 (latest +ℤ pos (limits_of g).spread) place rows over
   pub long : IsBoundFrom d prices g r 0 (latest +ℤ pos 54000) place over over
   pub below : AreBelow over rows
@@ -95,24 +100,30 @@ pub record AreOut (n : ℕ) (rows : List (List ℤ)) : Type 0 where
   pub full : (k x : ℕ) → k < n → x < 16 → cell_at rows k x ≡ pos 7000000000000
 
 -- the row of a piece in a chain: no going on with it or with a later piece of its number undercuts it
-pub record IsChain (d : DutyFacts) (prices : List Price) (r : Reach) (numbers : List ℕ) (rows : List (List ℤ)) (place : ℕ) (chain : List (List ℤ)) : Type 0 where
+pub record IsChain (d : DutyFacts) (prices : List Price) (r : Reach) (numbers : List ℕ) (rows : List (List ℤ)) (place : ℕ)
+    (chain : List (List ℤ)) : Type 0 where
   pub count : length chain ≡ length d.pieces
-  pub low : (k : ℕ) → place ≤ k → k < length d.pieces → IsLow (neg_ℤ (pos 30000000000000000) +ℤ pos (10000000000000 * k) -ℤ pos 10000000000000) (row_at chain k)
+  pub low : (k : ℕ) → place ≤ k → k < length d.pieces →
+      IsLow (neg_ℤ (pos 30000000000000000) +ℤ pos (10000000000000 * k) -ℤ pos 10000000000000) (row_at chain k)
   pub high : (k x : ℕ) → cell_at chain k x ≤ℤ pos 7000000000000
-  pub under : (k later x : ℕ) → place ≤ k → k ≤ later → later < length d.pieces → entry_at numbers later ≡ entry_at numbers k → IsUnder d prices r rows later x (cell_at chain k x)
+  pub under : (k later x : ℕ) → place ≤ k → k ≤ later → later < length d.pieces → entry_at numbers later ≡ entry_at numbers k →
+      IsUnder d prices r rows later x (cell_at chain k x)
 
 -- the row of a number: no going on with a piece of it from a place on undercuts it
-pub record IsTail (d : DutyFacts) (prices : List Price) (r : Reach) (numbers : List ℕ) (rows : List (List ℤ)) (place : ℕ) (tail : List (List ℤ)) : Type 0 where
+pub record IsTail (d : DutyFacts) (prices : List Price) (r : Reach) (numbers : List ℕ) (rows : List (List ℤ)) (place : ℕ)
+    (tail : List (List ℤ)) : Type 0 where
   pub count : length tail ≡ length d.pieces
   pub low : (m : ℕ) → IsLow (neg_ℤ (pos 30000000000000000) +ℤ pos (10000000000000 * place) -ℤ pos 10000000000000) (row_at tail m)
   pub high : (m x : ℕ) → cell_at tail m x ≤ℤ pos 7000000000000
-  pub under : (later x : ℕ) → place ≤ later → later < length d.pieces → IsUnder d prices r rows later x (cell_at tail (entry_at numbers later) x)
+  pub under : (later x : ℕ) → place ≤ later → later < length d.pieces →
+      IsUnder d prices r rows later x (cell_at tail (entry_at numbers later) x)
 
 -- a row lowered to what going on with a piece adds
 pub record IsLoweredBy (d : DutyFacts) (prices : List Price) (r : Reach) (rows : List (List ℤ)) (next : ℕ) (old new : List ℤ) : Type 0 where
   pub at_most : (x : ℕ) → number_at new x ≤ℤ number_at old x
   pub under : (x : ℕ) → IsUnder d prices r rows next x (number_at new x)
-  pub least : (z : ℤ) (x : ℕ) → x < 16 → z ≤ℤ number_at old x → z ≤ℤ (neg_ℤ (pos 30000000000000000) +ℤ pos (10000000000000 * next) -ℤ pos 10000000000000) → z ≤ℤ number_at new x
+  pub least : (z : ℤ) (x : ℕ) → x < 16 → z ≤ℤ number_at old x →
+      z ≤ℤ (neg_ℤ (pos 30000000000000000) +ℤ pos (10000000000000 * next) -ℤ pos 10000000000000) → z ≤ℤ number_at new x
 
 -- a row with the number at a place raised to another one, where it was below
 pub record IsLifted (old new : List ℤ) (place : ℕ) (value : ℤ) : Type 0 where
@@ -138,7 +149,8 @@ pub record IsLowered (old new : List ℤ) (place : ℕ) (value : ℤ) : Type 0 w
 pub record IsRowLowered (old new next : List ℤ) (shift width : ℕ) (price : ℤ) : Type 0 where
   pub at_most : (x : ℕ) → number_at new x ≤ℤ number_at old x
   pub below : (x : ℕ) → shift ≤ x → x < width → number_at new x ≤ℤ (number_at next (x - shift) -ℤ price)
-  pub least : (z : ℤ) (x : ℕ) → z ≤ℤ number_at old x → (shift ≤ x → x < width → z ≤ℤ (number_at next (x - shift) -ℤ price)) → z ≤ℤ number_at new x
+  pub least : (z : ℤ) (x : ℕ) → z ≤ℤ number_at old x → (shift ≤ x → x < width → z ≤ℤ (number_at next (x - shift) -ℤ price)) →
+      z ≤ℤ number_at new x
 
 -- a row made to fall at the places below one, with nothing raised
 pub record IsSettled (old new : List ℤ) (end : ℕ) : Type 0 where
@@ -148,7 +160,8 @@ pub record IsSettled (old new : List ℤ) (end : ℕ) : Type 0 where
 
 -- no list whose first piece is one from a first one on and before an end signs on later
 abbrev pub IsLatest : DutyFacts → List Price → ℕ → Group → ℕ → ℕ → ℤ → Type 0
-IsLatest d prices class g first end latest = (item : ℕ) (m : Mark) → first ≤ item → item < end → first_mark d prices class g item ≡ Some m → m.start.0 ≤ℤ latest
+IsLatest d prices class g first end latest =
+    (item : ℕ) (m : Mark) → first ≤ item → item < end → first_mark d prices class g item ≡ Some m → m.start.0 ≤ℤ latest
 
 -- the mark of a list that begins in a range: it fits, its last piece is none before the range, and it signs on in time
 pub record IsRangeMark (count first : ℕ) (latest : ℤ) (m : Mark) : Type 0 where

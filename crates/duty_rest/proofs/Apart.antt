@@ -49,7 +49,8 @@ past-at (o ∷ os) zero past = absurd (omega (arith, past))
 past-at (o ∷ os) (suc i) past = past-at os i (omega (arith, past))
 
 -- where it is there the piece is, which has begun
-part-there : (blocks earlier : List Column) (moment : ℕ) (ps : List Piece) (i : ℕ) (x : ℕ × ℕ) → part_at (begun_parts blocks earlier moment ps) i ≡ Some x →
+part-there : (blocks earlier : List Column) (moment : ℕ) (ps : List Piece) (i : ℕ) (x : ℕ × ℕ) →
+    part_at (begun_parts blocks earlier moment ps) i ≡ Some x →
     (p : Piece) × (slice_get ps i ≡ Some p) × (begun_part blocks earlier moment p ≡ Some x)
 part-there blocks earlier moment [] i x is = absurd (cc)
 part-there blocks earlier moment (p ∷ ps) zero x is = (p, refl, is)
@@ -88,7 +89,8 @@ from-none (o ∷ os) parts k i before =
     ]
 
 -- a piece is there at most once, and where its part is one of the duty's
-from-once : (os : List (Option (ℕ × ℕ))) (parts : List (ℕ × ℕ)) (k j i : ℕ) → i ≡ k + j → times i (begun_from os parts k) ≤ cond (is_one_of (part_at os j) parts) 1 0
+from-once : (os : List (Option (ℕ × ℕ))) (parts : List (ℕ × ℕ)) (k j i : ℕ) → i ≡ k + j →
+    times i (begun_from os parts k) ≤ cond (is_one_of (part_at os j) parts) 1 0
 from-once [] parts k j i is = omega arith
 from-once (o ∷ os) parts k zero i is =
     let rest = from-none os parts (suc k) i (omega (arith, is)) in
@@ -99,7 +101,8 @@ from-once (o ∷ os) parts k zero i is =
 from-once (o ∷ os) parts k (suc j) i is =
     let rest = from-once os parts (suc k) j i (omega (arith, is)) in
     let test : (i == k) ≡ false = grind (arith, nat_tests) in
-    elim (is_one_of o parts) as (λ b. times i (cond b (k ∷ begun_from os parts (suc k)) (begun_from os parts (suc k))) ≤ cond (is_one_of (part_at os j) parts) 1 0) [
+    elim (is_one_of o parts) as
+    (λ b. times i (cond b (k ∷ begun_from os parts (suc k)) (begun_from os parts (suc k))) ≤ cond (is_one_of (part_at os j) parts) 1 0) [
       | true ↦ rw test (omega (arith, rest))
       | false ↦ rest
     ]
@@ -108,7 +111,8 @@ module _ (d : DutyFacts) (begun : List (Option (ℕ × ℕ))) (moment : ℕ) whe
   abbrev pub head_with : List (ℕ × ℕ) → ℕ → List ℕ → ℕ → DutyHead
   head_with parts class pieces last = record { class = class; pieces = pieces; finished = is_finished d begun moment parts class last }
 
-  head-times : (i : ℕ) (parts : List (ℕ × ℕ)) (class : ℕ) (pieces : List ℕ) → held_times i (listed (head_of d begun moment parts class pieces)) ≤ times i pieces
+  head-times : (i : ℕ) (parts : List (ℕ × ℕ)) (class : ℕ) (pieces : List ℕ) →
+      held_times i (listed (head_of d begun moment parts class pieces)) ≤ times i pieces
   head-times i parts class pieces =
       let none = times-append i pieces [] in
       elim (last_of pieces) as (λ o. held_times i (listed (option_map (head_with parts class pieces) o)) ≤ times i pieces) [
@@ -121,7 +125,9 @@ module _ (d : DutyFacts) (begun : List (Option (ℕ × ℕ))) (moment : ℕ) whe
       let pieces : List ℕ = begun_from begun row.parts 0 in
       let once = from-once begun row.parts 0 i i (omega arith) in
       let one = one-named (part_at begun i) row.parts in
-      elim (class_of d.params.groups row.group 0) as (λ o. held_times i (listed (option_and_then (λ (class : ℕ). head_of d begun moment row.parts class pieces) o)) ≤ named (part_at begun i) row.parts) [
+      elim (class_of d.params.groups row.group 0) as
+      (λ o. held_times i (listed (option_and_then (λ (class : ℕ). head_of d begun moment row.parts class pieces) o))
+      ≤ named (part_at begun i) row.parts) [
         | None ↦ omega arith
         | Some class ↦ let few = head-times i row.parts class pieces in omega (arith, few, once, one)
       ]
@@ -135,7 +141,8 @@ module _ (d : DutyFacts) (begun : List (Option (ℕ × ℕ))) (moment : ℕ) whe
       let parts = named-append (part_at begun i) row.parts (all_parts rows) in
       omega (arith, rest, here, heads, parts)
 
-  head-some : (parts : List (ℕ × ℕ)) (class : ℕ) (pieces : List ℕ) → NoneEmpty (begun_of (listed (head_of d begun moment parts class pieces)))
+  head-some : (parts : List (ℕ × ℕ)) (class : ℕ) (pieces : List ℕ) →
+      NoneEmpty (begun_of (listed (head_of d begun moment parts class pieces)))
   head-some parts class [] = tt
   head-some parts class (k ∷ ks) =
       elim (last_of (k ∷ ks)) as (λ o. NoneEmpty (begun_of (listed (option_map (head_with parts class (k ∷ ks)) o)))) [
@@ -146,7 +153,8 @@ module _ (d : DutyFacts) (begun : List (Option (ℕ × ℕ))) (moment : ℕ) whe
   duty-some : (row : DutyRow) → NoneEmpty (begun_of (listed (duty_head d begun moment row)))
   duty-some row =
       let pieces : List ℕ = begun_from begun row.parts 0 in
-      elim (class_of d.params.groups row.group 0) as (λ o. NoneEmpty (begun_of (listed (option_and_then (λ (class : ℕ). head_of d begun moment row.parts class pieces) o)))) [
+      elim (class_of d.params.groups row.group 0) as
+      (λ o. NoneEmpty (begun_of (listed (option_and_then (λ (class : ℕ). head_of d begun moment row.parts class pieces) o)))) [
         | None ↦ tt
         | Some class ↦ head-some row.parts class pieces
       ]
@@ -179,10 +187,12 @@ one-from (Some l) t (suc n) k =
       | false ↦ λ is. omega (arith, one-from (Some l) t n (suc k))
     ] refl
 
-at-times : (i : ℕ) (h : DutyHead) (hs : List DutyHead) (k : ℕ) → held_times i (heads_at (h ∷ hs) k) ≡ cond (starts_at k h) (times i h.pieces) 0 + held_times i (heads_at hs k)
+at-times : (i : ℕ) (h : DutyHead) (hs : List DutyHead) (k : ℕ) →
+    held_times i (heads_at (h ∷ hs) k) ≡ cond (starts_at k h) (times i h.pieces) 0 + held_times i (heads_at hs k)
 at-times i h hs k =
     let both = times-append i h.pieces (held (heads_at hs k)) in
-    elim (starts_at k h) as (λ b. held_times i (cond b (h ∷ heads_at hs k) (heads_at hs k)) ≡ cond b (times i h.pieces) 0 + held_times i (heads_at hs k)) [
+    elim (starts_at k h) as
+    (λ b. held_times i (cond b (h ∷ heads_at hs k) (heads_at hs k)) ≡ cond b (times i h.pieces) 0 + held_times i (heads_at hs k)) [
       | true ↦ both
       | false ↦ omega arith
     ]
@@ -214,10 +224,12 @@ some-append : (gs hs : List DutyHead) → NoneEmpty (begun_of gs) → NoneEmpty 
 some-append [] hs a b = b
 some-append (g ∷ gs) hs a b = (a.0, some-append gs hs a.1 b)
 
-rows-some : (d : DutyFacts) (begun : List (Option (ℕ × ℕ))) (moment : ℕ) (rows : List DutyRow) → NoneEmpty (begun_of (row_heads d begun moment rows))
+rows-some : (d : DutyFacts) (begun : List (Option (ℕ × ℕ))) (moment : ℕ) (rows : List DutyRow) →
+    NoneEmpty (begun_of (row_heads d begun moment rows))
 rows-some d begun moment [] = tt
 rows-some d begun moment (row ∷ rows) =
-    some-append (listed (duty_head d begun moment row)) (row_heads d begun moment rows) (duty-some d begun moment row) (rows-some d begun moment rows)
+    some-append (listed (duty_head d begun moment row)) (row_heads d begun moment rows) (duty-some d begun moment row)
+    (rows-some d begun moment rows)
 
 at-some : (hs : List DutyHead) (k : ℕ) → NoneEmpty (begun_of hs) → NoneEmpty (begun_of (heads_at hs k))
 at-some [] k some = tt
@@ -244,21 +256,24 @@ heads-are d blocks earlier moment each =
     let rows : List DutyHead = row_heads d begun moment earlier.duties in
     let heads : List DutyHead = duty_heads_of d blocks earlier moment in
     let few : (i : ℕ) → held_times i heads ≤ named (part_at begun i) (all_parts earlier.duties) = λ i.
-    let first = first-times i rows (length d.pieces) 0 in let most = rows-times d begun moment i earlier.duties in omega (arith, first, most) in
+    let first = first-times i rows (length d.pieces) 0 in let most = rows-times d begun moment i earlier.duties in
+    omega (arith, first, most) in
     record {
       some = first-some rows (length d.pieces) 0 (rows-some d begun moment earlier.duties);
       below = below-times (length d.pieces) (held heads) (λ j some.
           elim (cases_lt j (length d.pieces)) [
             | inl there ↦ there
             | inr past ↦
-                let none : named (part_at begun j) (all_parts earlier.duties) ≡ 0 = ap (λ (o : Option (ℕ × ℕ)). named o (all_parts earlier.duties)) (past-at begun j (omega (arith, all, past))) in
+                let none : named (part_at begun j) (all_parts earlier.duties) ≡ 0 =
+                ap (λ (o : Option (ℕ × ℕ)). named o (all_parts earlier.duties)) (past-at begun j (omega (arith, all, past))) in
                 let most = few j in
                 absurd (omega (arith, none, most, some))
           ]);
       once = λ i. let most = few i in let one = once-named i (part_at begun i) refl in omega (arith, most, one);
     }
   where
-    once-named : (i : ℕ) (o : Option (ℕ × ℕ)) → part_at (begun_parts blocks earlier.blocks.columns moment d.pieces) i ≡ o → named o (all_parts earlier.duties) ≤ 1
+    once-named : (i : ℕ) (o : Option (ℕ × ℕ)) → part_at (begun_parts blocks earlier.blocks.columns moment d.pieces) i ≡ o →
+        named o (all_parts earlier.duties) ≤ 1
     once-named i None is = omega arith
     once-named i (Some x) is =
         let (p, at, begun) = part-there blocks earlier.blocks.columns moment d.pieces i x is in

@@ -27,7 +27,8 @@ both-true true b e = (refl, e)
 both-true false b e = absurd (cc)
 
 -- a begun piece of a duty is found
-from-there : (os : List (Option (ℕ × ℕ))) (parts : List (ℕ × ℕ)) (k j i : ℕ) → i ≡ k + j → is_one_of (part_at os j) parts ≡ true → 1 ≤ times i (begun_from os parts k)
+from-there : (os : List (Option (ℕ × ℕ))) (parts : List (ℕ × ℕ)) (k j i : ℕ) → i ≡ k + j → is_one_of (part_at os j) parts ≡ true →
+    1 ≤ times i (begun_from os parts k)
 from-there [] parts k j i is one = none parts one
   where
     none : (parts : List (ℕ × ℕ)) → is_one_of None parts ≡ true → 1 ≤ 0
@@ -64,7 +65,8 @@ start-append n [] hs a b = b
 start-append n (g ∷ gs) hs a b = (a.0, start-append n gs hs a.1 b)
 
 module _ (d : DutyFacts) (begun : List (Option (ℕ × ℕ))) (moment : ℕ) where
-  head-start : (n : ℕ) (parts : List (ℕ × ℕ)) (class : ℕ) (pieces : List ℕ) → AllBelow n pieces → AllStart n (listed (head_of d begun moment parts class pieces))
+  head-start : (n : ℕ) (parts : List (ℕ × ℕ)) (class : ℕ) (pieces : List ℕ) → AllBelow n pieces →
+      AllStart n (listed (head_of d begun moment parts class pieces))
   head-start n parts class [] below = tt
   head-start n parts class (k ∷ ks) below =
       elim (last_of (k ∷ ks)) as (λ o. AllStart n (listed (option_map (head_with d begun moment parts class (k ∷ ks)) o))) [
@@ -76,26 +78,31 @@ module _ (d : DutyFacts) (begun : List (Option (ℕ × ℕ))) (moment : ℕ) whe
   duty-start n row few =
       let pieces : List ℕ = begun_from begun row.parts 0 in
       let below : AllBelow n pieces = from-below n begun row.parts 0 (omega (arith, few)) in
-      elim (class_of d.params.groups row.group 0) as (λ o. AllStart n (listed (option_and_then (λ (class : ℕ). head_of d begun moment row.parts class pieces) o))) [
+      elim (class_of d.params.groups row.group 0) as
+      (λ o. AllStart n (listed (option_and_then (λ (class : ℕ). head_of d begun moment row.parts class pieces) o))) [
         | None ↦ tt
         | Some class ↦ head-start n row.parts class pieces below
       ]
 
   rows-start : (n : ℕ) (rows : List DutyRow) → length begun ≤ n → AllStart n (row_heads d begun moment rows)
   rows-start n [] few = tt
-  rows-start n (row ∷ rows) few = start-append n (listed (duty_head d begun moment row)) (row_heads d begun moment rows) (duty-start n row few) (rows-start n rows few)
+  rows-start n (row ∷ rows) few =
+      start-append n (listed (duty_head d begun moment row)) (row_heads d begun moment rows) (duty-start n row few) (rows-start n rows few)
 
   -- a begun piece of a duty stands in its head
-  head-holds : (i : ℕ) (parts : List (ℕ × ℕ)) (class : ℕ) (pieces : List ℕ) → 1 ≤ times i pieces → 1 ≤ held_times i (listed (head_of d begun moment parts class pieces))
+  head-holds : (i : ℕ) (parts : List (ℕ × ℕ)) (class : ℕ) (pieces : List ℕ) → 1 ≤ times i pieces →
+      1 ≤ held_times i (listed (head_of d begun moment parts class pieces))
   head-holds i parts class pieces some =
       let (l, last) = has-last i pieces some in
       let none = times-append i pieces [] in
       let P : Option ℕ → Type 0 = λ o. 1 ≤ held_times i (listed (option_map (head_with d begun moment parts class pieces) o)) in
       subst P (sym last) (omega (arith, some, none))
 
-  duty-holds : (i : ℕ) (row : DutyRow) → belongs d.params.groups (part_at begun i) row ≡ true → 1 ≤ held_times i (listed (duty_head d begun moment row))
+  duty-holds : (i : ℕ) (row : DutyRow) → belongs d.params.groups (part_at begun i) row ≡ true →
+      1 ≤ held_times i (listed (duty_head d begun moment row))
   duty-holds i row own =
-      let (one, there) = both-true (is_one_of (part_at begun i) row.parts) (option_map_or (λ (class : ℕ). true) (class_of d.params.groups row.group 0) false) own in
+      let (one, there) = both-true (is_one_of (part_at begun i) row.parts)
+      (option_map_or (λ (class : ℕ). true) (class_of d.params.groups row.group 0) false) own in
       let pieces : List ℕ = begun_from begun row.parts 0 in
       let some : 1 ≤ times i pieces = from-there begun row.parts 0 i i (omega arith) one in
       elim (class_of d.params.groups row.group 0) as (λ o. option_map_or (λ (class : ℕ). true) o false ≡ true →
@@ -104,11 +111,13 @@ module _ (d : DutyFacts) (begun : List (Option (ℕ × ℕ))) (moment : ℕ) whe
         | Some class ↦ λ e. head-holds i row.parts class pieces some
       ] there
 
-  rows-hold : (i : ℕ) (rows : List DutyRow) → belongs_to d.params.groups (part_at begun i) rows ≡ true → 1 ≤ held_times i (row_heads d begun moment rows)
+  rows-hold : (i : ℕ) (rows : List DutyRow) → belongs_to d.params.groups (part_at begun i) rows ≡ true →
+      1 ≤ held_times i (row_heads d begun moment rows)
   rows-hold i [] own = absurd (cc)
   rows-hold i (row ∷ rows) own =
       let both = held-append i (listed (duty_head d begun moment row)) (row_heads d begun moment rows) in
-      elim (belongs d.params.groups (part_at begun i) row) as (λ b. belongs d.params.groups (part_at begun i) row ≡ b → (b || belongs_to d.params.groups (part_at begun i) rows) ≡ true →
+      elim (belongs d.params.groups (part_at begun i) row) as (λ b. belongs d.params.groups (part_at begun i) row ≡ b →
+      (b || belongs_to d.params.groups (part_at begun i) rows) ≡ true →
       1 ≤ held_times i (row_heads d begun moment (row ∷ rows))) [
         | true ↦ λ is e. let here = duty-holds i row is in omega (arith, both, here)
         | false ↦ λ is e. let rest = rows-hold i rows e in omega (arith, both, rest)
@@ -134,11 +143,13 @@ all-first i n (h ∷ hs) start =
     let more = head-more i h hs n 0 in
     let both = times-append i h.pieces (held hs) in
     let whole = from-all l (times i h.pieces) n 0 (omega arith) (omega (arith, below)) in
-    let same : times_from (slice_get h.pieces 0) (times i h.pieces) n 0 ≡ times_from (Some l) (times i h.pieces) n 0 = ap (λ o. times_from o (times i h.pieces) n 0) is in
+    let same : times_from (slice_get h.pieces 0) (times i h.pieces) n 0 ≡ times_from (Some l) (times i h.pieces) n 0 =
+    ap (λ o. times_from o (times i h.pieces) n 0) is in
     omega (arith, rest, more, both, whole, same)
 
 -- a head in which a piece stands
-find-head : (i : ℕ) (hs : List DutyHead) → 1 ≤ held_times i hs → (m : ℕ) × (h : Begun) × (slice_get (begun_of hs) m ≡ Some h) × (1 ≤ times i h.items)
+find-head : (i : ℕ) (hs : List DutyHead) → 1 ≤ held_times i hs →
+    (m : ℕ) × (h : Begun) × (slice_get (begun_of hs) m ≡ Some h) × (1 ≤ times i h.items)
 find-head i [] some = absurd (omega (arith, some))
 find-head i (h ∷ hs) some =
     let both = times-append i h.pieces (held hs) in
@@ -161,7 +172,8 @@ at-most x (b ∷ bs) (suc j) c at =
     let rest = at-most x bs j c at in
     omega (arith, both, rest)
 
-same-place : (x : ℕ) (cs : List Column) (j k : ℕ) (c e : Column) → times x (all_items cs) ≤ 1 → slice_get cs j ≡ Some c → slice_get cs k ≡ Some e → 1 ≤ times x c.items → 1 ≤ times x e.items → c ≡ e
+same-place : (x : ℕ) (cs : List Column) (j k : ℕ) (c e : Column) → times x (all_items cs) ≤ 1 → slice_get cs j ≡ Some c →
+    slice_get cs k ≡ Some e → 1 ≤ times x c.items → 1 ≤ times x e.items → c ≡ e
 same-place x [] j k c e once atc ate here there = absurd (cc)
 same-place x (b ∷ bs) zero zero c e once atc ate here there = sym (some-same b c atc) ∙ some-same b e ate
 same-place x (b ∷ bs) zero (suc k) c e once atc ate here there =
@@ -178,7 +190,8 @@ same-place x (b ∷ bs) (suc j) (suc k) c e once atc ate here there =
     let both = times-append x b.items (all_items bs) in
     same-place x bs j k c e (omega (arith, both, once)) atc ate here there
 
-part-is : (blocks earlier : List Column) (moment : ℕ) (ps : List Piece) (i : ℕ) (p : Piece) → slice_get ps i ≡ Some p → part_at (begun_parts blocks earlier moment ps) i ≡ begun_part blocks earlier moment p
+part-is : (blocks earlier : List Column) (moment : ℕ) (ps : List Piece) (i : ℕ) (p : Piece) → slice_get ps i ≡ Some p →
+    part_at (begun_parts blocks earlier moment ps) i ≡ begun_part blocks earlier moment p
 part-is blocks earlier moment [] i p at = absurd (cc)
 part-is blocks earlier moment (q ∷ qs) zero p at = ap (begun_part blocks earlier moment) (some-same q p at)
 part-is blocks earlier moment (q ∷ qs) (suc i) p at = part-is blocks earlier moment qs i p at
@@ -196,14 +209,17 @@ module _ (d : DutyFacts) (blocks : List Column) (earlier : PlanText) (moment : �
   holds : (k : ℕ) → has_begun_in d blocks earlier moment k ≡ true → (k < length d.pieces) × (1 ≤ held_times k heads)
   holds k own =
       elim (slice_get d.pieces k) as (λ o. slice_get d.pieces k ≡ o →
-      option_map_or (λ (p : Piece). belongs_to d.params.groups (begun_part blocks earlier.blocks.columns moment p) earlier.duties) o false ≡ true → (k < length d.pieces) × (1 ≤ held_times k heads)) [
+      option_map_or (λ (p : Piece). belongs_to d.params.groups (begun_part blocks earlier.blocks.columns moment p) earlier.duties) o false
+      ≡ true → (k < length d.pieces) × (1 ≤ held_times k heads)) [
         | None ↦ λ at e. absurd (cc)
         | Some p ↦ λ at e.
             let begun : List (Option (ℕ × ℕ)) = begun_parts blocks earlier.blocks.columns moment d.pieces in
             let all = parts-length blocks earlier.blocks.columns moment d.pieces in
             let P : Option (ℕ × ℕ) → Type 0 = λ o. belongs_to d.params.groups o earlier.duties ≡ true in
-            let rows = rows-hold d begun moment k earlier.duties (subst P (sym (part-is blocks earlier.blocks.columns moment d.pieces k p at)) e) in
-            let first = all-first k (length d.pieces) (row_heads d begun moment earlier.duties) (rows-start d begun moment (length d.pieces) earlier.duties (omega (arith, all))) in
+            let rows = rows-hold d begun moment k earlier.duties
+            (subst P (sym (part-is blocks earlier.blocks.columns moment d.pieces k p at)) e) in
+            let first = all-first k (length d.pieces) (row_heads d begun moment earlier.duties)
+            (rows-start d begun moment (length d.pieces) earlier.duties (omega (arith, all))) in
             (within d.pieces k p at, omega (arith, rows, first))
       ] refl own
 
@@ -213,13 +229,16 @@ module _ (d : DutyFacts) (blocks : List Column) (earlier : PlanText) (moment : �
       let same : times x c.items ≡ times x (h.items ++ begins.more) = ap (times x) begins.items in
       omega (arith, both, same, some)
 
-  none-all : (columns : List Column) → IsPlan (duties d) columns → KeepsBegun (begun_of heads) may_begin columns → (j : ℕ) (c : Column) → slice_get columns j ≡ Some c →
-      ((k : ℕ) (h : Begun) → slice_get (begun_of heads) k ≡ Some h → BeginsWith h c → ⊥) → (list : List ℕ) → ((x : ℕ) → 1 ≤ times x list → 1 ≤ times x c.items) →
+  none-all : (columns : List Column) → IsPlan (duties d) columns → KeepsBegun (begun_of heads) may_begin columns → (j : ℕ) (c : Column) →
+      slice_get columns j ≡ Some c →
+      ((k : ℕ) (h : Begun) → slice_get (begun_of heads) k ≡ Some h → BeginsWith h c → ⊥) → (list : List ℕ) →
+      ((x : ℕ) → 1 ≤ times x list → 1 ≤ times x c.items) →
       none_begun d blocks earlier moment list ≡ true
   none-all columns plan keeps j c at others [] front = refl
   none-all columns plan keeps j c at others (x ∷ xs) front =
       let rest = none-all columns plan keeps j c at others xs (λ y some. front y (omega (arith, some))) in
-      elim (has_begun_in d blocks earlier moment x) as (λ b. has_begun_in d blocks earlier moment x ≡ b → (not b && none_begun d blocks earlier moment xs) ≡ true) [
+      elim (has_begun_in d blocks earlier moment x) as (λ b. has_begun_in d blocks earlier moment x ≡ b →
+      (not b && none_begun d blocks earlier moment xs) ≡ true) [
         | false ↦ λ is. rest
         | true ↦ λ is.
             let (there, some) = holds x is in

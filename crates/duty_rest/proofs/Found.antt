@@ -17,7 +17,8 @@ parts-length blocks earlier moment [] = refl
 parts-length blocks earlier moment (p ∷ ps) = let rest = parts-length blocks earlier moment ps in omega (arith, rest)
 
 -- begun pieces are there
-pub from-below : (n : ℕ) (begun : List (Option (ℕ × ℕ))) (parts : List (ℕ × ℕ)) (k : ℕ) → k + length begun ≤ n → AllBelow n (begun_from begun parts k)
+pub from-below : (n : ℕ) (begun : List (Option (ℕ × ℕ))) (parts : List (ℕ × ℕ)) (k : ℕ) → k + length begun ≤ n →
+    AllBelow n (begun_from begun parts k)
 from-below n [] parts k few = tt
 from-below n (o ∷ os) parts k few =
     let rest : AllBelow n (begun_from os parts (suc k)) = from-below n os parts (suc k) (omega (arith, few)) in
@@ -32,7 +33,8 @@ below-at n (l ∷ ls) zero k below is = let P : ℕ → Type 0 = λ k. k < n in 
 below-at n (l ∷ ls) (suc i) k below is = below-at n ls i k below.1 is
 
 -- the heads that begin with one piece more
-pub heads-more : (rows : List DutyHead) (count first : ℕ) (before after : List DutyHead) → first < count → after ≡ before ++ heads_at rows first →
+pub heads-more : (rows : List DutyHead) (count first : ℕ) (before after : List DutyHead) → first < count →
+    after ≡ before ++ heads_at rows first →
     after ++ by_first rows (count - (first + 1)) (first + 1) ≡ before ++ by_first rows (count - first) first
 heads-more rows count first before after h is =
     let left : count - first ≡ suc (count - (first + 1)) = omega (arith, h) in

@@ -9,20 +9,24 @@ pub after-none : {L : Type 0} (w : Labelling L) (xs : List ℕ) → label_after 
 after-none w [] = refl
 after-none w (x ∷ xs) = refl
 
-pub after-append : {L : Type 0} (w : Labelling L) (o : Option L) (xs ys : List ℕ) → label_after w o (xs ++ ys) ≡ label_after w (label_after w o xs) ys
+pub after-append : {L : Type 0} (w : Labelling L) (o : Option L) (xs ys : List ℕ) →
+    label_after w o (xs ++ ys) ≡ label_after w (label_after w o xs) ys
 after-append w None [] ys = refl
 after-append w None (x ∷ xs) ys = sym (after-none w ys) ∙ ap (λ o. label_after w o ys) (sym (after-none w (x ∷ xs)))
 after-append w (Some a) [] ys = refl
 after-append w (Some a) (x ∷ xs) ys = after-append w (w.extend a x) xs ys
 
 -- an item more
-pub after-more : {L : Type 0} (w : Labelling L) (a : L) (o : Option L) (list : List ℕ) (i : ℕ) → i < length list → o ≡ w.extend a (slice_index_or list i 0) →
+pub after-more : {L : Type 0} (w : Labelling L) (a : L) (o : Option L) (list : List ℕ) (i : ℕ) → i < length list →
+    o ≡ w.extend a (slice_index_or list i 0) →
     label_after w (Some a) (drop i list) ≡ label_after w o (drop (i + 1) list)
-after-more w a o list i within is = ap (λ l. label_after w (Some a) l) (drop_more list i 0 within) ∙ ap (λ o. label_after w o (drop (i + 1) list)) (sym is)
+after-more w a o list i within is =
+    ap (λ l. label_after w (Some a) l) (drop_more list i 0 within) ∙ ap (λ o. label_after w o (drop (i + 1) list)) (sym is)
 
 -- what an item stands for, more
 pub after-body : {L : Type 0} (w : Labelling L) (a : L) (o : Option L) (bs : List (List ℕ)) (list : List ℕ) (i : ℕ) → i < length list →
-    o ≡ label_after w (Some a) (body_at bs (slice_index_or list i 0)) → label_after w (Some a) (written bs (drop i list)) ≡ label_after w o (written bs (drop (i + 1) list))
+    o ≡ label_after w (Some a) (body_at bs (slice_index_or list i 0)) →
+    label_after w (Some a) (written bs (drop i list)) ≡ label_after w o (written bs (drop (i + 1) list))
 after-body w a o bs list i within is =
     ap (λ l. label_after w (Some a) l) (written-more bs list i within)
     ∙ after-append w (Some a) (body_at bs (slice_index_or list i 0)) (written bs (drop (i + 1) list))
@@ -34,12 +38,14 @@ of-append w [] ys some = absurd (some refl)
 of-append w (x ∷ xs) ys some = after-append w (w.start x) xs ys
 
 -- a list of the rest, written out, begins with what its first item stands for
-written-first : (bs : List (List ℕ)) (list : List ℕ) → 1 ≤ length list → written bs list ≡ body_at bs (slice_index_or list 0 0) ++ written bs (drop 1 list)
+written-first : (bs : List (List ℕ)) (list : List ℕ) → 1 ≤ length list →
+    written bs list ≡ body_at bs (slice_index_or list 0 0) ++ written bs (drop 1 list)
 written-first bs [] some = absurd (omega (arith, some))
 written-first bs (x ∷ xs) some = refl
 
 -- a list of the rest, after what its first item stands for
-pub first-walked : {L : Type 0} (w : Labelling L) (o : Option L) (bs : List (List ℕ)) (list : List ℕ) → 1 ≤ length list → body_at bs (slice_index_or list 0 0) ≢ [] →
+pub first-walked : {L : Type 0} (w : Labelling L) (o : Option L) (bs : List (List ℕ)) (list : List ℕ) → 1 ≤ length list →
+    body_at bs (slice_index_or list 0 0) ≢ [] →
     o ≡ label_of w (body_at bs (slice_index_or list 0 0)) → label_of w (written bs list) ≡ label_after w o (written bs (drop 1 list))
 first-walked w o bs list some full is =
     ap (label_of w) (written-first bs list some) ∙ of-append w (body_at bs (slice_index_or list 0 0)) (written bs (drop 1 list)) full

@@ -23,7 +23,8 @@ thousand n z none =
 abbrev thousandth_of : Option ℤ → Option ℕ
 thousandth_of o = option_map (λ v. unsigned_abs v / 1000) o
 
-pub tied-worth : {L : Type 0} (w : Labelling L) (close : L → Option ℤ) (worth_of : List ℕ → Option ℕ) (list : List ℕ) → IsTied w close [] worth_of →
+pub tied-worth : {L : Type 0} (w : Labelling L) (close : L → Option ℤ) (worth_of : List ℕ → Option ℕ) (list : List ℕ) →
+    IsTied w close [] worth_of →
     worth_of list ≡ option_and_then (λ a. option_map (λ v. unsigned_abs v / 1000) (close a)) (label_of w list)
 tied-worth {L = L} w close worth_of list tied = by (worth_of list) refl
   where

@@ -17,15 +17,36 @@ abbrev point : ℕ → ℕ → Point
 point typ nr = record { typ = typ; nr = nr }
 
 abbrev piece : ℕ → ℕ → ℕ → Point → ℕ → Piece
-piece block index begin to end = record { block = block; index = index; from = point 2 9; begin = record { 0 = pos begin }; to = to; end = record { 0 = pos end }; driving = 100 }
+piece block index begin to end = record {
+  block = block;
+  index = index;
+  from = point 2 9;
+  begin = record { 0 = pos begin };
+  to = to;
+  end =
+      record { 0 = pos end };
+  driving = 100;
+}
 
 abbrev group : ℕ → Group
-group number = record { number = number; home = point 2 9; cap = 2; fixed = 500; rate = 1; sign_on = 60; sign_off = 100; ten = false; reduced = false }
+group number = record {
+  number = number;
+  home = point 2 9;
+  cap = 2;
+  fixed = 500;
+  rate = 1;
+  sign_on = 60;
+  sign_off =
+      100;
+  ten = false;
+  reduced = false;
+}
 
 -- the third piece ends at this point; there are two groups with a home at the depot, and no ways
 abbrev day_to : Point → DutyFacts
 day_to to = record {
-  pieces = piece 2 1 1000 (point 2 9) 2000 ∷ piece 3 1 1200 (point 2 9) 1300 ∷ piece 1 1 1500 to 3000 ∷ piece 2 2 2500 (point 2 9) 4000 ∷ [];
+  pieces = piece 2 1 1000 (point 2 9) 2000 ∷ piece 3 1 1200 (point 2 9) 1300 ∷ piece 1 1 1500 to 3000
+      ∷ piece 2 2 2500 (point 2 9) 4000 ∷ [];
   params = record {
     settings = record { area = 1; group = 1; turn = 300; max_wait = 7200; handover = 300 };
     pools = [];

@@ -31,7 +31,8 @@ first_of blocks (suc n) = option_and_then first_trip (slice_get blocks n)
 abbrev pub same_part : ℕ × ℕ → ℕ × ℕ → Bool
 same_part a b = nat_eq a.0 b.0 && nat_eq a.1 b.1
 
--- the part that stands in the earlier plan for a piece of a block that begins with a trip: of the same index in the block with this first trip
+-- the part that stands in the earlier plan for a piece of a block that begins with a trip: of the same index in the block with this first
+-- trip
 abbrev pub part_with : List Column → ℕ → ℕ → Option (ℕ × ℕ)
 part_with earlier index t = option_map (λ number. (number, index)) (block_with earlier 1 t)
 
@@ -80,13 +81,15 @@ class_of (g ∷ gs) number class = cond (nat_eq g.number number) (Some class) (c
 
 -- whether the way home after a piece is there, and the sign-off after it is before the moment
 abbrev pub is_off_before : DutyFacts → ℕ → ℕ → ℕ → Bool
-is_off_before d moment class k = option_map_or (λ off. int_lt off (pos moment)) (with_group d class (λ g. with_piece d k (λ p. sign_off d g p))) false
+is_off_before d moment class k =
+    option_map_or (λ off. int_lt off (pos moment)) (with_group d class (λ g. with_piece d k (λ p. sign_off d g p))) false
 
 -- the last of some pieces
 abbrev pub last_of : List ℕ → Option ℕ
 last_of ks = slice_get ks (length ks - 1)
 
--- whether a duty with these parts is finished, whose last begun piece this is: each part stands for a begun piece, and it is signed off before
+-- whether a duty with these parts is finished, whose last begun piece this is: each part stands for a begun piece, and it is signed off
+-- before
 abbrev pub is_finished : DutyFacts → List (Option (ℕ × ℕ)) → ℕ → List (ℕ × ℕ) → ℕ → ℕ → Bool
 is_finished d begun moment parts class last = all_begun begun parts && is_off_before d moment class last
 

@@ -46,7 +46,8 @@ belongs_to groups o (row ∷ rows) = belongs groups o row || belongs_to groups o
 -- whether the piece of a number has begun and belongs to a duty of the earlier plan
 abbrev pub has_begun_in : DutyFacts → List Column → PlanText → ℕ → ℕ → Bool
 has_begun_in d blocks earlier moment k =
-    option_map_or (λ (p : Piece). belongs_to d.params.groups (begun_part blocks earlier.blocks.columns moment p) earlier.duties) (slice_get d.pieces k) false
+    option_map_or (λ (p : Piece). belongs_to d.params.groups (begun_part blocks earlier.blocks.columns moment p) earlier.duties)
+    (slice_get d.pieces k) false
 
 -- whether none of a list's pieces does
 abbrev pub none_begun : DutyFacts → List Column → PlanText → ℕ → List ℕ → Bool

@@ -20,7 +20,8 @@ pub or_false : (a : Bool) → (a || false) ≡ a
 or_false true = refl
 or_false false = refl
 
-pub has_long_pause-append : (limits : Limits) (xs : List Drive) (d : Drive) → has_long_pause limits (xs ++ d ∷ []) ≡ (has_long_pause limits xs || nat_le limits.long_pause d.pause)
+pub has_long_pause-append : (limits : Limits) (xs : List Drive) (d : Drive) →
+    has_long_pause limits (xs ++ d ∷ []) ≡ (has_long_pause limits xs || nat_le limits.long_pause d.pause)
 has_long_pause-append limits [] d = or_false (nat_le limits.long_pause d.pause)
 has_long_pause-append limits (x ∷ xs) d =
     ap (λ b. nat_le limits.long_pause x.pause || b) (has_long_pause-append limits xs d) ∙
@@ -146,7 +147,11 @@ IsFirstExcess-append limits xs d i j driving closed e =
         there = omega arith;
         begins = elim e.period.begins [ inl none ↦ inl none | inr full ↦ inr (is_full_break-append [] xs d i (omega arith) ∙ full) ];
         ends = elim closed [
-          | inl inside ↦ elim e.period.ends [ inl end ↦ absurd (omega arith) | inr full ↦ inr (is_full_break-append [] xs d (j + 1) inside ∙ full) ]
+          | inl inside ↦ elim e.period.ends [
+            | inl end ↦ absurd (omega arith)
+            | inr full ↦
+                inr (is_full_break-append [] xs d (j + 1) inside ∙ full)
+          ]
           | inr (end, full) ↦ inr (rw end full)
         ];
         free = BreakFree-onto xs d i j there e.period.free;

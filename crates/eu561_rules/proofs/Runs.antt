@@ -118,7 +118,8 @@ run-more t xs (d ∷ ds) some b s =
 pub run-stands : (limits : Limits) (d : Drive) (ds : List Drive) → d.pause ≡ 0 → AreBounded (d ∷ ds) →
     StandsFor (run (no_drives limits) (d ∷ ds)) (d ∷ ds)
 run-stands limits d ds first b =
-    run-more (tally_after (no_drives limits) d) (d ∷ []) ds (omega arith) b.1 (StandsFor-after (no_drives limits) d [] b.0 (λ e. first) (no_drives-stands limits))
+    run-more (tally_after (no_drives limits) d) (d ∷ []) ds (omega arith) b.1
+    (StandsFor-after (no_drives limits) d [] b.0 (λ e. first) (no_drives-stands limits))
 
 closed-none : (over : Option Excess) (e : Excess) (block driving : ℕ) →
     cond (is_none over && nat_lt block driving) (Some e) over ≡ None → (over ≡ None) × (driving ≤ block)
@@ -137,7 +138,8 @@ none-closed over e block driving none small = let test : nat_lt block driving �
 -- a fine tally was fine before its last drive
 pub fine-back : (t : Summary) (d : Drive) → IsFine (tally_after t d) → IsFine t
 fine-back t d = either (λ (t' : Summary). IsFine t' → IsFine t) (completes_break t.quarter d.pause) _ _
-    (λ full f. let (none, small) = closed-none t.over (record { first = t.first; last = t.count - 1; driving = t.driving }) t.limits.block t.driving f.none in
+    (λ full f. let (none, small) =
+    closed-none t.over (record { first = t.first; last = t.count - 1; driving = t.driving }) t.limits.block t.driving f.none in
     record { none = none; driving = small; total = omega (arith, f.total) })
     (λ part f. record { none = f.none; driving = omega (arith, f.driving); total = omega (arith, f.total) })
 
@@ -146,17 +148,26 @@ run-fine-back t [] f = f
 run-fine-back t (d ∷ ds) f = fine-back t d (run-fine-back (tally_after t d) ds f)
 
 -- and is after one drive more that keeps the limits
-pub fine-next : (t : Summary) (d : Drive) → IsFine t → (tally_after t d).driving ≤ t.limits.block → (tally_after t d).total ≤ t.limits.day → IsFine (tally_after t d)
-fine-next t d f = either (λ (t' : Summary). t'.driving ≤ t.limits.block → t'.total ≤ t.limits.day → IsFine t') (completes_break t.quarter d.pause) _ _
-    (λ full driving total. record { none = none-closed t.over (record { first = t.first; last = t.count - 1; driving = t.driving }) t.limits.block t.driving f.none f.driving; driving = driving; total = total })
+pub fine-next : (t : Summary) (d : Drive) → IsFine t → (tally_after t d).driving ≤ t.limits.block → (tally_after t d).total ≤ t.limits.day →
+    IsFine (tally_after t d)
+fine-next t d f = either (λ (t' : Summary). t'.driving ≤ t.limits.block → t'.total ≤ t.limits.day → IsFine t')
+    (completes_break t.quarter d.pause) _ _
+    (λ full driving total. record {
+      none = none-closed t.over (record { first = t.first; last = t.count - 1; driving = t.driving })
+          t.limits.block t.driving f.none f.driving;
+      driving = driving;
+      total = total;
+    })
     (λ part driving total. record { none = f.none; driving = driving; total = total })
 
-pub no-excess : (limits : Limits) (drives : List Drive) (i j driving : ℕ) → KeepsArticle7 limits drives (length drives) → IsFirstExcess limits drives i j driving → ⊥
+pub no-excess : (limits : Limits) (drives : List Drive) (i j driving : ℕ) → KeepsArticle7 limits drives (length drives) →
+    IsFirstExcess limits drives i j driving → ⊥
 no-excess limits drives i j driving keeps e =
     let within = keeps i j e.period.order e.period.there e.period.free in
     omega (arith, e.exceeds, e.driving_is)
 
-over-none : (limits : Limits) (drives : List Drive) (first : ℕ) (over : Option Excess) → KeepsArticle7 limits drives (length drives) → ClosedExcess limits drives first over → over ≡ None
+over-none : (limits : Limits) (drives : List Drive) (first : ℕ) (over : Option Excess) → KeepsArticle7 limits drives (length drives) →
+    ClosedExcess limits drives first over → over ≡ None
 over-none limits drives first None keeps c = refl
 over-none limits drives first (Some e) keeps c = absurd (no-excess limits drives e.first e.last e.driving keeps c.0)
 
@@ -180,7 +191,8 @@ lawful-from t drives time s e =
       (let limit = spread_limit-is t drives s in rw limit at (true-le _ _ last)),
     )
 
-pub lawful-onto : (t : Summary) (drives : List Drive) (time : ℕ) → StandsFor t drives → IsFine t → time ≤ cond t.long t.limits.long_spread t.limits.spread →
+pub lawful-onto : (t : Summary) (drives : List Drive) (time : ℕ) → StandsFor t drives → IsFine t →
+    time ≤ cond t.long t.limits.long_spread t.limits.spread →
     is_lawful t.limits drives time ≡ true
 lawful-onto t drives time s f h =
     let day : nat_le (driving_of drives) t.limits.day ≡ true = le-true _ _ (omega (arith, s.total, f.total)) in
@@ -189,11 +201,13 @@ lawful-onto t drives time s f h =
     and_true _ _ (and_true _ _ day seven) spread
 
 -- the test is the definition
-pub lawful-test : (limits : Limits) (drives : List Drive) (spread : ℕ) → IsLawful limits drives spread → is_lawful limits drives spread ≡ true
+pub lawful-test : (limits : Limits) (drives : List Drive) (spread : ℕ) → IsLawful limits drives spread →
+    is_lawful limits drives spread ≡ true
 lawful-test limits drives spread l =
     and_true _ _ (and_true _ _ (le-true _ _ l.article6) (keeps-onto limits drives l.article7)) (le-true _ _ l.article8)
 
-pub test-lawful : (limits : Limits) (drives : List Drive) (spread : ℕ) → is_lawful limits drives spread ≡ true → IsLawful limits drives spread
+pub test-lawful : (limits : Limits) (drives : List Drive) (spread : ℕ) → is_lawful limits drives spread ≡ true →
+    IsLawful limits drives spread
 test-lawful limits drives spread e =
     let (low, last) = both_true _ _ e in
     let (day, seven) = both_true _ _ low in

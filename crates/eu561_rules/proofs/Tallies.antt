@@ -24,15 +24,20 @@ pub closed-over : (limits : Limits) (xs : List Drive) (d : Drive) (over : Option
     is_full_break (xs ++ d ∷ []) (length xs) ≡ true → ClosedExcess limits xs first over →
     ClosedExcess limits (xs ++ d ∷ []) (length xs)
     (cond (is_none over && nat_lt limits.block driving) (Some (record { first = first; last = count - 1; driving = driving })) over)
-closed-over limits xs d (Some e) first count driving n some is begins full over =
-    (IsFirstExcess-append limits xs d e.first e.last e.driving (inl over.1) over.0, (let more = length-more xs d in let c = over.1 in omega arith))
+closed-over limits xs d (Some e) first count driving n some is begins full over = (
+  IsFirstExcess-append limits xs d e.first e.last e.driving (inl over.1) over.0,
+  (let more =
+      length-more xs d in let c = over.1 in omega arith),
+)
 closed-over limits xs d None first count driving n some is begins full over =
     either (ClosedExcess limits (xs ++ d ∷ []) (length xs)) (nat_lt limits.block driving) _ _
     (λ more.
     let exceeds : limits.block < driving_of (drop first xs) = grind (arith, nat_tests) in
-    let one : IsFirstExcess limits xs first (length xs - 1) (driving_of (drop first xs)) = last-exceeds limits xs first begins over exceeds in
+    let one : IsFirstExcess limits xs first (length xs - 1) (driving_of (drop first xs)) =
+    last-exceeds limits xs first begins over exceeds in
     let up : length xs - 1 + 1 ≡ length xs = omega arith in
-    let here : IsFirstExcess limits (xs ++ d ∷ []) first (length xs - 1) (driving_of (drop first xs)) = IsFirstExcess-append limits xs d _ _ _ (inr (up, full)) one in
+    let here : IsFirstExcess limits (xs ++ d ∷ []) first (length xs - 1) (driving_of (drop first xs)) =
+    IsFirstExcess-append limits xs d _ _ _ (inr (up, full)) one in
     (rw (n, is) here, (let more_one = length-more xs d in omega arith)))
     (λ less. KeepsArticle7-append limits xs d (length xs) (omega arith) (last-keeps limits xs first begins over (grind (arith, nat_tests))))
 
@@ -48,8 +53,11 @@ begins-append xs d first b = elim b.begins [
 ClosedExcess-append : (limits : Limits) (xs : List Drive) (d : Drive) (first : ℕ) (over : Option Excess) → first ≤ length xs →
     ClosedExcess limits xs first over → ClosedExcess limits (xs ++ d ∷ []) first over
 ClosedExcess-append limits xs d first None h c = KeepsArticle7-append limits xs d first h c
-ClosedExcess-append limits xs d first (Some e) h c =
-    (IsFirstExcess-append limits xs d e.first e.last e.driving (inl c.1) c.0, (let more = length-more xs d in let below = c.1 in omega arith))
+ClosedExcess-append limits xs d first (Some e) h c = (
+  IsFirstExcess-append limits xs d e.first e.last e.driving (inl c.1) c.0,
+  (let more =
+      length-more xs d in let below = c.1 in omega arith),
+)
 
 pub StandsFor-after : (t : Summary) (d : Drive) (xs : List Drive) → d.driving ≤ 4294967295 → (xs ≡ [] → d.pause ≡ 0) →
     StandsFor t xs → StandsFor (tally_after t d) (xs ++ d ∷ [])
@@ -63,7 +71,8 @@ StandsFor-after t d xs fits start s =
     let small : driving_of (xs ++ d ∷ []) ≤ 4294967295 * length (xs ++ d ∷ []) = omega (arith, s.small) in
     let break : is_full_break (xs ++ d ∷ []) (length xs) ≡ completes_break t.quarter d.pause =
     is_full_break-last [] xs d ∙ ap (λ q. completes_break q d.pause) (sym s.quarter) in
-    let same_test : completes_break (has_quarter (latest_first [] xs)) d.pause ≡ completes_break t.quarter d.pause = ap (λ q. completes_break q d.pause) (sym s.quarter) in
+    let same_test : completes_break (has_quarter (latest_first [] xs)) d.pause ≡ completes_break t.quarter d.pause =
+    ap (λ q. completes_break q d.pause) (sym s.quarter) in
     either (λ t'. StandsFor t' (xs ++ d ∷ [])) (completes_break t.quarter d.pause) _ _
     (λ full. record {
       count = count;
@@ -78,7 +87,9 @@ StandsFor-after t d xs fits start s =
         free = λ k above below. absurd (omega (arith, s.count));
       };
       driving = rw (s.count, drop-past xs (d ∷ [])) (omega arith);
-      over = let P : ℕ → Type 0 = λ n. ClosedExcess t.limits (xs ++ d ∷ []) n (closed_excess t) in subst P (sym s.count) (closed-over t.limits xs d t.over t.first t.count t.driving s.count (at_least_one xs d t.quarter start full) s.driving s.first (break ∙ full) s.over);
+      over = let P : ℕ → Type 0 = λ n. ClosedExcess t.limits (xs ++ d ∷ []) n (closed_excess t) in
+          subst P (sym s.count) (closed-over t.limits xs d t.over t.first t.count t.driving s.count (at_least_one xs d t.quarter start full)
+          s.driving s.first (break ∙ full) s.over);
     })
     (λ part. record {
       count = count;
@@ -95,7 +106,8 @@ StandsFor-after t d xs fits start s =
           | inr last ↦ let same : k ≡ length xs = omega arith in ap (is_full_break (xs ++ d ∷ [])) same ∙ break ∙ part
         ];
       };
-      driving = rw (drop-append-front t.first xs (d ∷ []) s.first.there, driving_of-append (drop t.first xs) (d ∷ [])) (omega (arith, s.driving));
+      driving = rw (drop-append-front t.first xs (d ∷ []) s.first.there, driving_of-append (drop t.first xs) (d ∷ []))
+          (omega (arith, s.driving));
       over = ClosedExcess-append t.limits xs d t.first t.over s.first.there s.over;
     })
 
@@ -109,12 +121,15 @@ IsSmall-from t xs s =
     let whole : driving_of (drop t.first xs) ≤ driving_of xs = rw take-whole at part in
     record { total = rw (s.total, s.count) s.small; driving = rw (s.driving, s.total) whole }
 
-pub keeps-all : (t : Summary) (xs : List Drive) → StandsFor t xs → t.over ≡ None → t.driving ≤ t.limits.block → KeepsArticle7 t.limits xs (length xs)
+pub keeps-all : (t : Summary) (xs : List Drive) → StandsFor t xs → t.over ≡ None → t.driving ≤ t.limits.block →
+    KeepsArticle7 t.limits xs (length xs)
 keeps-all t xs s none small =
-    let closed : KeepsArticle7 t.limits xs t.first = (let P : Option Excess → Type 0 = λ o. ClosedExcess t.limits xs t.first o in subst P none s.over) in
+    let closed : KeepsArticle7 t.limits xs t.first =
+    (let P : Option Excess → Type 0 = λ o. ClosedExcess t.limits xs t.first o in subst P none s.over) in
     last-keeps t.limits xs t.first s.first closed (omega (arith, s.driving))
 
-pub spread_limit-is : (t : Summary) (xs : List Drive) → StandsFor t xs → spread_limit t.limits xs ≡ cond t.long t.limits.long_spread t.limits.spread
+pub spread_limit-is : (t : Summary) (xs : List Drive) → StandsFor t xs →
+    spread_limit t.limits xs ≡ cond t.long t.limits.long_spread t.limits.spread
 spread_limit-is t xs s = ap (λ b. cond b t.limits.long_spread t.limits.spread) (sym s.long)
 
 pub first_pause : (xs : List Drive) (i : ℕ) (d : Drive) → FirstPauseIsZero xs → i < length xs → take i xs ≡ [] → (get_or xs i d).pause ≡ 0

@@ -9,7 +9,8 @@ use Rattle.eu561_rules.specs.Duty.{driving_of, IsFirstExcess, BreaksArticle7, Br
 use Rattle.eu561_rules.proofs.Runs.{no-excess}
 
 -- no first excess begins after another
-not-after : (limits : Limits) (drives : List Drive) (i j a i' j' b : ℕ) → IsFirstExcess limits drives i j a → IsFirstExcess limits drives i' j' b → i < i' → ⊥
+not-after : (limits : Limits) (drives : List Drive) (i j a i' j' b : ℕ) → IsFirstExcess limits drives i j a →
+    IsFirstExcess limits drives i' j' b → i < i' → ⊥
 not-after limits drives i j a i' j' b e f less =
     elim f.period.begins [
       | inl none ↦ omega arith
@@ -20,7 +21,8 @@ not-after limits drives i j a i' j' b e f less =
     ]
 
 -- nor does it end after another that begins where it does
-not-longer : (limits : Limits) (drives : List Drive) (i j a j' b : ℕ) → IsFirstExcess limits drives i j a → IsFirstExcess limits drives i j' b → j < j' → ⊥
+not-longer : (limits : Limits) (drives : List Drive) (i j a j' b : ℕ) → IsFirstExcess limits drives i j a →
+    IsFirstExcess limits drives i j' b → j < j' → ⊥
 not-longer limits drives i j a j' b e f less =
     elim e.period.ends [
       | inl end ↦ omega (arith, f.period.there)
@@ -28,7 +30,8 @@ not-longer limits drives i j a j' b e f less =
     ]
 
 -- there is one first excess
-pub one-excess : (limits : Limits) (drives : List Drive) (i j a i' j' b : ℕ) → IsFirstExcess limits drives i j a → IsFirstExcess limits drives i' j' b →
+pub one-excess : (limits : Limits) (drives : List Drive) (i j a i' j' b : ℕ) → IsFirstExcess limits drives i j a →
+    IsFirstExcess limits drives i' j' b →
     Art7 i j a ≡ Art7 i' j' b
 one-excess limits drives i j a i' j' b e f =
     let first : i ≡ i' = elim (cases_lt i i') [
@@ -40,12 +43,14 @@ one-excess limits drives i j a i' j' b e f =
       | inl less ↦ absurd (not-longer limits drives i j a j' b e there less)
       | inr same ↦ elim (cases_lt j' j) [ inl more ↦ absurd (not-longer limits drives i j' b j a there e more) | inr same' ↦ omega arith ]
     ] in
-    let driving : a ≡ b = (let same = subst (λ (k : ℕ). IsFirstExcess limits drives i k b) (sym last) there in e.driving_is ∙ sym same.driving_is) in
+    let driving : a ≡ b = (let same = subst (λ (k : ℕ). IsFirstExcess limits drives i k b) (sym last) there in
+    e.driving_is ∙ sym same.driving_is) in
     cc
 
 pub judged-art6 : (drives : List Drive) (spread : ℕ) (limits : Limits) (v : Verdict) → Judged drives spread limits v →
     (v ≡ Art6 (driving_of drives)) ↔ (limits.day < driving_of drives)
-judged-art6 drives spread limits (Art6 driving) j = (λ e. omega (arith, j.0, j.1), λ more. let same : driving ≡ driving_of drives = j.0 in cc)
+judged-art6 drives spread limits (Art6 driving) j =
+    (λ e. omega (arith, j.0, j.1), λ more. let same : driving ≡ driving_of drives = j.0 in cc)
 judged-art6 drives spread limits (Art7 i k driving) j = (λ e. absurd (cc), λ more. absurd (omega (arith, j.article6)))
 judged-art6 drives spread limits (Art8 s) j = (λ e. absurd (cc), λ more. absurd (omega (arith, j.1.article6)))
 judged-art6 drives spread limits Lawful j = (λ e. absurd (cc), λ more. absurd (omega (arith, j.article6)))

@@ -31,7 +31,8 @@ quarter-after earlier (x ∷ xs) (suc k) h = quarter-after (x ∷ earlier) xs k 
 
 -- one drive more
 pub quarter-next : (drives : List Drive) (place : ℕ) → place < length drives →
-    quarter_at drives (suc place) ≡ cond (is_full_break drives place) false (nat_le 900 (pause_before drives place) || quarter_at drives place)
+    quarter_at drives (suc place)
+    ≡ cond (is_full_break drives place) false (nat_le 900 (pause_before drives place) || quarter_at drives place)
 quarter-next drives place h = quarter-after [] drives place h
 
 kept : (b c : Bool) → cond b false c ≡ true → (b ≡ false) × (c ≡ true)
@@ -53,7 +54,8 @@ quarter-from [] zero h e = absurd (cc)
 quarter-from (d ∷ ds) zero h e = absurd (cc)
 quarter-from drives (suc n) h e =
     let below : n < length drives = omega arith in
-    let parts : (is_full_break drives n ≡ false) × ((nat_le 900 (pause_before drives n) || quarter_at drives n) ≡ true) = kept _ _ (sym (quarter-next drives n below) ∙ e) in
+    let parts : (is_full_break drives n ≡ false) × ((nat_le 900 (pause_before drives n) || quarter_at drives n) ≡ true) =
+    kept _ _ (sym (quarter-next drives n below) ∙ e) in
     let free : is_full_break drives n ≡ false = parts.0 in
     let left : (nat_le 900 (pause_before drives n) || quarter_at drives n) ≡ true = parts.1 in
     elim (one_true _ _ left) [
@@ -92,7 +94,8 @@ quarter-onto drives (suc n) earlier h q =
         long_enough = q.long_enough;
         no_break = λ k from before. q.no_break k from (omega arith);
       }))
-      | inr last ↦ let same : earlier ≡ n = omega (arith, q.before) in inl (le-true _ _ (subst (λ (m : ℕ). 900 ≤ pause_before drives m) same q.long_enough))
+      | inr last ↦ let same : earlier ≡ n = omega (arith, q.before) in
+          inl (le-true _ _ (subst (λ (m : ℕ). 900 ≤ pause_before drives m) same q.long_enough))
     ]) in
     quarter-next drives n below ∙ ap (λ b. cond b false (nat_le 900 (pause_before drives n) || quarter_at drives n)) free ∙ left
 
@@ -112,12 +115,14 @@ words-onto drives place h w =
       | inr part ↦ inr (and_true _ _ (le-true _ _ part.0) (quarter-onto drives place part.1.0 (omega arith) part.1.1))
     ])
 
-pub pause-is : (drives : List Drive) (place : ℕ) (d : Drive) → place < length drives → (get_or drives place d).pause ≡ pause_before drives place
+pub pause-is : (drives : List Drive) (place : ℕ) (d : Drive) → place < length drives →
+    (get_or drives place d).pause ≡ pause_before drives place
 pause-is [] place d h = absurd (omega arith)
 pause-is (x ∷ xs) zero d h = refl
 pause-is (x ∷ xs) (suc place) d h = pause-is xs place d (omega arith)
 
-pub pause-within : (drives : List Drive) (n place : ℕ) (d : Drive) → place < n → place < length drives → (get_or (take n drives) place d).pause ≡ pause_before drives place
+pub pause-within : (drives : List Drive) (n place : ℕ) (d : Drive) → place < n → place < length drives →
+    (get_or (take n drives) place d).pause ≡ pause_before drives place
 pause-within [] n place d h below = absurd (omega arith)
 pause-within (x ∷ xs) zero place d h below = absurd (omega arith)
 pause-within (x ∷ xs) (suc n) zero d h below = refl

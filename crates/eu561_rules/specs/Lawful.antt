@@ -17,7 +17,8 @@ is_break_free drives i j = all_below j (λ k. not (nat_le i k) || not (is_full_b
 -- article 7: no interval without a full break inside has too much driving
 abbrev pub keeps_article7 : Limits → List Drive → Bool
 keeps_article7 limits drives =
-    all_below (length drives) (λ j. all_below (j + 1) (λ i. not (is_break_free drives i j) || nat_le (driving_within drives i j) limits.block))
+    all_below (length drives)
+    (λ j. all_below (j + 1) (λ i. not (is_break_free drives i j) || nat_le (driving_within drives i j) limits.block))
 
 -- whether articles 6 to 8 are kept
 abbrev pub is_lawful : Limits → List Drive → ℕ → Bool
@@ -28,7 +29,8 @@ is_lawful limits drives spread =
 abbrev pub regular : Limits
 regular = record { block = 16200; day = 32400; spread = 46800; long_spread = 54000; long_pause = 10800 }
 
--- the limits of a driver with allowances: 10 hours of driving (article 6(1)), a spread of 15 hours before a reduced daily rest (article 8(2))
+-- the limits of a driver with allowances: 10 hours of driving (article 6(1)), a spread of 15 hours before a reduced daily rest (article
+-- 8(2))
 abbrev pub limits_for : Bool → Bool → Limits
 limits_for ten reduced = record regular { day = cond ten 36000 32400; spread = cond reduced 54000 46800 }
 

@@ -66,7 +66,8 @@ pub record IsSmall (t : Summary) : Type 0 where
 
 -- the first driving period with too much driving, once the last one has ended
 abbrev pub closed_excess : Summary → Option Excess
-closed_excess t = cond (is_none t.over && nat_lt t.limits.block t.driving) (Some record { first = t.first; last = t.count - 1; driving = t.driving }) t.over
+closed_excess t = cond (is_none t.over && nat_lt t.limits.block t.driving)
+    (Some record { first = t.first; last = t.count - 1; driving = t.driving }) t.over
 
 -- what is kept with one drive more
 abbrev pub tally_after : Summary → Drive → Summary
@@ -74,5 +75,25 @@ tally_after t d =
     let long = t.long || nat_le t.limits.long_pause d.pause in
     let total = t.total + d.driving in
     cond (completes_break t.quarter d.pause)
-    (record { limits = t.limits; count = t.count + 1; quarter = false; long = long; total = total; first = t.count; driving = d.driving; over = closed_excess t })
-    (record { limits = t.limits; count = t.count + 1; quarter = nat_le 900 d.pause || t.quarter; long = long; total = total; first = t.first; driving = t.driving + d.driving; over = t.over })
+    (record {
+      limits = t.limits;
+      count = t.count + 1;
+      quarter = false;
+      long = long;
+      total = total;
+      first = t.count;
+      driving =
+          d.driving;
+      over = closed_excess t;
+    })
+    (record {
+      limits = t.limits;
+      count = t.count + 1;
+      quarter = nat_le 900 d.pause || t.quarter;
+      long = long;
+      total = total;
+      first =
+          t.first;
+      driving = t.driving + d.driving;
+      over = t.over;
+    })

@@ -14,15 +14,21 @@ five-few places bar low =
 pub five-modest : (places bar : ℕ) → HasModestWorths (five places bar)
 five-modest places bar class [] there = tt
 five-modest places bar class (x ∷ []) there =
-    elim (nat_le bar x && nat_lt x 5) as (λ b. IfSome (cond b (Some 10) None) (λ worth. worth ≤ 4000000000)) [ true ↦ omega arith | false ↦ tt ]
+    elim (nat_le bar x && nat_lt x 5) as (λ b. IfSome (cond b (Some 10) None) (λ worth. worth ≤ 4000000000)) [
+      | true ↦
+          omega arith
+      | false ↦ tt
+    ]
 five-modest places bar class (x ∷ y ∷ []) there = low (nat_lt x y && nat_lt y 5 && (class == 0 || nat_lt y (x + 3))) refl
   where
-    low : (b : Bool) → (nat_lt x y && nat_lt y 5 && (class == 0 || nat_lt y (x + 3))) ≡ b → IfSome (cond b (Some (8 + 3 * (y - x) + class)) None) (λ worth. worth ≤ 4000000000)
+    low : (b : Bool) → (nat_lt x y && nat_lt y 5 && (class == 0 || nat_lt y (x + 3))) ≡ b →
+        IfSome (cond b (Some (8 + 3 * (y - x) + class)) None) (λ worth. worth ≤ 4000000000)
     low true test = let below : y < 5 = grind (arith, nat_tests) in let few : class < 2 = there in omega arith
     low false test = tt
 five-modest places bar class (x ∷ y ∷ z ∷ []) there = low (nat_lt x y && nat_lt y z && nat_lt z 5) refl
   where
-    low : (b : Bool) → (nat_lt x y && nat_lt y z && nat_lt z 5) ≡ b → IfSome (cond b (Some (3 * (z - x) + class)) None) (λ worth. worth ≤ 4000000000)
+    low : (b : Bool) → (nat_lt x y && nat_lt y z && nat_lt z 5) ≡ b →
+        IfSome (cond b (Some (3 * (z - x) + class)) None) (λ worth. worth ≤ 4000000000)
     low true test = let below : z < 5 = grind (arith, nat_tests) in let few : class < 2 = there in omega arith
     low false test = tt
 five-modest places bar class (x ∷ y ∷ z ∷ w ∷ rest) there = tt

@@ -9,13 +9,17 @@ use Rattle.cover_core.proofs.Parts.{AreColumns-push}
 use Rattle.column_pool.specs.Pools.{is_refused, pool_after}
 use Rattle.plan_round.proofs.Counts.{AreCheap-push}
 
-pub AreColumns-pool_after : (p : Problem) (pool : List Column) (c : Column) → AreColumns p pool → IsColumn p c → AreColumns p (pool_after pool c)
-AreColumns-pool_after p pool c h is = elim (is_refused pool c) as (λ t. AreColumns p (cond t pool (pool ++ c ∷ []))) [ true ↦ h | false ↦ AreColumns-push p pool c h is ]
+pub AreColumns-pool_after : (p : Problem) (pool : List Column) (c : Column) → AreColumns p pool → IsColumn p c →
+    AreColumns p (pool_after pool c)
+AreColumns-pool_after p pool c h is =
+    elim (is_refused pool c) as (λ t. AreColumns p (cond t pool (pool ++ c ∷ []))) [ true ↦ h | false ↦ AreColumns-push p pool c h is ]
 
 pub AreCheap-pool_after : (pool : List Column) (c : Column) → AreCheap pool → c.worth ≤ 4000000000 → AreCheap (pool_after pool c)
-AreCheap-pool_after pool c h cheap = elim (is_refused pool c) as (λ t. AreCheap (cond t pool (pool ++ c ∷ []))) [ true ↦ h | false ↦ AreCheap-push pool c h cheap ]
+AreCheap-pool_after pool c h cheap =
+    elim (is_refused pool c) as (λ t. AreCheap (cond t pool (pool ++ c ∷ []))) [ true ↦ h | false ↦ AreCheap-push pool c h cheap ]
 
-pub columns_if : (p : Problem) (old : List Column) (c : Column) (new : List Column) (result : Result Bool Memory) → AreColumns p old → IsColumn p c →
+pub columns_if : (p : Problem) (old : List Column) (c : Column) (new : List Column) (result : Result Bool Memory) →
+    AreColumns p old → IsColumn p c →
     IfOk result (λ added. new ≡ pool_after old c) → OnOk result (AreColumns p new)
 columns_if p old c new (Ok added) h is after = subst (AreColumns p) (sym after) (AreColumns-pool_after p old c h is)
 columns_if p old c new (Err e) h is after = after

@@ -10,7 +10,8 @@ use Rattle.cover_core.specs.Plans.{HasListedColumns}
 abbrev pub five_worth : ℕ → ℕ → List ℕ → Option ℕ
 five_worth bar class [] = None
 five_worth bar class (x ∷ []) = cond (nat_le bar x && nat_lt x 5) (Some 10) None
-five_worth bar class (x ∷ y ∷ []) = cond (nat_lt x y && nat_lt y 5 && (class == 0 || nat_lt y (x + 3))) (Some (8 + 3 * (y - x) + class)) None
+five_worth bar class (x ∷ y ∷ []) =
+    cond (nat_lt x y && nat_lt y 5 && (class == 0 || nat_lt y (x + 3))) (Some (8 + 3 * (y - x) + class)) None
 five_worth bar class (x ∷ y ∷ z ∷ []) = cond (nat_lt x y && nat_lt y z && nat_lt z 5) (Some (3 * (z - x) + class)) None
 five_worth bar class (x ∷ y ∷ z ∷ w ∷ rest) = None
 

@@ -24,7 +24,8 @@ joined (part ∷ parts) = part ++ joined parts
 
 -- a line was written whole, or a front of it, and then the count of faults rose
 abbrev pub IsTold : Option (List ℕ) → Option (List ℕ) → ℕ → ℕ → List ℕ → Type 0
-IsTold old new before now line = IfSome old (λ bytes. TakesFront bytes new line) × (IfSome old (λ bytes. new ≡ Some (bytes ++ line)) ⊎ Rose before now)
+IsTold old new before now line =
+    IfSome old (λ bytes. TakesFront bytes new line) × (IfSome old (λ bytes. new ≡ Some (bytes ++ line)) ⊎ Rose before now)
 
 -- of a line all was written but this rest
 pub record IsLeft (old new : Option (List ℕ)) (line rest : List ℕ) : Type 0 where

@@ -26,41 +26,64 @@ less-nothing x z = omega (arith, ints)
 one-priced : (counts : Bool) (prices : List Price) (class : ℕ) (g : Group) (k : ℕ) (p : Piece) (on : ℤ) →
     less_price (one_mark counts [] class g k p on) (price_at prices k) ≡ one_mark counts prices class g k p on
 one-priced counts prices class g k p on =
-    let with_value : ℤ → Mark = λ v. record { class = class; piece = k; start = record { 0 = on }; driving = p.driving; quarter = false; total = p.driving; three = false; value = v } in
+    let with_value : ℤ → Mark = λ v. record {
+      class = class;
+      piece = k;
+      start = record { 0 = on };
+      driving = p.driving;
+      quarter =
+          false;
+      total = p.driving;
+      three = false;
+      value = v;
+    } in
     ap with_value (less-nothing (on_value counts g on) (price_at prices k))
 
-given-priced : (test : Bool) (m n : Mark) (z : ℤ) → less_price m z ≡ n → option_map (λ x. less_price x z) (given test (Some m)) ≡ given test (Some n)
+given-priced : (test : Bool) (m n : Mark) (z : ℤ) → less_price m z ≡ n →
+    option_map (λ x. less_price x z) (given test (Some m)) ≡ given test (Some n)
 given-priced true m n z e = ap Some e
 given-priced false m n z e = refl
 
 on-priced : (counts : Bool) (prices : List Price) (class : ℕ) (g : Group) (k : ℕ) (p : Piece) (on : Option ℤ) →
-    option_map (λ x. less_price x (price_at prices k)) (option_and_then (λ on. given (is_open g (one_mark counts [] class g k p on) p.end.0) (Some (one_mark counts [] class g k p on))) on)
-    ≡ option_and_then (λ on. given (is_open g (one_mark counts prices class g k p on) p.end.0) (Some (one_mark counts prices class g k p on))) on
+    option_map (λ x. less_price x (price_at prices k))
+    (option_and_then (λ on. given (is_open g (one_mark counts [] class g k p on) p.end.0) (Some (one_mark counts [] class g k p on))) on)
+    ≡ option_and_then (λ on. given (is_open g (one_mark counts prices class g k p on) p.end.0)
+    (Some (one_mark counts prices class g k p on))) on
 on-priced counts prices class g k p None = refl
 on-priced counts prices class g k p (Some on) =
-    given-priced (is_open g (one_mark counts prices class g k p on) p.end.0) (one_mark counts [] class g k p on) (one_mark counts prices class g k p on) (price_at prices k) (one-priced counts prices class g k p on)
+    given-priced (is_open g (one_mark counts prices class g k p on) p.end.0) (one_mark counts [] class g k p on)
+    (one_mark counts prices class g k p on) (price_at prices k) (one-priced counts prices class g k p on)
 
 piece-priced : (d : DutyFacts) (prices : List Price) (class : ℕ) (g : Group) (k : ℕ) (piece : Option Piece) →
-    option_map (λ x. less_price x (price_at prices k)) (option_and_then (λ p. option_and_then (λ on. given (is_open g (one_mark d.counts [] class g k p on) p.end.0) (Some (one_mark d.counts [] class g k p on))) (sign_on d g p)) piece)
-    ≡ option_and_then (λ p. option_and_then (λ on. given (is_open g (one_mark d.counts prices class g k p on) p.end.0) (Some (one_mark d.counts prices class g k p on))) (sign_on d g p)) piece
+    option_map (λ x. less_price x (price_at prices k))
+    (option_and_then (λ p. option_and_then
+    (λ on. given (is_open g (one_mark d.counts [] class g k p on) p.end.0) (Some (one_mark d.counts [] class g k p on))) (sign_on d g p))
+    piece)
+    ≡ option_and_then (λ p. option_and_then
+    (λ on. given (is_open g (one_mark d.counts prices class g k p on) p.end.0) (Some (one_mark d.counts prices class g k p on)))
+    (sign_on d g p)) piece
 piece-priced d prices class g k None = refl
 piece-priced d prices class g k (Some p) = on-priced d.counts prices class g k p (sign_on d g p)
 
-pub first-priced : (d : DutyFacts) (prices : List Price) (class : ℕ) (g : Group) (k : ℕ) (free : Option Mark) → free ≡ first_mark d [] class g k →
+pub first-priced : (d : DutyFacts) (prices : List Price) (class : ℕ) (g : Group) (k : ℕ) (free : Option Mark) →
+    free ≡ first_mark d [] class g k →
     option_map (λ x. less_price x (price_at prices k)) free ≡ first_mark d prices class g k
 first-priced d prices class g k free is =
     ap (option_map (λ (x : Mark). less_price x (price_at prices k))) is ∙ piece-priced d prices class g k (slice_get d.pieces k)
 
 -- the value of a closed list, from what its sign-off is and adds
 both-parts : (counts : Bool) (g : Group) (m : Mark) (o : Option ℤ) →
-    option_and_then (λ off. option_and_then (λ more. given (closes_lawfully g m off) (Some (m.value +ℤ more))) (option_map (off_value counts g) o)) o
+    option_and_then (λ off. option_and_then (λ more. given (closes_lawfully g m off) (Some (m.value +ℤ more)))
+    (option_map (off_value counts g) o)) o
     ≡ option_and_then (λ off. given (closes_lawfully g m off) (Some (m.value +ℤ off_value counts g off))) o
 both-parts counts g m None = refl
 both-parts counts g m (Some off) = refl
 
-pub close-parts : (d : DutyFacts) (g : Group) (m : Mark) (p : Piece) (off more : Option ℤ) → slice_get d.pieces m.piece ≡ Some p → off ≡ sign_off d g p →
+pub close-parts : (d : DutyFacts) (g : Group) (m : Mark) (p : Piece) (off more : Option ℤ) → slice_get d.pieces m.piece ≡ Some p →
+    off ≡ sign_off d g p →
     more ≡ option_map (off_value d.counts g) (sign_off d g p) →
-    option_and_then (λ off. option_and_then (λ more. given (closes_lawfully g m off) (Some (m.value +ℤ more))) more) off ≡ closed_value d g m
+    option_and_then (λ off. option_and_then (λ more. given (closes_lawfully g m off) (Some (m.value +ℤ more))) more) off
+    ≡ closed_value d g m
 close-parts d g m p off more from is more_is =
     let closed : Option ℤ → Option ℤ → Option ℤ =
     λ o n. option_and_then (λ (off : ℤ). option_and_then (λ (more : ℤ). given (closes_lawfully g m off) (Some (m.value +ℤ more))) n) o in
@@ -76,7 +99,8 @@ if-some P (Some x) h = h x refl
 
 -- The value with which an open list closes fits 64 bits: of at most 3,000 pieces at prices of at most 3 * 10^15 it stays within
 -- 9.0001 * 10^18, with what sign-on and sign-off add.
-pub closed-fits : (d : DutyFacts) (g : Group) (m : Mark) (v : ℤ) → NetFits d → IsGroup g → MarkHasRanges (length d.pieces) m → closed_value d g m ≡ Some v →
+pub closed-fits : (d : DutyFacts) (g : Group) (m : Mark) (v : ℤ) → NetFits d → IsGroup g → MarkHasRanges (length d.pieces) m →
+    closed_value d g m ≡ Some v →
     (neg_ℤ (pos 9223372036854775808) ≤ℤ v) × (v ≤ℤ pos 9223372036854775807)
 closed-fits d g m v f modest h e =
     let (p, is_p, e1) = and_then-Some _ (slice_get d.pieces m.piece) v e in

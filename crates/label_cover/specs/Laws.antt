@@ -35,7 +35,17 @@ use Rattle.label_cover.specs.Ranges.{MarkHasRanges}
 -- holds of all.
 good-everywhere : (d : DutyFacts) (prices : List Price) (class : ℕ) → IsKept (of_class (duty_marking d prices) class) IsAtLeastAsGood
 good-everywhere d prices class = record {
-  same = λ a. record { class = refl; piece = refl; start = omega (arith, ints); driving = omega arith; quarter = refl; total = omega arith; three = λ h. h; value = omega (arith, ints) };
+  same = λ a. record {
+    class = refl;
+    piece = refl;
+    start = omega (arith, ints);
+    driving = omega arith;
+    quarter = refl;
+    total =
+        omega arith;
+    three = λ h. h;
+    value = omega (arith, ints);
+  };
   through = λ a b c h k. record {
     class = h.class ∙ k.class;
     piece = h.piece ∙ k.piece;
@@ -55,7 +65,8 @@ good-everywhere d prices class = record {
 
 pub duty-ordered : (d : DutyFacts) (prices : List Price) → IsOrdered (duty_marking d prices)
 duty-ordered d prices = record {
-  kept = λ class. kept-by (of_class (duty_marking d prices) class) IsAtLeastAsGood is_as_good good-test test-good (good-everywhere d prices class);
+  kept = λ class. kept-by (of_class (duty_marking d prices) class) IsAtLeastAsGood is_as_good good-test test-good
+      (good-everywhere d prices class);
   grouped = λ a b h. let good = test-good a b h in (good.class, good.piece);
   closes = λ a b v h e.
       let good = test-good a b h in
@@ -66,7 +77,8 @@ duty-ordered d prices = record {
 }
 
 -- A smaller value stays smaller over each further piece, and closes smaller.
-valued-everywhere : (d : DutyFacts) (prices : List Price) (class : ℕ) → IsValued (of_class (duty_marking d prices) class) IsAtLeastAsGood (λ m. m.value) (duty_marking d prices).close
+valued-everywhere : (d : DutyFacts) (prices : List Price) (class : ℕ) →
+    IsValued (of_class (duty_marking d prices) class) IsAtLeastAsGood (λ m. m.value) (duty_marking d prices).close
 valued-everywhere d prices class = record {
   at_most = λ a b good. good.value;
   apart = λ a b a' b' k good less ea eb.
@@ -83,17 +95,21 @@ valued-everywhere d prices class = record {
 }
 
 pub duty-valued : (d : DutyFacts) (prices : List Price) → AreValued (duty_marking d prices) (λ m. m.value)
-duty-valued d prices class = valued-by (of_class (duty_marking d prices) class) IsAtLeastAsGood is_as_good (λ m. m.value) (duty_marking d prices).close test-good (valued-everywhere d prices class)
+duty-valued d prices class =
+    valued-by (of_class (duty_marking d prices) class) IsAtLeastAsGood is_as_good (λ m. m.value) (duty_marking d prices).close test-good
+    (valued-everywhere d prices class)
 
 -- the class of the marks of one group
-first-class : (d : DutyFacts) (prices : List Price) (class : ℕ) (g : Group) (k : ℕ) (b : Mark) → first_mark d prices class g k ≡ Some b → b.class ≡ class
+first-class : (d : DutyFacts) (prices : List Price) (class : ℕ) (g : Group) (k : ℕ) (b : Mark) →
+    first_mark d prices class g k ≡ Some b → b.class ≡ class
 first-class d prices class g k b e =
     let (p, is_p, e1) = and_then-Some _ (slice_get d.pieces k) b e in
     let (on, is_on, e2) = and_then-Some _ (sign_on d g p) b e1 in
     let (test, made) = given-Some _ _ b e2 in
     sym (ap (λ (m : Mark). m.class) (Some-same _ b made))
 
-next-class : (d : DutyFacts) (prices : List Price) (g : Group) (a b : Mark) (k : ℕ) → extended_mark d g prices a k ≡ Some b → b.class ≡ a.class
+next-class : (d : DutyFacts) (prices : List Price) (g : Group) (a b : Mark) (k : ℕ) →
+    extended_mark d g prices a k ≡ Some b → b.class ≡ a.class
 next-class d prices g a b k e =
     let (p, is_p, e1) = and_then-Some _ (slice_get d.pieces a.piece) b e in
     let (q, is_q, e2) = and_then-Some _ (slice_get d.pieces k) b e1 in
@@ -140,10 +156,12 @@ module _ (d : DutyFacts) (prices : List Price) (class : ℕ) (g : Group) (is_g :
       ap (λ o. label_after (of_class (duty_marking d prices) class) o xs) (start-same x)
       ∙ after-same xs (first_mark d prices class g x) (λ m e. first-class d prices class g x m e)
 
-  after-class : (xs : List ℕ) (o : Option Mark) (b : Mark) → ((m : Mark) → o ≡ Some m → m.class ≡ class) → label_after (marking d prices class g) o xs ≡ Some b → b.class ≡ class
+  after-class : (xs : List ℕ) (o : Option Mark) (b : Mark) → ((m : Mark) → o ≡ Some m → m.class ≡ class) →
+      label_after (marking d prices class g) o xs ≡ Some b → b.class ≡ class
   after-class xs None b kind e = absurd (cc)
   after-class [] (Some a) b kind e = kind b e
-  after-class (x ∷ xs) (Some a) b kind e = after-class xs (extended_mark d g prices a x) b (λ m h. next-class d prices g a m x h ∙ kind a refl) e
+  after-class (x ∷ xs) (Some a) b kind e =
+      after-class xs (extended_mark d g prices a x) b (λ m h. next-class d prices g a m x h ∙ kind a refl) e
 
   label-class : (list : List ℕ) (b : Mark) → label_of (marking d prices class g) list ≡ Some b → b.class ≡ class
   label-class [] b e = absurd (cc)
@@ -192,7 +210,8 @@ open-fits g m end e =
     let most = day-most g.ten in
     (less, omega arith)
 
-first-ranges : (d : DutyFacts) (prices : List Price) (class : ℕ) (g : Group) (k : ℕ) (m : Mark) → NetFits d → IsGroup g → AllWithin 3000000000000000 prices →
+first-ranges : (d : DutyFacts) (prices : List Price) (class : ℕ) (g : Group) (k : ℕ) (m : Mark) → NetFits d → IsGroup g →
+    AllWithin 3000000000000000 prices →
     first_mark d prices class g k ≡ Some m → MarkHasRanges (length d.pieces) m
 first-ranges d prices class g k m f modest w e =
     let (p, is_p, e1) = and_then-Some _ (slice_get d.pieces k) m e in
@@ -206,10 +225,22 @@ first-ranges d prices class g k m f modest w e =
     let below = at-below d.pieces k p is_p in
     let few = f.few in
     let P : Mark → Type 0 = λ x. MarkHasRanges (length d.pieces) x in
-    let fits : MarkHasRanges (length d.pieces) first = record { piece = omega arith; few = f.few; early = early; late = late; driving = driving; total = total; low = omega (arith, ints); high = omega (arith, ints) } in
+    let fits : MarkHasRanges (length d.pieces) first =
+    record {
+      piece = omega arith;
+      few = f.few;
+      early = early;
+      late = late;
+      driving = driving;
+      total = total;
+      low =
+          omega (arith, ints);
+      high = omega (arith, ints);
+    } in
     subst P (Some-same first m made) fits
 
-next-ranges : (d : DutyFacts) (prices : List Price) (g : Group) (a b : Mark) (k : ℕ) → NetFits d → AllWithin 3000000000000000 prices → MarkHasRanges (length d.pieces) a →
+next-ranges : (d : DutyFacts) (prices : List Price) (g : Group) (a b : Mark) (k : ℕ) → NetFits d → AllWithin 3000000000000000 prices →
+    MarkHasRanges (length d.pieces) a →
     extended_mark d g prices a k ≡ Some b → MarkHasRanges (length d.pieces) b
 next-ranges d prices g a b k f w h e =
     let (p, is_p, e1) = and_then-Some _ (slice_get d.pieces a.piece) b e in
@@ -225,11 +256,22 @@ next-ranges d prices g a b k f w h e =
     let few = f.few in
     let low = h.low in let high = h.high in
     let P : Mark → Type 0 = λ x. MarkHasRanges (length d.pieces) x in
-    let fits : MarkHasRanges (length d.pieces) next = record { piece = omega arith; few = f.few; early = h.early; late = h.late; driving = driving; total = total; low = omega (arith, ints); high = omega (arith, ints) } in
+    let fits : MarkHasRanges (length d.pieces) next = record {
+      piece = omega arith;
+      few = f.few;
+      early = h.early;
+      late = h.late;
+      driving =
+          driving;
+      total = total;
+      low = omega (arith, ints);
+      high = omega (arith, ints);
+    } in
     subst P (Some-same next b made) fits
 
 -- The law of numbers: of 3,000 pieces at prices of at most 3 * 10^15 the value stays within 9.00001 * 10^18.
-pub duty-safe : (d : DutyFacts) (prices : List Price) → NetFits d → AllWithin 3000000000000000 prices → AreSafe (duty_marking d prices) (MarkHasRanges (length d.pieces))
+pub duty-safe : (d : DutyFacts) (prices : List Price) → NetFits d → AllWithin 3000000000000000 prices →
+    AreSafe (duty_marking d prices) (MarkHasRanges (length d.pieces))
 duty-safe d prices f w = record {
   starts = λ class k b e.
       let (g, is_g, first) = and_then-Some (λ (g : Group). first_mark d prices class g k) (slice_get d.params.groups class) b e in

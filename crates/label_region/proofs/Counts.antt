@@ -42,7 +42,8 @@ zero_sum (suc n) = let r = zero_sum n in omega arith
 length_counted : (xs : List ℕ) (n : ℕ) → All (λ b. b < n) xs → length xs ≡ sum_below (λ x. times x xs) n
 length_counted [] n h = sym (zero_sum n)
 length_counted (y ∷ ys) n h =
-    let r = length_counted ys n (All-tail (λ b. b < n) y ys h) in let o = one_below y n (All-head (λ b. b < n) y ys h) in let s = sum_of_sums (one_at y) (λ x. times x ys) n in omega arith
+    let r = length_counted ys n (All-tail (λ b. b < n) y ys h) in let o = one_below y n (All-head (λ b. b < n) y ys h) in
+    let s = sum_of_sums (one_at y) (λ x. times x ys) n in omega arith
 
 at_most : (f : ℕ → ℕ) (n : ℕ) → ((x : ℕ) → f x ≤ 1) → sum_below f n ≤ n
 at_most f zero h = omega arith
@@ -59,7 +60,8 @@ pub back_fits : (n : ℕ) (back : List ℕ) → AreBack n back → length back �
 back_fits n back h = let c = length_counted back n h.used_before in let l = at_most (λ x. times x back) n h.once in omega arith
 
 pub back_has_room : (n id : ℕ) (back : List ℕ) → AreBack n back → id < n → times id back ≡ 0 → length back < n
-back_has_room n id back h l z = let c = length_counted back n h.used_before in let s = less_than (λ x. times x back) n id h.once l z in omega arith
+back_has_room n id back h l z =
+    let c = length_counted back n h.used_before in let s = less_than (λ x. times x back) n id h.once l z in omega arith
 
 one_more : (x : ℕ) (xs : List ℕ) (y : ℕ) → times x (xs ++ y ∷ []) ≡ times x xs + one_at y x
 one_more x [] y = omega arith
@@ -70,7 +72,8 @@ pub back_push : (used id : ℕ) (back : List ℕ) → AreBack used back → id <
 back_push used id back h l z = record {
   used_before = All-push (λ b. b < used) back id h.used_before l;
   once = λ x. elim (ℕ_discrete id x) [
-    | yes same ↦ let m = one_more x back id in let o : one_at id x ≡ 1 = ap (one_at id) (sym same) ∙ at_same id in let e : times x back ≡ 0 = ap (λ y. times y back) (sym same) ∙ z in omega arith
+    | yes same ↦ let m = one_more x back id in let o : one_at id x ≡ 1 = ap (one_at id) (sym same) ∙ at_same id in
+        let e : times x back ≡ 0 = ap (λ y. times y back) (sym same) ∙ z in omega arith
     | no apart ↦ let m = one_more x back id in let o = at_other id x apart in let e = h.once x in omega arith
   ];
 }
@@ -79,7 +82,8 @@ back_push used id back h l z = record {
 pub back_pop : (used id : ℕ) (back : List ℕ) → AreBack used (back ++ id ∷ []) → AreBack used back × (id < used) × (times id back ≡ 0)
 back_pop used id back h =
     let parts = All-pop (λ b. b < used) (back ++ id ∷ []) back (Some id) refl h.used_before in
-    let left : AreBack used back = record { used_before = parts.0; once = λ x. let m = one_more x back id in let e = h.once x in omega arith } in
+    let left : AreBack used back =
+    record { used_before = parts.0; once = λ x. let m = one_more x back id in let e = h.once x in omega arith } in
     let alone : times id back ≡ 0 = let m = one_more id back id in let e = h.once id in let o = at_same id in omega arith in
     (left, parts.1, alone)
 

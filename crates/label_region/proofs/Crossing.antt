@@ -38,7 +38,8 @@ module _ (R : RattleType) where
   pub cells_send : IsSend R → IsSend (cells-type.the_row R)
   cells_send s =
       let C = cells-type.the_type R in let all : AllSend (fields C) = (search sendable, tt) in
-      owning_send C all (λ d. places-Keyless s d.at d.slots) (λ k. quiet (to C) (exits_of k (fields C)) ((struct_send (shape C) all).leaving k))
+      owning_send C all (λ d. places-Keyless s d.at d.slots)
+      (λ k. quiet (to C) (exits_of k (fields C)) ((struct_send (shape C) all).leaving k))
 
   pub cells_sync : IsSync R → IsSync (cells-type.the_row R)
   cells_sync y =
@@ -52,4 +53,5 @@ module _ (R : RattleType) where
         owning_send D all (λ d. f.frees d.alloc _ d.at) (λ k. quiet (to D) (exits_of k (fields D)) ((struct_send (shape D) all).leaving k))
 
     pub deed_sync : IsSync (deed-type.the_row R A g)
-    deed_sync = let D = deed-type.the_type R A g in record { shared = λ d b o κ. ((struct_sync (shape D) (search sendable, tt)).shared (to D d) b o κ, tt) }
+    deed_sync = let D = deed-type.the_type R A g in
+        record { shared = λ d b o κ. ((struct_sync (shape D) (search sendable, tt)).shared (to D d) b o κ, tt) }

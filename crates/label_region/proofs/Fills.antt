@@ -44,7 +44,8 @@ module _ {X : Type 0} where
 
   -- what a place holds is the label at its index
   pub place_is : (n : ℕ) (ps : List (Option X)) (i : ℕ) → IsFilledTo n ps → i < n → get_or ps i None ≡ slice_get (labels_of n ps) i
-  place_is n ps i h lt = sym (get_or-take n ps i None lt) ∙ ap (λ (l : List (Option X)). get_or l i None) h.filled ∙ get_or-map (labels_of n ps) i
+  place_is n ps i h lt = sym (get_or-take n ps i None lt) ∙ ap (λ (l : List (Option X)). get_or l i None) h.filled
+      ∙ get_or-map (labels_of n ps) i
 
   pub place_filled : (n : ℕ) (ps : List (Option X)) (i : ℕ) → IsFilledTo n ps → i < n → IsFilled ps i
   place_filled n ps i h lt =
@@ -52,31 +53,41 @@ module _ {X : Type 0} where
       let there = one_there (labels_of n ps) i (omega arith) in (there.0, place_is n ps i h lt ∙ there.1)
 
   -- a label is changed
-  set_first : (n : ℕ) (ps : List (Option X)) (i : ℕ) (x : X) → IsFilledTo n ps → take n (set ps i (Some x)) ≡ map Some (set (labels_of n ps) i x)
-  set_first n ps i x h = take-set_within n ps i (Some x) ∙ ap (λ (l : List (Option X)). set l i (Some x)) h.filled ∙ set-map (labels_of n ps) i x
+  set_first : (n : ℕ) (ps : List (Option X)) (i : ℕ) (x : X) → IsFilledTo n ps →
+      take n (set ps i (Some x)) ≡ map Some (set (labels_of n ps) i x)
+  set_first n ps i x h = take-set_within n ps i (Some x) ∙ ap (λ (l : List (Option X)). set l i (Some x)) h.filled
+      ∙ set-map (labels_of n ps) i x
 
   pub set_filled : (n : ℕ) (ps : List (Option X)) (i : ℕ) (x : X) → IsFilledTo n ps → IsFilledTo n (set ps i (Some x))
-  set_filled n ps i x h = let within = h.within in let long = length-set ps i (Some x) in filled_by n (set ps i (Some x)) (set (labels_of n ps) i x) (omega arith) (set_first n ps i x h)
+  set_filled n ps i x h = let within = h.within in let long = length-set ps i (Some x) in
+      filled_by n (set ps i (Some x)) (set (labels_of n ps) i x) (omega arith) (set_first n ps i x h)
 
-  pub labels_of-set : (n : ℕ) (ps : List (Option X)) (i : ℕ) (x : X) → IsFilledTo n ps → labels_of n (set ps i (Some x)) ≡ set (labels_of n ps) i x
+  pub labels_of-set : (n : ℕ) (ps : List (Option X)) (i : ℕ) (x : X) → IsFilledTo n ps →
+      labels_of n (set ps i (Some x)) ≡ set (labels_of n ps) i x
   labels_of-set n ps i x h = labels_are n (set ps i (Some x)) (set (labels_of n ps) i x) (set_first n ps i x h)
 
   -- a label is put behind the others
-  push_first : (n : ℕ) (ps : List (Option X)) (x : X) → IsFilledTo n ps → n < length ps → take (n + 1) (set ps n (Some x)) ≡ map Some (labels_of n ps ++ x ∷ [])
+  push_first : (n : ℕ) (ps : List (Option X)) (x : X) → IsFilledTo n ps → n < length ps →
+      take (n + 1) (set ps n (Some x)) ≡ map Some (labels_of n ps ++ x ∷ [])
   push_first n ps x h lt =
-      rw add-one (take-suc-set ps n (Some x) lt ∙ ap (λ (l : List (Option X)). l ++ Some x ∷ []) h.filled ∙ sym (map-append Some (labels_of n ps) (x ∷ [])))
+      rw add-one (take-suc-set ps n (Some x) lt ∙ ap (λ (l : List (Option X)). l ++ Some x ∷ []) h.filled
+      ∙ sym (map-append Some (labels_of n ps) (x ∷ [])))
 
   pub push_filled : (n : ℕ) (ps : List (Option X)) (x : X) → IsFilledTo n ps → n < length ps → IsFilledTo (n + 1) (set ps n (Some x))
-  push_filled n ps x h lt = let long = length-set ps n (Some x) in filled_by (n + 1) (set ps n (Some x)) (labels_of n ps ++ x ∷ []) (omega arith) (push_first n ps x h lt)
+  push_filled n ps x h lt = let long = length-set ps n (Some x) in
+      filled_by (n + 1) (set ps n (Some x)) (labels_of n ps ++ x ∷ []) (omega arith) (push_first n ps x h lt)
 
-  pub labels_of-push : (n : ℕ) (ps : List (Option X)) (x : X) → IsFilledTo n ps → n < length ps → labels_of (n + 1) (set ps n (Some x)) ≡ labels_of n ps ++ x ∷ []
+  pub labels_of-push : (n : ℕ) (ps : List (Option X)) (x : X) → IsFilledTo n ps → n < length ps →
+      labels_of (n + 1) (set ps n (Some x)) ≡ labels_of n ps ++ x ∷ []
   labels_of-push n ps x h lt = labels_are (n + 1) (set ps n (Some x)) (labels_of n ps ++ x ∷ []) (push_first n ps x h lt)
 
   -- one label more is copied
-  pub copied_more : (i : ℕ) (from to : List (Option X)) (x : X) → take i to ≡ take i from → i < length from → i < length to → get_or from i None ≡ Some x
+  pub copied_more : (i : ℕ) (from to : List (Option X)) (x : X) → take i to ≡ take i from → i < length from → i < length to →
+      get_or from i None ≡ Some x
       → take (i + 1) (set to i (Some x)) ≡ take (i + 1) from
   copied_more i from to x same lt room holds =
-      rw add-one (take-suc-set to i (Some x) room ∙ ap (λ (l : List (Option X)). l ++ Some x ∷ []) same ∙ ap (λ (p : Option X). take i from ++ p ∷ []) (sym holds) ∙ sym (take-suc from i None lt))
+      rw add-one (take-suc-set to i (Some x) room ∙ ap (λ (l : List (Option X)). l ++ Some x ∷ []) same
+      ∙ ap (λ (p : Option X). take i from ++ p ∷ []) (sym holds) ∙ sym (take-suc from i None lt))
 
   -- the labels are where they were copied to
   pub copied_filled : (n : ℕ) (from to : List (Option X)) → IsFilledTo n from → n ≤ length to → take n to ≡ take n from → IsFilledTo n to
@@ -86,7 +97,8 @@ module _ {X : Type 0} where
   labels_of-copied n from to same = ap values same
 
   -- the same of a block
-  pub row-set : (n : ℕ) (ps : List (Option X)) (i : ℕ) (x : X) → IsFilledTo n ps → row (labels_of n (set ps i (Some x))) (length (set ps i (Some x))) ≡ row (set (labels_of n ps) i x) (length ps)
+  pub row-set : (n : ℕ) (ps : List (Option X)) (i : ℕ) (x : X) → IsFilledTo n ps →
+      row (labels_of n (set ps i (Some x))) (length (set ps i (Some x))) ≡ row (set (labels_of n ps) i x) (length ps)
   row-set n ps i x h = λ j. row (labels_of-set n ps i x h j) (length-set ps i (Some x) j)
 
   pub row-push : (n : ℕ) (ps : List (Option X)) (x : X) → IsFilledTo n ps → n < length ps

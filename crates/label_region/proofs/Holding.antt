@@ -8,13 +8,16 @@ module _ {X : Type 0} where
   -- a live number joins those given back, for which there is room
   pub back_room_left : (s : Shelf X) (room back_room id : ℕ) → IsHeld s room back_room → IsLive s id → length s.back < back_room
   back_room_left s room back_room id held live =
-      let parts = live_parts s id live in let left = back_has_room (length s.cells) id s.back held.back parts.0 parts.1 in let fit = held.back_fits in omega arith
+      let parts = live_parts s id live in let left = back_has_room (length s.cells) id s.back held.back parts.0 parts.1 in
+      let fit = held.back_fits in omega arith
 
   pub spare_small : (s : Shelf X) (room back_room id : ℕ) → IsHeld s room back_room → IsLive s id → s.spare + 1 < 2147483648
   spare_small s room back_room id held live =
-      let parts = live_parts s id live in let left = back_has_room (length s.cells) id s.back held.back parts.0 parts.1 in let few = held.few in omega arith
+      let parts = live_parts s id live in let left = back_has_room (length s.cells) id s.back held.back parts.0 parts.1 in
+      let few = held.few in omega arith
 
-  pub held_given_back : (s : Shelf X) (room back_room id : ℕ) → IsHeld s room back_room → IsLive s id → IsHeld (shelf s.cells (s.back ++ id ∷ []) (s.spare + 1)) room back_room
+  pub held_given_back : (s : Shelf X) (room back_room id : ℕ) → IsHeld s room back_room → IsLive s id →
+      IsHeld (shelf s.cells (s.back ++ id ∷ []) (s.spare + 1)) room back_room
   held_given_back s room back_room id held live =
       let parts = live_parts s id live in
       let longer = length-append s.back (id ∷ []) in
@@ -42,12 +45,14 @@ module _ {X : Type 0} where
       }
 
   -- the last number given back is used again
-  pub held_again : (cells : List X) (back : List ℕ) (spare id room back_room : ℕ) (label : X) → IsHeld (shelf cells (back ++ id ∷ []) spare) room back_room → 0 < spare
+  pub held_again : (cells : List X) (back : List ℕ) (spare id room back_room : ℕ) (label : X) →
+      IsHeld (shelf cells (back ++ id ∷ []) spare) room back_room → 0 < spare
       → IsHeld (shelf (set cells id label) back (spare - 1)) room back_room
   held_again cells back spare id room back_room label held some =
       let parts = back_pop (length cells) id back held.back in
       let longer = length-append back (id ∷ []) in let same = length-set cells id label in
-      let a = held.spare_fits in let b = held.spare_back_fits in let f = held.few in let u = held.few_used in let c = held.cells_fit in let d = held.back_fits in record {
+      let a = held.spare_fits in let b = held.spare_back_fits in let f = held.few in let u = held.few_used in let c = held.cells_fit in
+      let d = held.back_fits in record {
         back = subst (λ n. AreBack n back) (sym same) parts.0;
         cells_fit = omega arith;
         spare_fits = omega arith;
@@ -62,7 +67,8 @@ module _ {X : Type 0} where
       → IsHeld (shelf (cells ++ label ∷ []) [] (spare - 1)) room back_room
   held_first cells spare room back_room label held some =
       let longer = length-append cells (label ∷ []) in
-      let a = held.spare_fits in let b = held.spare_back_fits in let f = held.few in let u = held.few_used in let c = held.cells_fit in let d = held.back_fits in record {
+      let a = held.spare_fits in let b = held.spare_back_fits in let f = held.few in let u = held.few_used in let c = held.cells_fit in
+      let d = held.back_fits in record {
         back = none_back (length (cells ++ label ∷ []));
         cells_fit = omega arith;
         spare_fits = omega arith;
@@ -73,8 +79,10 @@ module _ {X : Type 0} where
       }
 
   -- more memory, and so more spare
-  pub held_wider : (cells : List X) (back : List ℕ) (spare more room back_room wide back_wide : ℕ) → IsHeld (shelf cells back spare) room back_room
-      → length cells ≤ wide → length cells + more ≤ wide + length back → length cells ≤ back_wide → length cells + more ≤ back_wide + length back → length cells + more < 2147483648 + length back
+  pub held_wider : (cells : List X) (back : List ℕ) (spare more room back_room wide back_wide : ℕ) →
+      IsHeld (shelf cells back spare) room back_room
+      → length cells ≤ wide → length cells + more ≤ wide + length back → length cells ≤ back_wide →
+      length cells + more ≤ back_wide + length back → length cells + more < 2147483648 + length back
       → IsHeld (shelf cells back more) wide back_wide
   held_wider cells back spare more room back_room wide back_wide held a b c d e = record {
     back = held.back;

@@ -50,19 +50,23 @@ module _ {X : Type 0} where
   pub label_gone : (cells : List X) (back : List ℕ) (id spare : ℕ) → label_at (shelf cells (back ++ id ∷ []) spare) id ≡ None
   label_gone cells back id spare = label_back (shelf cells (back ++ id ∷ []) spare) id (λ e. let p = times_last id back in omega arith)
 
-  pub label_stays : (cells : List X) (back : List ℕ) (id spare more other : ℕ) → other ≢ id → label_at (shelf cells (back ++ id ∷ []) spare) other ≡ label_at (shelf cells back more) other
+  pub label_stays : (cells : List X) (back : List ℕ) (id spare more other : ℕ) → other ≢ id →
+      label_at (shelf cells (back ++ id ∷ []) spare) other ≡ label_at (shelf cells back more) other
   label_stays cells back id spare more other n = rw (times_more other id back n) refl
 
-  pub label_set : (cells : List X) (back : List ℕ) (id spare : ℕ) (label : X) → id < length cells → times id back ≡ 0 → label_at (shelf (set cells id label) back spare) id ≡ Some label
+  pub label_set : (cells : List X) (back : List ℕ) (id spare : ℕ) (label : X) → id < length cells → times id back ≡ 0 →
+      label_at (shelf (set cells id label) back spare) id ≡ Some label
   label_set cells back id spare label l z = label_free (shelf (set cells id label) back spare) id z ∙ get-set_same cells id label l
 
-  pub label_unset : (cells : List X) (back : List ℕ) (id spare more other : ℕ) (label : X) → other ≢ id → label_at (shelf (set cells id label) back spare) other ≡ label_at (shelf cells (back ++ id ∷ []) more) other
+  pub label_unset : (cells : List X) (back : List ℕ) (id spare more other : ℕ) (label : X) → other ≢ id →
+      label_at (shelf (set cells id label) back spare) other ≡ label_at (shelf cells (back ++ id ∷ []) more) other
   label_unset cells back id spare more other label n = rw (times_more other id back n, get-set_other cells id other label n) refl
 
   pub label_new : (cells : List X) (spare : ℕ) (label : X) → label_at (shelf (cells ++ label ∷ []) [] spare) (length cells) ≡ Some label
   label_new cells spare label = get-push_same cells label
 
-  pub label_old : (cells : List X) (spare more other : ℕ) (label : X) → other ≢ length cells → label_at (shelf (cells ++ label ∷ []) [] spare) other ≡ label_at (shelf cells [] more) other
+  pub label_old : (cells : List X) (spare more other : ℕ) (label : X) → other ≢ length cells →
+      label_at (shelf (cells ++ label ∷ []) [] spare) other ≡ label_at (shelf cells [] more) other
   label_old cells spare more other label n = get-push_other cells label other n
 
   pub label_past : (cells : List X) (spare : ℕ) → label_at (shelf cells [] spare) (length cells) ≡ None

@@ -38,8 +38,11 @@ module _ {M : Type 1} {𝓤 : Ura M} (𝓛 : Logic 𝓤) (l : Lft) (R : RattleTy
   Lends-row b o [] = Lends-nothing 𝓛 ftrue l
   Lends-row b o (p ∷ ps) =
       let next = o + type_size R in
-      Lends-both 𝓛 (place_own R b o p) (row_own R b next ps) (place_lent R b o p) (row_lent R b next ps) l (Lends-place b o p) (Lends-row b next ps)
+      Lends-both 𝓛 (place_own R b o p) (row_own R b next ps) (place_lent R b o p) (row_lent R b next ps) l
+      (Lends-place b o p) (Lends-row b next ps)
 
   pub Lends-places : (at : Ptr) (ps : List (Option R.Denot)) → Lends 𝓛 (places_own R at ps) (places_lent R at ps) l
   Lends-places null_ptr ps = Lends-false 𝓛 (said ffalse) l
-  Lends-places (block_ptr b o) ps = Lends-both 𝓛 (in_reach R ps) (row_own R b o ps) (said (in_reach R ps)) (row_lent R b o ps) l (Lends-said 𝓛 (in_reach R ps) tt l) (Lends-row b o ps)
+  Lends-places (block_ptr b o) ps =
+      Lends-both 𝓛 (in_reach R ps) (row_own R b o ps) (said (in_reach R ps)) (row_lent R b o ps) l
+      (Lends-said 𝓛 (in_reach R ps) tt l) (Lends-row b o ps)

@@ -59,7 +59,8 @@ mark = vstruct (vcons (vstruct vnil) vnil)
 
 module _ (E : El) {M : Type 1} {𝓤 : Ura M} (𝓛 : Logic 𝓤) where
   pub mark_made : ent 𝓤 (emp 𝓤) (sem 𝓛 ((Mark E).own_val (tt, tt) (mark ∷ [])))
-  mark_made = makes_shadow 𝓛 ((Mark E).own_val (tt, tt) (mark ∷ [])) (λ vss. (tt, ((λ uss. (tt, tt)), tt))) ((vstruct vnil ∷ [], tt), (refl, ((tt, (refl, tt)), tt)))
+  mark_made = makes_shadow 𝓛 ((Mark E).own_val (tt, tt) (mark ∷ [])) (λ vss. (tt, ((λ uss. (tt, tt)), tt)))
+      ((vstruct vnil ∷ [], tt), (refl, ((tt, (refl, tt)), tt)))
 
 module _ (E : El) {M : Type 1} {𝓤 : Ura M} {𝓛 : Logic 𝓤} {K : Type 0} {Γ : List (Item 𝓤)} {G : Goal 𝓤 𝓛.H} where
   pub mark_had : K → (vs : List Val) → (vs ≡ mark ∷ [] → Seq K 𝓛 Γ G) → Seq K 𝓛 (‵ ((Mark E).own_val (tt, tt) vs) ∷ Γ) G
@@ -67,18 +68,22 @@ module _ (E : El) {M : Type 1} {𝓤 : Ura M} {𝓛 : Logic 𝓤} {K : Type 0} {
       fpick t (λ vss. fsplit t $ feq_l t (λ outer. fsplit t $ fpick t (λ uss. fsplit t $ feq_l t (λ inner. drop t $ drop t $
       k (subst (λ (ws : List Val). vs ≡ vstruct (of_list (ws ++ [])) ∷ []) inner outer)))))
 
-  pub base_had : K → (base : (Br E).Denot) (vs : List Val) → (vs ≡ word base.ptr ∷ [] → Seq K 𝓛 Γ G) → Seq K 𝓛 (‵ ((Br E).own_val base vs) ∷ Γ) G
+  pub base_had : K → (base : (Br E).Denot) (vs : List Val) → (vs ≡ word base.ptr ∷ [] → Seq K 𝓛 Γ G) →
+      Seq K 𝓛 (‵ ((Br E).own_val base vs) ∷ Γ) G
   base_had t base vs k =
       fpick t (λ vss. fsplit t $ feq_l t (λ outer. fsplit t $ feq_l t (λ inner. drop t $
       k (subst (λ (ws : List Val). vs ≡ vstruct (of_list (ws ++ [])) ∷ []) inner outer))))
 
   pub base_made : K → (base : (Br E).Denot) → Step K 𝓛 (‵ ((Br E).own_val base (word base.ptr ∷ [])) ∷ Γ) G Γ G
   base_made t base = step (λ s.
-      nothing t $ feq_i t (List Val) (ptr_val base.ptr ∷ []) (ptr_val base.ptr ∷ []) refl $ fjoin t $ feq_i t (List Val) (word base.ptr ∷ []) (word base.ptr ∷ []) refl $ fjoin t $
-      fpack t (Valss (RawPtr ∷ [])) (within (Declared.shape (base-type.the_type (R E))) (base.ptr, tt) (word base.ptr ∷ [])) (ptr_val base.ptr ∷ [], tt) $ s)
+      nothing t $ feq_i t (List Val) (ptr_val base.ptr ∷ []) (ptr_val base.ptr ∷ []) refl $ fjoin t $
+      feq_i t (List Val) (word base.ptr ∷ []) (word base.ptr ∷ []) refl $ fjoin t $
+      fpack t (Valss (RawPtr ∷ [])) (within (Declared.shape (base-type.the_type (R E))) (base.ptr, tt) (word base.ptr ∷ []))
+      (ptr_val base.ptr ∷ [], tt) $ s)
 
   -- a label is stored as one machine value, of its type
-  pub label_had : K → (x : el_x E) (vs : List Val) → ((v : Val) → vs ≡ v ∷ [] → Good (elτ E) v → Seq K 𝓛 (‵ ((R E).own_val x (v ∷ [])) ∷ Γ) G) → Seq K 𝓛 (‵ ((R E).own_val x vs) ∷ Γ) G
+  pub label_had : K → (x : el_x E) (vs : List Val) →
+      ((v : Val) → vs ≡ v ∷ [] → Good (elτ E) v → Seq K 𝓛 (‵ ((R E).own_val x (v ∷ [])) ∷ Γ) G) → Seq K 𝓛 (‵ ((R E).own_val x vs) ∷ Γ) G
   label_had t x vs k =
       peeks t (R E) (Is (R E)) (shows 𝓛 (R E)) x vs (λ is.
       let v = one E vs (((param_laws 0 E.row E.laws).lawful 𝓛).typed x vs is) in
@@ -107,7 +112,8 @@ module _ (E : El) {M : Type 1} {𝓤 : Ura M} (𝓛 : Logic 𝓤) (b : ℕ) wher
       qed 𝓛 (‵ (Row o (p ∷ ps)) ∷ []) ∵ fsplit ! $ rewrite ! 0 (λ (k : ℕ). ‵ (place_own (R E) b k p)) same refl $ done !
   take_out (p ∷ ps) (suc i) o at lt e =
       qed 𝓛 (‵ (Row o (p ∷ ps)) ∷ []) ∵ fsplit ! $ move ! (1 ∷ []) $
-      use1 𝓛 (‵ (place_own (R E) b at (get_or ps i None)) ⊛ ‵ (Rest (o + w) ps i)) (take_out ps i (o + w) at (omega arith) (omega (arith, suc-mul i w))) $
+      use1 𝓛 (‵ (place_own (R E) b at (get_or ps i None)) ⊛ ‵ (Rest (o + w) ps i))
+      (take_out ps i (o + w) at (omega arith) (omega (arith, suc-mul i w))) $
       split ! $ move ! (2 ∷ 1 ∷ []) $ fjoin ! $ move ! (1 ∷ []) $ done !
 
   pub put_in : (ps : List (Place E)) (i o at : ℕ) (p : Place E) → i < length ps → at ≡ i * w + o
@@ -115,38 +121,46 @@ module _ (E : El) {M : Type 1} {𝓤 : Ura M} (𝓛 : Logic 𝓤) (b : ℕ) wher
   put_in [] i o at p lt e = absurd (omega arith)
   put_in (q ∷ ps) zero o at p lt e =
       let same : at ≡ o = omega (arith, zero-mul w) in
-      qed 𝓛 (‵ (place_own (R E) b at p) ∷ ‵ (Row (o + w) ps) ∷ []) ∵ rewrite ! 0 (λ (k : ℕ). ‵ (place_own (R E) b k p)) same refl $ fjoin ! $ done !
+      qed 𝓛 (‵ (place_own (R E) b at p) ∷ ‵ (Row (o + w) ps) ∷ []) ∵ rewrite ! 0 (λ (k : ℕ). ‵ (place_own (R E) b k p)) same refl $
+      fjoin ! $ done !
   put_in (q ∷ ps) (suc i) o at p lt e =
-      qed 𝓛 (‵ (place_own (R E) b at p) ∷ ‵ (fsep (place_own (R E) b o q) (Rest (o + w) ps i)) ∷ []) ∵ move ! (1 ∷ []) $ fsplit ! $ move ! (2 ∷ 1 ∷ []) $
-      use2 𝓛 (‵ (Row (o + w) (set ps i p))) (put_in ps i (o + w) at p (omega arith) (omega (arith, suc-mul i w))) $ move ! (1 ∷ 0 ∷ []) $ fjoin ! $ done !
+      qed 𝓛 (‵ (place_own (R E) b at p) ∷ ‵ (fsep (place_own (R E) b o q) (Rest (o + w) ps i)) ∷ []) ∵ move ! (1 ∷ []) $
+      fsplit ! $ move ! (2 ∷ 1 ∷ []) $
+      use2 𝓛 (‵ (Row (o + w) (set ps i p))) (put_in ps i (o + w) at p (omega arith) (omega (arith, suc-mul i w))) $
+      move ! (1 ∷ 0 ∷ []) $ fjoin ! $ done !
 
   pub emptied : (p : Place E) (o : ℕ) → ent 𝓤 (sem 𝓛 (place_own (R E) b o p)) (sem 𝓛 (place_own (R E) b o None))
   emptied None o = id⊢ 𝓤 (sem 𝓛 (place_own (R E) b o None))
   emptied (Some x) o =
       qed 𝓛 (‵ (place_own (R E) b o (Some x)) ∷ []) ∵
-      use1 𝓛 (some (λ (v : Val). given (Good (elτ E) v) (‵ (fat full_share (elτ E) b o v) ⊛ ‵ (E.row.own_val x (v ∷ []))))) (el_out (record { row = E.row; laws = E.laws }) 𝓛 full_share x b o) $
-      pick ! (λ v. learn ! (λ good. split ! $ use1 𝓛 (‵ (froom (elτ E) b o)) (𝓛.laws.at_room (elτ E) b o v) $ as_raw ! (elτ E) b o $ keep ! (0 ∷ []) $ done !))
+      use1 𝓛 (some (λ (v : Val). given (Good (elτ E) v) (‵ (fat full_share (elτ E) b o v) ⊛ ‵ (E.row.own_val x (v ∷ [])))))
+      (el_out (record { row = E.row; laws = E.laws }) 𝓛 full_share x b o) $
+      pick ! (λ v. learn ! (λ good. split ! $ use1 𝓛 (‵ (froom (elτ E) b o)) (𝓛.laws.at_room (elτ E) b o v) $ as_raw ! (elτ E) b o $
+      keep ! (0 ∷ []) $ done !))
 
   pub empty_row : (n o : ℕ) → ent 𝓤 (H.room (ty_array (elτ E) n) b o) (sem 𝓛 (Row o (replicate n None)))
   empty_row zero o = qed 𝓛 (‵ (froom (ty_array (elτ E) 0) b o) ∷ []) ∵ keep ! [] $ done !
   empty_row (suc n) o =
       qed 𝓛 (‵ (froom (ty_array (elτ E) (suc n)) b o) ∷ []) ∵
       use1 𝓛 (‵ (froom (elτ E) b o) ⊛ ‵ (froom (ty_array (elτ E) n) b (o + w))) (𝓛.laws.room_uncons (elτ E) n b o) $ split ! $
-      as_raw ! (elτ E) b o $ move ! (1 ∷ []) $ use1 𝓛 (‵ (Row (o + w) (replicate n None))) (empty_row n (o + w)) $ move ! (1 ∷ 0 ∷ []) $ fjoin ! $ done !
+      as_raw ! (elτ E) b o $ move ! (1 ∷ []) $ use1 𝓛 (‵ (Row (o + w) (replicate n None))) (empty_row n (o + w)) $
+      move ! (1 ∷ 0 ∷ []) $ fjoin ! $ done !
 
   pub row_room : (ps : List (Place E)) (o : ℕ) → ent 𝓤 (sem 𝓛 (Row o ps)) (H.room (ty_array (elτ E) (length ps)) b o)
   row_room [] o = 𝓛.laws.room_nil (elτ E) b o
   row_room (p ∷ ps) o =
       qed 𝓛 (‵ (Row o (p ∷ ps)) ∷ []) ∵ fsplit ! $ use1 𝓛 (‵ (place_own (R E) b o None)) (emptied p o) $
       use1 𝓛 (‵ (froom (elτ E) b o)) (𝓛.laws.raw-room (elτ E) b o) $ move ! (1 ∷ []) $
-      use1 𝓛 (‵ (froom (ty_array (elτ E) (length ps)) b (o + w))) (row_room ps (o + w)) $ move ! (1 ∷ 0 ∷ []) $ by ! (𝓛.laws.room_cons (elτ E) (length ps) b o)
+      use1 𝓛 (‵ (froom (ty_array (elτ E) (length ps)) b (o + w))) (row_room ps (o + w)) $ move ! (1 ∷ 0 ∷ []) $
+      by ! (𝓛.laws.room_cons (elτ E) (length ps) b o)
 
   pub seen : (κ : Lft) (ps : List (Place E)) (i o at : ℕ) → i < length ps → at ≡ i * w + o
       → ent 𝓤 (sem 𝓛 (row_lent (R E) b o ps κ)) (sem 𝓛 (place_lent (R E) b at (get_or ps i None) κ))
   seen κ [] i o at lt e = absurd (omega arith)
   seen κ (p ∷ ps) zero o at lt e =
       let same : o ≡ at = omega (arith, zero-mul w) in
-      qed 𝓛 (‵ (row_lent (R E) b o (p ∷ ps) κ) ∷ []) ∵ fsplit ! $ keep ! (0 ∷ []) $ rewrite ! 0 (λ (k : ℕ). ‵ (place_lent (R E) b k p κ)) same refl $ done !
+      qed 𝓛 (‵ (row_lent (R E) b o (p ∷ ps) κ) ∷ []) ∵ fsplit ! $ keep ! (0 ∷ []) $
+      rewrite ! 0 (λ (k : ℕ). ‵ (place_lent (R E) b k p κ)) same refl $ done !
   seen κ (p ∷ ps) (suc i) o at lt e =
       via 𝓤 (sem 𝓛 (row_lent (R E) b (o + w) ps κ)) (snd∗ 𝓤 (sem 𝓛 (place_lent (R E) b o p κ)) (sem 𝓛 (row_lent (R E) b (o + w) ps κ)))
       (seen κ ps i (o + w) at (omega arith) (omega (arith, suc-mul i w)))

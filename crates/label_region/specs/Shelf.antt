@@ -23,7 +23,8 @@ module _ {X : Type 0} where
   shelf cells back spare = record { cells = cells; back = back; spare = spare }
 
   abbrev pub shelf_code : Coded X → Coded (Shelf X)
-  shelf_code c = code_by (List X × (List ℕ × ℕ)) (coded× (coded_list c) (coded× (coded_list coded_ℕ) coded_ℕ)) (λ s. (s.cells, (s.back, s.spare))) (λ p. shelf p.0 p.1.0 p.1.1) (λ _. refl)
+  shelf_code c = code_by (List X × (List ℕ × ℕ)) (coded× (coded_list c) (coded× (coded_list coded_ℕ) coded_ℕ))
+      (λ s. (s.cells, (s.back, s.spare))) (λ p. shelf p.0 p.1.0 p.1.1) (λ _. refl)
 
   -- the label of a number, where it is live
   abbrev pub label_at : Shelf X → ℕ → Option X

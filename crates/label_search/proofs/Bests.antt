@@ -53,7 +53,11 @@ not_below : (v w u : ℤ) → int_lt v w ≡ false → v ≡ u → w ≤ℤ u
 not_below v w u h e = grind (arith, ints)
 
 one-more : {L : Type 0} (hs : List (Held L)) (r h : Held L) → In h (hs ++ r ∷ []) → In h hs ⊎ (h ≡ r)
-one-more hs r h has = elim (In-split h hs (r ∷ []) has) [ inl old ↦ inl old | inr new ↦ elim new [ inl e ↦ inr e | inr none ↦ absurd none ] ]
+one-more hs r h has = elim (In-split h hs (r ∷ []) has) [
+  | inl old ↦ inl old
+  | inr new ↦
+      elim new [ inl e ↦ inr e | inr none ↦ absurd none ]
+]
 
 Some-value : (x y : ℤ) → Some x ≡ Some y → x ≡ y
 Some-value x y e = let f : Option ℤ → ℤ = λ o. unwrap_or o x in ap f e
@@ -78,7 +82,8 @@ best-stays {L = L} close hs r b is before small =
       ];
       first = λ h has e. rw same (elim (one-more hs r h has) [
         | inl old ↦ is.first h old e
-        | inr new ↦ (let Q : Held L → Type 0 = λ x. IsNotAfter (place_list hs b.place) x.0 in subst Q (sym new) (before (place_list hs b.place, is.label) is.held))
+        | inr new ↦ (let Q : Held L → Type 0 = λ x. IsNotAfter (place_list hs b.place) x.0 in
+            subst Q (sym new) (before (place_list hs b.place, is.label) is.held))
       ]);
     }
 
@@ -104,7 +109,8 @@ best-new {L = L} close hs r v closes smaller =
       ]);
     }
 
-pub BestOf-step : {L : Type 0} (close : L → Option ℤ) (hs : List (Held L)) (r : Held L) (best : Option Best) (o : Option ℤ) → close r.1 ≡ o →
+pub BestOf-step : {L : Type 0} (close : L → Option ℤ) (hs : List (Held L)) (r : Held L) (best : Option Best) (o : Option ℤ) →
+    close r.1 ≡ o →
     ((h : Held L) → In h hs → IsNotAfter h.0 r.0) → BestOf close hs best → BestOf close (hs ++ r ∷ []) (better_of best o (length hs))
 BestOf-step {L = L} close hs r None None closes before best = λ h u has e.
     elim (one-more hs r h has) [
@@ -116,9 +122,11 @@ BestOf-step close hs r (Some b) None closes before best =
 BestOf-step close hs r None (Some v) closes before best =
     best-new close hs r v closes (λ h u has e. absurd (best h u has e))
 BestOf-step {L = L} close hs r (Some b) (Some v) closes before best =
-    elim (int_lt v b.value) as (λ t. int_lt v b.value ≡ t → BestOf close (hs ++ r ∷ []) (cond t (Some (record { place = length hs; value = v })) (Some b))) [
+    elim (int_lt v b.value) as (λ t. int_lt v b.value ≡ t →
+    BestOf close (hs ++ r ∷ []) (cond t (Some (record { place = length hs; value = v })) (Some b))) [
       | true ↦ λ less. best-new close hs r v closes (λ h u has e. let bound = best.at_least h u has e in below v b.value u less bound)
-      | false ↦ λ more. best-stays close hs r b best before (λ u e. let equal = Some-value v u (sym closes ∙ e) in not_below v b.value u more equal)
+      | false ↦ λ more. best-stays close hs r b best before (λ u e. let equal = Some-value v u (sym closes ∙ e) in
+          not_below v b.value u more equal)
     ] refl
 
 pub sorted-before : {L : Type 0} (gs : List (Held L)) (r : Held L) (rest : List (Held L)) → AreSorted (gs ++ r ∷ rest) →
@@ -133,7 +141,8 @@ sorted-before {L = L} (g ∷ gs) r rest sorted h has = elim has [
 pub best-all : {L : Type 0} (close : L → Option ℤ) (gs rest : List (Held L)) (ns : List (Node L)) (best : Option Best) →
     AreSorted (gs ++ rest) → held_labels rest ≡ labels_of ns → BestOf close gs best →
     BestOf close (gs ++ rest) (best_from close (length gs) best ns)
-best-all {L = L} close gs [] [] best sorted same is = let P : List (Held L) → Type 0 = λ l. BestOf close l best in subst P (sym (append-nil gs)) is
+best-all {L = L} close gs [] [] best sorted same is = let P : List (Held L) → Type 0 = λ l. BestOf close l best in
+    subst P (sym (append-nil gs)) is
 best-all close gs [] (n ∷ ns) best sorted same is = absurd (cc)
 best-all close gs (r ∷ rest) [] best sorted same is = absurd (cc)
 best-all {L = L} close gs (r ∷ rest) (n ∷ ns) best sorted same is =
@@ -144,7 +153,8 @@ best-all {L = L} close gs (r ∷ rest) (n ∷ ns) best sorted same is =
     let step = BestOf-step close gs r best (close r.1) refl (λ h has. sorted-before gs r rest sorted h has) is in
     let S : List (Held L) → Type 0 = λ l. AreSorted l in
     let all = best-all close (gs ++ r ∷ []) rest ns (better_of best (close r.1) (length gs)) (subst S (sym regroup) sorted) others step in
-    let P : List (Held L) → Type 0 = λ l. BestOf close l (best_from close (length (gs ++ r ∷ [])) (better_of best (close r.1) (length gs)) ns) in
+    let P : List (Held L) → Type 0 =
+    λ l. BestOf close l (best_from close (length (gs ++ r ∷ [])) (better_of best (close r.1) (length gs)) ns) in
     let Q : ℕ → Type 0 = λ k. BestOf close (gs ++ r ∷ rest) (best_from close k (better_of best (close r.1) (length gs)) ns) in
     let R : L → Type 0 = λ a. BestOf close (gs ++ r ∷ rest) (best_from close (length gs + 1) (better_of best (close a) (length gs)) ns) in
     subst R label (subst Q longer (subst P regroup all))

@@ -30,7 +30,8 @@ pub list_before-append : {L : Type 0} (hs gs : List (Held L)) (r : ℕ) → r �
 list_before-append hs gs zero h = refl
 list_before-append hs gs (suc i) h = place_list-append hs gs i (omega arith)
 
-pub helds_from-append : {L : Type 0} (hs : List (Held L)) (ns ms : List (Node L)) → helds_from hs (ns ++ ms) ≡ helds_from (helds_from hs ns) ms
+pub helds_from-append : {L : Type 0} (hs : List (Held L)) (ns ms : List (Node L)) →
+    helds_from hs (ns ++ ms) ≡ helds_from (helds_from hs ns) ms
 helds_from-append hs [] ms = refl
 helds_from-append hs (n ∷ ns) ms = helds_from-append (hs ++ held_of hs n ∷ []) ns ms
 
@@ -38,7 +39,8 @@ pub helds_from-level : {L : Type 0} (hs gs : List (Held L)) (ms : List (Node L))
     helds_from (hs ++ gs) ms ≡ (hs ++ gs) ++ helds_at hs ms
 helds_from-level hs gs [] h = sym (append-nil (hs ++ gs))
 helds_from-level {L = L} hs gs (n ∷ ns) h =
-    let same : held_of (hs ++ gs) n ≡ held_of hs n = ap (λ l. let p : Held L = (l ++ n.item ∷ [], n.label) in p) (list_before-append hs gs n.before h.0) in
+    let same : held_of (hs ++ gs) n ≡ held_of hs n =
+    ap (λ l. let p : Held L = (l ++ n.item ∷ [], n.label) in p) (list_before-append hs gs n.before h.0) in
     ap (λ x. helds_from ((hs ++ gs) ++ x ∷ []) ns) same ∙
     ap (λ l. helds_from l ns) (append_assoc hs gs (held_of hs n ∷ [])) ∙
     helds_from-level hs (gs ++ held_of hs n ∷ []) ns h.1 ∙
@@ -57,7 +59,8 @@ pub held_labels-append : {L : Type 0} (hs gs : List (Held L)) → held_labels (h
 held_labels-append [] gs = refl
 held_labels-append (h ∷ hs) gs = ap (λ l. h.1 ∷ l) (held_labels-append hs gs)
 
-pub held_labels-from : {L : Type 0} (hs : List (Held L)) (ns : List (Node L)) → held_labels (helds_from hs ns) ≡ held_labels hs ++ labels_of ns
+pub held_labels-from : {L : Type 0} (hs : List (Held L)) (ns : List (Node L)) →
+    held_labels (helds_from hs ns) ≡ held_labels hs ++ labels_of ns
 held_labels-from hs [] = sym (append-nil (held_labels hs))
 held_labels-from hs (n ∷ ns) =
     held_labels-from (hs ++ held_of hs n ∷ []) ns ∙ ap (λ l. l ++ labels_of ns) (held_labels-append hs (held_of hs n ∷ [])) ∙
@@ -68,7 +71,8 @@ abbrev pub next_from : {L : Type 0} → Labelling L → ℕ → ℕ → List L �
 next_from w item place [] = []
 next_from w item place (a ∷ rest) = node_of item (place + 1) (w.extend a item) ++ next_from w item (place + 1) rest
 
-pub next_nodes-is : {L : Type 0} (w : Labelling L) (item place : ℕ) (ns : List (Node L)) → next_nodes w item place ns ≡ next_from w item place (labels_of ns)
+pub next_nodes-is : {L : Type 0} (w : Labelling L) (item place : ℕ) (ns : List (Node L)) →
+    next_nodes w item place ns ≡ next_from w item place (labels_of ns)
 next_nodes-is w item place [] = refl
 next_nodes-is w item place (n ∷ ns) = ap (λ l. node_of item (place + 1) (w.extend n.label item) ++ l) (next_nodes-is w item (place + 1) ns)
 
@@ -78,34 +82,54 @@ pub record IsNodeOf {L : Type 0} (item before : ℕ) (a : L) (c : Node L) : Type
   pub item_is : c.item ≡ item
   pub before_is : c.before ≡ before
 
-pub In-node_of : {L : Type 0} (item before : ℕ) (o : Option L) (a : L) → o ≡ Some a → (c : Node L) × In c (node_of item before o) × IsNodeOf item before a c
+pub In-node_of : {L : Type 0} (item before : ℕ) (o : Option L) (a : L) → o ≡ Some a →
+    (c : Node L) × In c (node_of item before o) × IsNodeOf item before a c
 In-node_of item before None a e = absurd (cc)
 In-node_of {L = L} item before (Some b) a e =
     let f : Option L → L = λ o. unwrap_or o b in
     (record { label = b; item = item; before = before }, inl refl, record { label = ap f e; item_is = refl; before_is = refl })
 
-pub from-node_of : {L : Type 0} (item before : ℕ) (o : Option L) (c : Node L) → In c (node_of item before o) → (o ≡ Some c.label) × (c.item ≡ item) × (c.before ≡ before)
+pub from-node_of : {L : Type 0} (item before : ℕ) (o : Option L) (c : Node L) → In c (node_of item before o) →
+    (o ≡ Some c.label) × (c.item ≡ item) × (c.before ≡ before)
 from-node_of item before None c h = absurd h
 from-node_of {L = L} item before (Some a) c h =
-    elim h [ inl e ↦ (sym (ap (λ (n : Node L). Some n.label) e), ap (λ (n : Node L). n.item) e, ap (λ (n : Node L). n.before) e) | inr none ↦ absurd none ]
+    elim h [
+      | inl e ↦ (sym (ap (λ (n : Node L). Some n.label) e), ap (λ (n : Node L). n.item) e, ap (λ (n : Node L). n.before) e)
+      | inr
+          none ↦ absurd none
+    ]
 
 -- each extension of a held label is there
-pub In-next : {L : Type 0} (w : Labelling L) (item : ℕ) (gs rest : List (Held L)) (h : Held L) (b : L) → In h rest → w.extend h.1 item ≡ Some b →
-    (c : Node L) × In c (next_from w item (length gs) (held_labels rest)) × (c.label ≡ b) × (c.item ≡ item) × (list_before (gs ++ rest) c.before ≡ h.0)
+pub In-next : {L : Type 0} (w : Labelling L) (item : ℕ) (gs rest : List (Held L)) (h : Held L) (b : L) → In h rest →
+    w.extend h.1 item ≡ Some b →
+    (c : Node L) × In c (next_from w item (length gs) (held_labels rest)) × (c.label ≡ b) × (c.item ≡ item)
+    × (list_before (gs ++ rest) c.before ≡ h.0)
 In-next w item gs [] h b has e = absurd has
 In-next {L = L} w item gs (r ∷ rest) h b has e =
     elim has [
       | inl same ↦
           let made : w.extend r.1 item ≡ Some b = ap (λ (x : Held L). w.extend x.1 item) (sym same) ∙ e in
           let (c, there, is) = In-node_of item (length gs + 1) (w.extend r.1 item) b made in
-          let place : list_before (gs ++ r ∷ rest) (length gs + 1) ≡ h.0 = rw add-one (place_list-seam gs r rest ∙ ap (λ (x : Held L). x.0) (sym same)) in
-          (c, In-left c (node_of item (length gs + 1) (w.extend r.1 item)) (next_from w item (length gs + 1) (held_labels rest)) there, is.label, is.item_is, ap (list_before (gs ++ r ∷ rest)) is.before_is ∙ place)
+          let place : list_before (gs ++ r ∷ rest) (length gs + 1) ≡ h.0 =
+          rw add-one (place_list-seam gs r rest ∙ ap (λ (x : Held L). x.0) (sym same)) in (
+            c,
+            In-left c (node_of item (length gs + 1) (w.extend r.1 item)) (next_from w item (length gs + 1) (held_labels rest)) there,
+            is.label,
+            is.item_is,
+            ap (list_before (gs ++ r ∷ rest)) is.before_is ∙ place,
+          )
       | inr later ↦
           let (c, there, label, item_is, list) = In-next w item (gs ++ r ∷ []) rest h b later e in
           let longer : length (gs ++ r ∷ []) ≡ length gs + 1 = length-append {A = Held L} gs (r ∷ []) in
           let P : ℕ → Type 0 = λ k. In c (next_from w item k (held_labels rest)) in
-          let Q : List (Held L) → Type 0 = λ l. list_before l c.before ≡ h.0 in
-          (c, In-right c (node_of item (length gs + 1) (w.extend r.1 item)) (next_from w item (length gs + 1) (held_labels rest)) (subst P longer there), label, item_is, subst Q (append_assoc gs (r ∷ []) rest) list)
+          let Q : List (Held L) → Type 0 = λ l. list_before l c.before ≡ h.0 in (
+            c,
+            In-right c (node_of item (length gs + 1) (w.extend r.1 item)) (next_from w item (length gs + 1) (held_labels rest))
+                (subst P longer there),
+            label,
+            item_is,
+            subst Q (append_assoc gs (r ∷ []) rest) list,
+          )
     ]
 
 -- and each one that is there is one
@@ -126,16 +150,34 @@ from-next {L = L} w item gs (r ∷ rest) c has =
       | inl here ↦
           let (made, item_is, before_is) = from-node_of item (length gs + 1) (w.extend r.1 item) c here in
           let seam : list_before (gs ++ r ∷ rest) (length gs + 1) ≡ r.0 = rw add-one (place_list-seam gs r rest) in
-          record { from = r; there = inl refl; made = made; item_is = item_is; list = ap (list_before (gs ++ r ∷ rest)) before_is ∙ seam; above = omega arith; below = omega arith }
+          record {
+            from = r;
+            there = inl refl;
+            made = made;
+            item_is = item_is;
+            list = ap (list_before (gs ++ r ∷ rest)) before_is ∙ seam;
+            above = omega arith;
+            below = omega arith;
+          }
       | inr later ↦
           let longer : length (gs ++ r ∷ []) ≡ length gs + 1 = length-append {A = Held L} gs (r ∷ []) in
           let P : ℕ → Type 0 = λ k. In c (next_from w item k (held_labels rest)) in
           let n = from-next w item (gs ++ r ∷ []) rest c (subst P (sym longer) later) in
           let Q : List (Held L) → Type 0 = λ l. list_before l c.before ≡ n.from.0 in
-          record { from = n.from; there = inr n.there; made = n.made; item_is = n.item_is; list = subst Q (append_assoc gs (r ∷ []) rest) n.list; above = omega (arith, n.above); below = omega (arith, n.below) }
+          record {
+            from = n.from;
+            there = inr n.there;
+            made = n.made;
+            item_is = n.item_is;
+            list =
+                subst Q (append_assoc gs (r ∷ []) rest) n.list;
+            above = omega (arith, n.above);
+            below = omega (arith, n.below);
+          }
     ]
 
-pub AreRanked-append : {L : Type 0} (xs ys : List (Node L)) → AreRanked xs → AreRanked ys → ((x y : Node L) → In x xs → In y ys → x.before ≤ y.before) → AreRanked (xs ++ ys)
+pub AreRanked-append : {L : Type 0} (xs ys : List (Node L)) → AreRanked xs → AreRanked ys →
+    ((x y : Node L) → In x xs → In y ys → x.before ≤ y.before) → AreRanked (xs ++ ys)
 AreRanked-append [] ys rx ry h = ry
 AreRanked-append (x ∷ xs) ys rx ry h = (
   (λ m has. elim (In-split m xs ys has) [ inl l ↦ rx.0 m l | inr r ↦ h x m (inl refl) r ]),
@@ -157,15 +199,24 @@ AreRanked-insert {L = L} good value_at nodes n r early =
     elim (list_any (is_beaten_node good n.label) nodes) as (λ b. AreRanked (cond b nodes (filter p nodes ++ n ∷ []))) [
       | true ↦ r
       | false ↦ AreRanked-append (filter p nodes) (n ∷ []) (AreRanked-filter p nodes r) ((λ m none. absurd none), tt)
-          (λ x y hx hy. elim hy [ inl e ↦ (let before = early x (filter-In p x nodes hx) in let same = ap (λ (z : Node L). z.before) e in omega arith) | inr none ↦ absurd none ])
+          (λ x y hx hy. elim hy [
+            | inl e ↦ (let before = early x (filter-In p x nodes hx) in let same = ap (λ (z : Node L). z.before) e in
+                omega arith)
+            | inr none ↦ absurd none
+          ])
     ]
 
 pub inserted-ranked : {L : Type 0} (good : L → L → Bool) (value_at : L → ℤ) (new old : List (Node L)) → AreRanked new → AreRanked old →
     ((m n : Node L) → In m old → In n new → m.before ≤ n.before) → AreRanked (fold (insert_node good value_at) old new)
 inserted-ranked good value_at [] old rn ro h = ro
 inserted-ranked {L = L} good value_at (c ∷ cs) old rn ro h =
-    inserted-ranked good value_at cs (insert_node good value_at old c) rn.1 (AreRanked-insert good value_at old c ro (λ m hm. h m c hm (inl refl)))
-    (λ m x hm hx. elim (insert-from good value_at old c m hm) [ inl o ↦ h m x o (inr hx) | inr e ↦ (let first = rn.0 x hx in let same = ap (λ (z : Node L). z.before) e in omega arith) ])
+    inserted-ranked good value_at cs (insert_node good value_at old c) rn.1
+    (AreRanked-insert good value_at old c ro (λ m hm. h m c hm (inl refl)))
+    (λ m x hm hx. elim (insert-from good value_at old c m hm) [
+      | inl o ↦ h m x o (inr hx)
+      | inr e ↦
+          (let first = rn.0 x hx in let same = ap (λ (z : Node L). z.before) e in omega arith)
+    ])
 
 pub inserted-from : {L : Type 0} (good : L → L → Bool) (value_at : L → ℤ) (new old : List (Node L)) (m : Node L) →
     In m (fold (insert_node good value_at) old new) → In m old ⊎ In m new

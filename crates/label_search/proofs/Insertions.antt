@@ -78,7 +78,12 @@ insert-new {L = L} w good value_at k nodes n early =
     elim (list_any (is_beaten_node good n.label) nodes) as (λ b. list_any (is_beaten_node good n.label) nodes ≡ b →
     HasBetter good value_at (cond b nodes (filter (stays_beside good value_at n.label) nodes ++ n ∷ [])) n) [
       | true ↦ λ is. let (m, has, holds) = list_any-In (is_beaten_node good n.label) nodes is in (m, has, (holds, inr (early m has)))
-      | false ↦ λ is. (n, In-right n (filter (stays_beside good value_at n.label) nodes) (n ∷ []) (inl refl), (k.same n.label, inr (omega arith)))
+      | false ↦ λ is. (
+        n,
+        In-right n (filter (stays_beside good value_at n.label) nodes) (n ∷ [])
+            (inl refl),
+        (k.same n.label, inr (omega arith)),
+      )
     ] refl
 
 pub insert-old : {L : Type 0} (w : Labelling L) (good : L → L → Bool) (value_at : L → ℤ) → IsKept w (GoodAs good) →
@@ -89,10 +94,21 @@ insert-old {L = L} w good value_at k nodes n m has =
       | true ↦ (m, has, (k.same m.label, inr (omega arith)))
       | false ↦
           elim (good n.label m.label) as (λ b. good n.label m.label ≡ b → HasBetter good value_at (stay ++ n ∷ []) m) [
-            | false ↦ λ is. (m, In-left m stay (n ∷ []) (In-filter (stays_beside good value_at n.label) m nodes has (rw is refl)), (k.same m.label, inr (omega arith)))
+            | false ↦ λ is. (
+              m,
+              In-left m stay (n ∷ [])
+                  (In-filter (stays_beside good value_at n.label) m nodes has (rw is refl)),
+              (k.same m.label, inr (omega arith)),
+            )
             | true ↦ λ is.
-                elim (int_lt (value_at n.label) (value_at m.label)) as (λ b. int_lt (value_at n.label) (value_at m.label) ≡ b → HasBetter good value_at (stay ++ n ∷ []) m) [
-                  | false ↦ λ less. (m, In-left m stay (n ∷ []) (In-filter (stays_beside good value_at n.label) m nodes has (rw (is, less) refl)), (k.same m.label, inr (omega arith)))
+                elim (int_lt (value_at n.label) (value_at m.label)) as (λ b. int_lt (value_at n.label) (value_at m.label) ≡ b →
+                HasBetter good value_at (stay ++ n ∷ []) m) [
+                  | false ↦ λ less. (
+                    m,
+                    In-left m stay (n ∷ [])
+                        (In-filter (stays_beside good value_at n.label) m nodes has (rw (is, less) refl)),
+                    (k.same m.label, inr (omega arith)),
+                  )
                   | true ↦ λ less. (n, In-right n stay (n ∷ []) (inl refl), (is, inl (grind (arith, ints))))
                 ] refl
           ] refl
@@ -101,7 +117,8 @@ insert-old {L = L} w good value_at k nodes n m has =
 pub insert-from : {L : Type 0} (good : L → L → Bool) (value_at : L → ℤ) (nodes : List (Node L)) (n m : Node L) →
     In m (insert_node good value_at nodes n) → In m nodes ⊎ (m ≡ n)
 insert-from good value_at nodes n m h =
-    elim (list_any (is_beaten_node good n.label) nodes) as (λ b. In m (cond b nodes (filter (stays_beside good value_at n.label) nodes ++ n ∷ [])) → In m nodes ⊎ (m ≡ n)) [
+    elim (list_any (is_beaten_node good n.label) nodes) as
+    (λ b. In m (cond b nodes (filter (stays_beside good value_at n.label) nodes ++ n ∷ [])) → In m nodes ⊎ (m ≡ n)) [
       | true ↦ λ k. inl k
       | false ↦ λ k. elim (In-split m (filter (stays_beside good value_at n.label) nodes) (n ∷ []) k) [
         | inl l ↦ inl (filter-In (stays_beside good value_at n.label) m nodes l)
@@ -125,13 +142,18 @@ inserted-covers {L = L} w good value_at close k v (c ∷ cs) old ranked early n 
     let step : List (Node L) = insert_node good value_at old c in
     let rest : (x : Node L) → In x step ⊎ In x cs → HasBetter good value_at (fold (insert_node good value_at) step cs) x =
     inserted-covers w good value_at close k v cs step ranked.1
-    (λ m x hm hx. elim (insert-from good value_at old c m hm) [ inl o ↦ early m x o (inr hx) | inr e ↦ (let first = ranked.0 x hx in let same = ap (λ (y : Node L). y.before) e in omega arith) ]) in
+    (λ m x hm hx. elim (insert-from good value_at old c m hm) [
+      | inl o ↦ early m x o (inr hx)
+      | inr e ↦
+          (let first = ranked.0 x hx in let same = ap (λ (y : Node L). y.before) e in omega arith)
+    ]) in
     let through : HasBetter good value_at step n → HasBetter good value_at (fold (insert_node good value_at) step cs) n =
     λ (m, has, better). (let (x, there, best) = rest m (inl has) in (x, there, Better-trans w good value_at close k v x m n best better)) in
     elim h [
       | inl o ↦ through (insert-old w good value_at k old c n o)
       | inr r ↦ elim r [
-        | inl e ↦ through (let P : Node L → Type 0 = λ y. HasBetter good value_at step y in subst P (sym e) (insert-new w good value_at k old c (λ m hm. early m c hm (inl refl))))
+        | inl e ↦ through (let P : Node L → Type 0 = λ y. HasBetter good value_at step y in
+            subst P (sym e) (insert-new w good value_at k old c (λ m hm. early m c hm (inl refl))))
         | inr later ↦ rest n (inr later)
       ]
     ]

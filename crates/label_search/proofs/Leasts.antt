@@ -17,7 +17,8 @@ use Rattle.label_search.proofs.Bests.{BestOf, best-all}
 
 length-helds : {L : Type 0} (hs : List (Held L)) (ns : List (Node L)) → length (helds_from hs ns) ≡ length hs + length ns
 length-helds hs [] = omega arith
-length-helds {L = L} hs (n ∷ ns) = omega (arith, length-helds (hs ++ held_of hs n ∷ []) ns, length-append {A = Held L} hs (held_of hs n ∷ []))
+length-helds {L = L} hs (n ∷ ns) =
+    omega (arith, length-helds (hs ++ held_of hs n ∷ []) ns, length-append {A = Held L} hs (held_of hs n ∷ []))
 
 AllBack-append : {L : Type 0} (k : ℕ) (xs ys : List (Node L)) → AllBack k xs → AllBack (k + length xs) ys → AllBack k (xs ++ ys)
 AllBack-append k [] ys h i = let P : ℕ → Type 0 = λ x. AllBack x ys in let e : k + 0 ≡ k = omega arith in subst P e i
@@ -27,9 +28,11 @@ AllBack-append k (x ∷ xs) ys h i =
 
 AllBack-early : {L : Type 0} (k m : ℕ) (xs : List (Node L)) → m ≤ k → ((x : Node L) → In x xs → x.before ≤ m) → AllBack k xs
 AllBack-early k m [] h e = tt
-AllBack-early k m (x ∷ xs) h e = ((let first = e x (inl refl) in omega arith), AllBack-early (k + 1) m xs (omega arith) (λ y has. e y (inr has)))
+AllBack-early k m (x ∷ xs) h e =
+    ((let first = e x (inl refl) in omega arith), AllBack-early (k + 1) m xs (omega arith) (λ y has. e y (inr has)))
 
-pub nodes_below-back : {L : Type 0} (w : Labelling L) (good : L → L → Bool) (value_at : L → ℤ) (q : ℕ) → AllBack 0 (nodes_below w good value_at q)
+pub nodes_below-back : {L : Type 0} (w : Labelling L) (good : L → L → Bool) (value_at : L → ℤ) (q : ℕ) →
+    AllBack 0 (nodes_below w good value_at q)
 nodes_below-back w good value_at zero = tt
 nodes_below-back {L = L} w good value_at (suc q) =
     let none : List (Held L) = [] in
@@ -78,7 +81,8 @@ answers {L = L} w good value_at close count last k v st =
     (best-all close none (helds_from none nodes) nodes None r.sorted (held_labels-from none nodes) (λ h u has e. absurd has))
 
 pub from-nodes : {L : Type 0} (w : Labelling L) (good : L → L → Bool) (value_at : L → ℤ) (close : L → Option ℤ) (count : ℕ) (last : L → ℕ) →
-    IsKept w (GoodAs good) → IsValued w (GoodAs good) value_at close → IsStepwise w count last → (nodes : List (Node L)) (best answer : Option Best) →
+    IsKept w (GoodAs good) → IsValued w (GoodAs good) value_at close → IsStepwise w count last →
+    (nodes : List (Node L)) (best answer : Option Best) →
     nodes ≡ nodes_below w good value_at count → best ≡ best_from close 0 None nodes → best ≡ answer → Answers w close nodes answer
 from-nodes {L = L} w good value_at close count last k v st nodes best answer is found same =
     let P : List (Node L) → Type 0 = λ l. Answers w close l (best_from close 0 None l) in
@@ -87,12 +91,17 @@ from-nodes {L = L} w good value_at close count last k v st nodes best answer is 
 
 pub back-nodes : {L : Type 0} (w : Labelling L) (good : L → L → Bool) (value_at : L → ℤ) (count : ℕ) (nodes : List (Node L)) →
     nodes ≡ nodes_below w good value_at count → AllBack 0 nodes
-back-nodes {L = L} w good value_at count nodes is = let P : List (Node L) → Type 0 = λ l. AllBack 0 l in subst P (sym is) (nodes_below-back w good value_at count)
+back-nodes {L = L} w good value_at count nodes is = let P : List (Node L) → Type 0 = λ l. AllBack 0 l in
+    subst P (sym is) (nodes_below-back w good value_at count)
 
 -- the same for the labels that may close within a limit
-pub from-limited-nodes : {L : Type 0} (w : Labelling L) (good : L → L → Bool) (value_at : L → ℤ) (close : L → Option ℤ) (count : ℕ) (last : L → ℕ) (sound : L → Type 0) (may_close : ℤ → L → Bool) (limit : ℤ) →
-    IsKept w (GoodAs good) → IsValued w (GoodAs good) value_at close → IsStepwise w count last → HidesNone w good close sound may_close → (nodes : List (Node L)) (best answer : Option Best) →
-    nodes ≡ nodes_below (limited w (may_close limit)) good value_at count → best ≡ best_from close 0 None nodes → best ≡ answer → Answers (limited w (may_close limit)) close nodes answer
+pub from-limited-nodes : {L : Type 0} (w : Labelling L) (good : L → L → Bool) (value_at : L → ℤ) (close : L → Option ℤ) (count : ℕ)
+    (last : L → ℕ) (sound : L → Type 0) (may_close : ℤ → L → Bool) (limit : ℤ) →
+    IsKept w (GoodAs good) → IsValued w (GoodAs good) value_at close → IsStepwise w count last → HidesNone w good close sound may_close →
+    (nodes : List (Node L)) (best answer : Option Best) →
+    nodes ≡ nodes_below (limited w (may_close limit)) good value_at count → best ≡ best_from close 0 None nodes → best ≡ answer →
+    Answers (limited w (may_close limit)) close nodes answer
 from-limited-nodes w good value_at close count last sound may_close limit k v st h =
-    from-nodes (limited w (may_close limit)) good value_at close count last (limited-kept w (GoodAs good) (may_close limit) (h.ordered limit) k) (limited-valued w (GoodAs good) value_at close (may_close limit) v)
+    from-nodes (limited w (may_close limit)) good value_at close count last
+    (limited-kept w (GoodAs good) (may_close limit) (h.ordered limit) k) (limited-valued w (GoodAs good) value_at close (may_close limit) v)
     (limited-stepwise w count last (may_close limit) st)

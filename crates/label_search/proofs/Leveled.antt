@@ -27,14 +27,16 @@ next_nodes-join {L = L} w item place (x ∷ xs) ys =
     sym (append_assoc first (next_nodes w item (place + 1) xs) (next_nodes w item (place + 1 + length xs) ys)) ∙
     ap (λ k. (first ++ next_nodes w item (place + 1) xs) ++ next_nodes w item k ys) there
 
-pub next_nodes-none : {L : Type 0} (w : Labelling L) (item place : ℕ) (xs : List (Node L)) → AllSound (λ a. w.extend a item ≡ None) xs → next_nodes w item place xs ≡ []
+pub next_nodes-none : {L : Type 0} (w : Labelling L) (item place : ℕ) (xs : List (Node L)) → AllSound (λ a. w.extend a item ≡ None) xs →
+    next_nodes w item place xs ≡ []
 next_nodes-none w item place [] h = refl
 next_nodes-none {L = L} w item place (x ∷ xs) h =
     ap (λ (o : Option L). node_of item (place + 1) o ++ next_nodes w item (place + 1) xs) h.0 ∙ next_nodes-none w item (place + 1) xs h.1
 
 -- what is taken up to an end
 take-between : {A : Type 0} (xs : List A) (from end : ℕ) → from ≤ end → take end xs ≡ take from xs ++ take (end - from) (drop from xs)
-take-between [] from end h = take_all end [] (omega arith) ∙ sym (take_all (end - from) [] (omega arith)) ∙ ap (λ l. take (end - from) l) (sym (drop_all from [] (omega arith))) ∙
+take-between [] from end h = take_all end [] (omega arith) ∙ sym (take_all (end - from) [] (omega arith))
+    ∙ ap (λ l. take (end - from) l) (sym (drop_all from [] (omega arith))) ∙
     ap (λ l. l ++ take (end - from) (drop from [])) (sym (take_all from [] (omega arith)))
 take-between (x ∷ xs) zero end h = let whole : end ≡ end - 0 = omega arith in ap (λ k. take k (x ∷ xs)) whole
 take-between (x ∷ xs) (suc from) zero h = absurd (omega arith)
@@ -57,7 +59,8 @@ level-skipped {L = L} w test good value_at nodes item from end order none =
     let nothing : (place : ℕ) → next_nodes v item place part ≡ [] = λ place. next_nodes-none v item place part none in
     let same : next_nodes v item 0 (take end nodes) ≡ next_nodes v item 0 (take from nodes) =
     ap (next_nodes v item 0) whole ∙ next_nodes-join v item 0 (take from nodes) part ∙
-    ap (λ l. next_nodes v item 0 (take from nodes) ++ l) (nothing (0 + length (take from nodes))) ∙ append-nil (next_nodes v item 0 (take from nodes)) in
+    ap (λ l. next_nodes v item 0 (take from nodes) ++ l) (nothing (0 + length (take from nodes)))
+    ∙ append-nil (next_nodes v item 0 (take from nodes)) in
     ap (λ l. fold (insert_node good value_at) [] (node_of item 0 (v.start item) ++ l)) (sym same)
 
 pub one-skipped : {L : Type 0} (w : Labelling L) (test : L → Bool) (good : L → L → Bool) (value_at : L → ℤ)
@@ -69,27 +72,35 @@ one-skipped w test good value_at nodes item place none =
     level-skipped w test good value_at nodes item place (place + 1) (omega arith) (subst P one none)
 
 -- nothing goes on from a level that ends with an item that nothing follows
-pub ended-follows : {L : Type 0} (w : Labelling L) (test : L → Bool) (value_at : L → ℤ) (sound : L → Type 0) (last : L → ℕ) (item : ℕ) (l : Level) (ns : List (Node L)) →
+pub ended-follows : {L : Type 0} (w : Labelling L) (test : L → Bool) (value_at : L → ℤ) (sound : L → Type 0) (last : L → ℕ) (item : ℕ)
+    (l : Level) (ns : List (Node L)) →
     AllSound (IsOfLevel sound last value_at l) ns → NoneFollows w sound last test l.item item → AreEnded w test item ns
 ended-follows w test value_at sound last item l ns all none =
-    AllSound-map (IsOfLevel sound last value_at l) (λ a. passed test (w.extend a item) ≡ None) (λ a (fits, ends, from). none a fits ends) ns all
+    AllSound-map (IsOfLevel sound last value_at l) (λ a. passed test (w.extend a item) ≡ None)
+    (λ a (fits, ends, from). none a fits ends) ns all
 
 -- nor from one whose values are above the most
-pub ended-above : {L : Type 0} (w : Labelling L) (test : L → Bool) (value_at : L → ℤ) (sound : L → Type 0) (last : L → ℕ) (item : ℕ) (most : ℤ) (l : Level) (ns : List (Node L)) →
-    AllSound (IsOfLevel sound last value_at l) ns → most <ℤ l.least → NoneFollowsAbove w sound last value_at test l.item item most → AreEnded w test item ns
+pub ended-above : {L : Type 0} (w : Labelling L) (test : L → Bool) (value_at : L → ℤ) (sound : L → Type 0) (last : L → ℕ) (item : ℕ)
+    (most : ℤ) (l : Level) (ns : List (Node L)) →
+    AllSound (IsOfLevel sound last value_at l) ns → most <ℤ l.least → NoneFollowsAbove w sound last value_at test l.item item most →
+    AreEnded w test item ns
 ended-above w test value_at sound last item most l ns all high none =
     AllSound-map (IsOfLevel sound last value_at l) (λ a. passed test (w.extend a item) ≡ None)
     (λ a (fits, ends, from). let low = from.0 in none a fits ends (omega (arith, ints), from.1)) ns all
 
-pub ended-reach : {L : Type 0} (w : Labelling L) (test : L → Bool) (value_at : L → ℤ) (sound : L → Type 0) (last : L → ℕ) (item : ℕ) (reach : ℤ) (l : Level) (ns : List (Node L)) →
-    AllSound (IsOfLevel sound last value_at l) ns → reach <ℤ l.least → NoneReachesAbove w sound value_at test item reach → AreEnded w test item ns
+pub ended-reach : {L : Type 0} (w : Labelling L) (test : L → Bool) (value_at : L → ℤ) (sound : L → Type 0) (last : L → ℕ) (item : ℕ)
+    (reach : ℤ) (l : Level) (ns : List (Node L)) →
+    AllSound (IsOfLevel sound last value_at l) ns → reach <ℤ l.least → NoneReachesAbove w sound value_at test item reach →
+    AreEnded w test item ns
 ended-reach w test value_at sound last item reach l ns all high none =
     AllSound-map (IsOfLevel sound last value_at l) (λ a. passed test (w.extend a item) ≡ None)
     (λ a (fits, ends, from). let low = from.0 in none a fits (omega (arith, ints), from.1)) ns all
 
 -- those of a level that are above the most do not go on
-pub level-most : {L : Type 0} (w : Labelling L) (test : L → Bool) (value_at : L → ℤ) (sound : L → Type 0) (last : L → ℕ) (item : ℕ) (most : ℤ) (l : Level) (ns : List (Node L)) →
-    AllSound (IsOfLevel sound last value_at l) ns → NoneFollowsAbove w sound last value_at test l.item item most → AreUnfollowed w value_at test item most ns
+pub level-most : {L : Type 0} (w : Labelling L) (test : L → Bool) (value_at : L → ℤ) (sound : L → Type 0) (last : L → ℕ) (item : ℕ)
+    (most : ℤ) (l : Level) (ns : List (Node L)) →
+    AllSound (IsOfLevel sound last value_at l) ns → NoneFollowsAbove w sound last value_at test l.item item most →
+    AreUnfollowed w value_at test item most ns
 level-most w test value_at sound last item most l ns all none =
     AllSound-map (IsOfLevel sound last value_at l) (λ a. IsAbove most (value_at a) → passed test (w.extend a item) ≡ None)
     (λ a (fits, ends, from) above. none a fits ends above) ns all
@@ -111,7 +122,8 @@ AllSound-both p q [] h k = tt
 AllSound-both p q (n ∷ ns) h k = ((h.0, k.0), AllSound-both p q ns h.1 k.1)
 
 -- an item that nothing reaches has the start alone
-pub level-unreached : {L : Type 0} (w : Labelling L) (test : L → Bool) (good : L → L → Bool) (value_at : L → ℤ) (nodes : List (Node L)) (item : ℕ) → AreEnded w test item nodes →
+pub level-unreached : {L : Type 0} (w : Labelling L) (test : L → Bool) (good : L → L → Bool) (value_at : L → ℤ) (nodes : List (Node L))
+    (item : ℕ) → AreEnded w test item nodes →
     fold (insert_node good value_at) [] (node_of item 0 ((limited w test).start item)) ≡ level_of (limited w test) good value_at nodes item
 level-unreached {L = L} w test good value_at nodes item none =
     let v : Labelling L = limited w test in
@@ -122,8 +134,10 @@ pub ended-all : {L : Type 0} (w : Labelling L) (test : L → Bool) (sound : L �
     AllSound sound nodes → NoneReaches w sound test item → AreEnded w test item nodes
 ended-all w test sound item nodes fits none = AllSound-map sound (λ a. passed test (w.extend a item) ≡ None) (λ a f. none a f) nodes fits
 
-pub ended-least : {L : Type 0} (w : Labelling L) (test : L → Bool) (value_at : L → ℤ) (sound : L → Type 0) (item : ℕ) (least reach : ℤ) (nodes : List (Node L)) →
-    AllSound sound nodes → AllAtLeast value_at least nodes → reach <ℤ least → NoneReachesAbove w sound value_at test item reach → AreEnded w test item nodes
+pub ended-least : {L : Type 0} (w : Labelling L) (test : L → Bool) (value_at : L → ℤ) (sound : L → Type 0) (item : ℕ)
+    (least reach : ℤ) (nodes : List (Node L)) →
+    AllSound sound nodes → AllAtLeast value_at least nodes → reach <ℤ least → NoneReachesAbove w sound value_at test item reach →
+    AreEnded w test item nodes
 ended-least w test value_at sound item least reach nodes fits low high none =
     AllSound-map (λ a. sound a × IsFrom least (value_at a)) (λ a. passed test (w.extend a item) ≡ None)
     (λ a (f, from). let floor = from.0 in none a f (omega (arith, ints), from.1)) nodes
@@ -134,7 +148,8 @@ pub level-starts : {L : Type 0} (w : Labelling L) (good : L → L → Bool) (val
     fold (insert_node good value_at) [] (node_of item 0 (w.start item)) ≡ level_so_far w good value_at nodes item 0
 level-starts w good value_at nodes item = ap (fold (insert_node good value_at) []) (sym (append-nil (node_of item 0 (w.start item))))
 
-pub level-ends : {L : Type 0} (w : Labelling L) (good : L → L → Bool) (value_at : L → ℤ) (nodes : List (Node L)) (item from : ℕ) → length (drop from nodes) ≡ 0 →
+pub level-ends : {L : Type 0} (w : Labelling L) (good : L → L → Bool) (value_at : L → ℤ) (nodes : List (Node L)) (item from : ℕ) →
+    length (drop from nodes) ≡ 0 →
     level_so_far w good value_at nodes item from ≡ level_of w good value_at nodes item
 level-ends {L = L} w good value_at nodes item from none =
     let count : length (drop from nodes) ≡ length nodes - from = length-drop from nodes in
@@ -142,35 +157,42 @@ level-ends {L = L} w good value_at nodes item from none =
     ap (λ l. fold (insert_node good value_at) [] (node_of item 0 (w.start item) ++ next_nodes w item 0 l)) whole
 
 -- the next level, and those after it
-pub record IsNextLevel {L : Type 0} (sound : L → Type 0) (last : L → ℕ) (value_at : L → ℤ) (nodes : List (Node L)) (levels : List Level) (from i : ℕ) (l : Level) : Type 0 where
+pub record IsNextLevel {L : Type 0} (sound : L → Type 0) (last : L → ℕ) (value_at : L → ℤ) (nodes : List (Node L)) (levels : List Level)
+    (from i : ℕ) (l : Level) : Type 0 where
   pub order : from ≤ l.end
   pub there : l.end ≤ length nodes
   pub level : AllSound (IsOfLevel sound last value_at l) (take (l.end - from) (drop from nodes))
   pub rest : AreLevels sound last value_at l.end (drop l.end nodes) (drop (i + 1) levels)
 
-pub levels-step : {L : Type 0} (sound : L → Type 0) (last : L → ℕ) (value_at : L → ℤ) (nodes : List (Node L)) (levels : List Level) (from i : ℕ) (l : Level) →
+pub levels-step : {L : Type 0} (sound : L → Type 0) (last : L → ℕ) (value_at : L → ℤ) (nodes : List (Node L)) (levels : List Level)
+    (from i : ℕ) (l : Level) →
     i < length levels → l ≡ get_or levels i l → from ≤ length nodes →
     AreLevels sound last value_at from (drop from nodes) (drop i levels) → IsNextLevel sound last value_at nodes levels from i l
 levels-step {L = L} sound last value_at nodes levels from i l below is inside all =
     let P : List Level → Type 0 = λ ls. AreLevels sound last value_at from (drop from nodes) ls in
-    let here : drop i levels ≡ l ∷ drop (i + 1) levels = drop_more levels i l below ∙ ap (λ (x : Level). x ∷ drop (i + 1) levels) (sym is) in
+    let here : drop i levels ≡ l ∷ drop (i + 1) levels =
+    drop_more levels i l below ∙ ap (λ (x : Level). x ∷ drop (i + 1) levels) (sym is) in
     let (order, there, level, rest) = subst P here all in
     let count : length (drop from nodes) ≡ length nodes - from = length-drop from nodes in
     let end : from + (l.end - from) ≡ l.end = omega arith in
-    let past : drop (l.end - from) (drop from nodes) ≡ drop l.end nodes = drop-drop (l.end - from) from nodes ∙ ap (λ k. drop k nodes) end in
+    let past : drop (l.end - from) (drop from nodes) ≡ drop l.end nodes =
+    drop-drop (l.end - from) from nodes ∙ ap (λ k. drop k nodes) end in
     let Q : List (Node L) → Type 0 = λ ns. AreLevels sound last value_at l.end ns (drop (i + 1) levels) in
     record { order = order; there = omega arith; level = level; rest = subst Q past rest }
 
 -- no levels are left
-pub levels-end : {L : Type 0} (sound : L → Type 0) (last : L → ℕ) (value_at : L → ℤ) (nodes : List (Node L)) (levels : List Level) (from i : ℕ) → length levels ≤ i →
+pub levels-end : {L : Type 0} (sound : L → Type 0) (last : L → ℕ) (value_at : L → ℤ) (nodes : List (Node L)) (levels : List Level)
+    (from i : ℕ) → length levels ≤ i →
     AreLevels sound last value_at from (drop from nodes) (drop i levels) → length (drop from nodes) ≡ 0
 levels-end {L = L} sound last value_at nodes levels from i past all =
     let P : List Level → Type 0 = λ ls. AreLevels sound last value_at from (drop from nodes) ls in
     subst P (drop_all i levels past) all
 
 -- one level more
-pub levels-more : {L : Type 0} (sound : L → Type 0) (last : L → ℕ) (value_at : L → ℤ) (place : ℕ) (nodes new : List (Node L)) (levels : List Level) (l : Level) →
-    AreLevels sound last value_at place nodes levels → l.end ≡ place + length nodes + length new → AllSound (IsOfLevel sound last value_at l) new →
+pub levels-more : {L : Type 0} (sound : L → Type 0) (last : L → ℕ) (value_at : L → ℤ) (place : ℕ) (nodes new : List (Node L))
+    (levels : List Level) (l : Level) →
+    AreLevels sound last value_at place nodes levels → l.end ≡ place + length nodes + length new →
+    AllSound (IsOfLevel sound last value_at l) new →
     AreLevels sound last value_at place (nodes ++ new) (levels ++ l ∷ [])
 levels-more {L = L} sound last value_at place [] new [] l none end all =
     let k : l.end - place ≡ length new = omega arith in
@@ -196,15 +218,18 @@ levels-more {L = L} sound last value_at place nodes new (m ∷ ms) l (order, ins
     )
 
 -- the labels of a level that was made end with its item
-ends-next : {L : Type 0} (w : Labelling L) (sound : L → Type 0) (count : ℕ) (last : L → ℕ) → IsSafe w sound → IsStepwise w count last → (item place : ℕ) (ns : List (Node L)) →
+ends-next : {L : Type 0} (w : Labelling L) (sound : L → Type 0) (count : ℕ) (last : L → ℕ) → IsSafe w sound → IsStepwise w count last →
+    (item place : ℕ) (ns : List (Node L)) →
     AllSound sound ns → AllSound (EndsAt sound last item) (next_nodes w item place ns)
 ends-next w sound count last s st item place [] h = tt
 ends-next {L = L} w sound count last s st item place (n ∷ ns) h =
     AllSound-append (EndsAt sound last item) (node_of item (place + 1) (w.extend n.label item)) (next_nodes w item (place + 1) ns)
-    (AllSound-node_of (EndsAt sound last item) item (place + 1) (w.extend n.label item) (λ a e. (s.steps n.label a item h.0 e, (st.steps n.label a item e).2)))
+    (AllSound-node_of (EndsAt sound last item) item (place + 1) (w.extend n.label item)
+    (λ a e. (s.steps n.label a item h.0 e, (st.steps n.label a item e).2)))
     (ends-next w sound count last s st item (place + 1) ns h.1)
 
-pub made-ends : {L : Type 0} (w : Labelling L) (good : L → L → Bool) (value_at : L → ℤ) (sound : L → Type 0) (count : ℕ) (last : L → ℕ) → IsSafe w sound → IsStepwise w count last →
+pub made-ends : {L : Type 0} (w : Labelling L) (good : L → L → Bool) (value_at : L → ℤ) (sound : L → Type 0) (count : ℕ) (last : L → ℕ) →
+    IsSafe w sound → IsStepwise w count last →
     (nodes : List (Node L)) (item : ℕ) → AllSound sound nodes → AllSound (EndsAt sound last item) (level_of w good value_at nodes item)
 made-ends {L = L} w good value_at sound count last s st nodes item h =
     AllSound-fold (EndsAt sound last item) good value_at (node_of item 0 (w.start item) ++ next_nodes w item 0 nodes) [] tt
@@ -219,7 +244,8 @@ of-level sound last value_at l [] h k = tt
 of-level sound last value_at l (n ∷ ns) h k = ((h.0.0, h.0.1, k.0), of-level sound last value_at l ns h.1 k.1)
 
 -- the levels with one that was made put behind them
-pub levels-kept : {L : Type 0} (sound : L → Type 0) (last : L → ℕ) (value_at : L → ℤ) (nodes new nodes' : List (Node L)) (levels levels' : List Level) (l : Level) →
+pub levels-kept : {L : Type 0} (sound : L → Type 0) (last : L → ℕ) (value_at : L → ℤ) (nodes new nodes' : List (Node L))
+    (levels levels' : List Level) (l : Level) →
     nodes' ≡ nodes ++ new → levels' ≡ levels ++ l ∷ [] → l.end ≡ length nodes' → AreLevels sound last value_at 0 nodes levels →
     AllSound (EndsAt sound last l.item) new → AllAtLeast value_at l.least new → AreLevels sound last value_at 0 nodes' levels'
 levels-kept {L = L} sound last value_at nodes new nodes' levels levels' l nodes-are levels-are end all ends least =
@@ -227,7 +253,9 @@ levels-kept {L = L} sound last value_at nodes new nodes' levels levels' l nodes-
     let count : length nodes' ≡ length (nodes ++ new) = ap length nodes-are in
     let P : List (Node L) → Type 0 = λ ns. AreLevels sound last value_at 0 ns (levels ++ l ∷ []) in
     let Q : List Level → Type 0 = λ ls. AreLevels sound last value_at 0 nodes' ls in
-    subst Q (sym levels-are) (subst P (sym nodes-are) (levels-more sound last value_at 0 nodes new levels l all (omega arith) (of-level sound last value_at l new ends least)))
+    subst Q (sym levels-are)
+    (subst P (sym nodes-are)
+    (levels-more sound last value_at 0 nodes new levels l all (omega arith) (of-level sound last value_at l new ends least)))
 
 -- a least value of all nodes, and of more
 pub least-more : {L : Type 0} (value_at : L → ℤ) (nodes new nodes' : List (Node L)) (before made least : ℤ) → nodes' ≡ nodes ++ new →
@@ -235,8 +263,10 @@ pub least-more : {L : Type 0} (value_at : L → ℤ) (nodes new nodes' : List (N
 least-more {L = L} value_at nodes new nodes' before made least nodes-are all more low lower =
     let P : List (Node L) → Type 0 = λ ns. AllAtLeast value_at least ns in
     subst P (sym nodes-are) (AllSound-append (λ a. IsFrom least (value_at a)) nodes new
-    (AllSound-map (λ a. IsFrom before (value_at a)) (λ a. IsFrom least (value_at a)) (λ a (from, held). (omega (arith, ints, low, from), held)) nodes all)
-    (AllSound-map (λ a. IsFrom made (value_at a)) (λ a. IsFrom least (value_at a)) (λ a (from, held). (omega (arith, ints, lower, from), held)) new more))
+    (AllSound-map (λ a. IsFrom before (value_at a)) (λ a. IsFrom least (value_at a))
+    (λ a (from, held). (omega (arith, ints, low, from), held)) nodes all)
+    (AllSound-map (λ a. IsFrom made (value_at a)) (λ a. IsFrom least (value_at a))
+    (λ a (from, held). (omega (arith, ints, lower, from), held)) new more))
 
 -- a fact after an answer that follows from another one
 pub on-ok : {T E : Type 0} (r : Result T E) (P Q : Type 0) → (P → Q) → OnOk r P → OnOk r Q

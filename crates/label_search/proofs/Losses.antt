@@ -34,24 +34,28 @@ loss-below (x ∷ xs) zero h = let own = gain-least x.0 in let least = own.0 in 
 loss-below (x ∷ xs) (suc k) h = let own = gain-least x.0 in let least = own.1 in omega (arith, ints, loss-below xs k (omega arith))
 
 -- the rest of an item is not above that of a later one less its price
-pub rest-steps : (prices : List Price) (j k : ℕ) → j < k → k < length prices → number_at (rests_of prices) j ≤ℤ (number_at (rests_of prices) k -ℤ price_at prices k)
+pub rest-steps : (prices : List Price) (j k : ℕ) → j < k → k < length prices →
+    number_at (rests_of prices) j ≤ℤ (number_at (rests_of prices) k -ℤ price_at prices k)
 rest-steps [] j k h below = absurd (omega arith)
 rest-steps (x ∷ xs) zero zero h below = absurd (omega arith)
 rest-steps (x ∷ xs) zero (suc k) h below = loss-below xs k (omega arith)
 rest-steps (x ∷ xs) (suc j) zero h below = absurd (omega arith)
 rest-steps (x ∷ xs) (suc j) (suc k) h below = rest-steps xs j k (omega arith) (omega arith)
 
-pub rest-at_least : (prices : List Price) (k : ℕ) → AllWithin 10000000000000 prices → neg_ℤ (pos (10000000000000 * length prices)) ≤ℤ number_at (rests_of prices) k
+pub rest-at_least : (prices : List Price) (k : ℕ) → AllWithin 10000000000000 prices →
+    neg_ℤ (pos (10000000000000 * length prices)) ≤ℤ number_at (rests_of prices) k
 rest-at_least [] k h = omega (arith, ints)
 rest-at_least (x ∷ xs) zero h = omega (arith, ints, loss-at_least xs h.2)
 rest-at_least (x ∷ xs) (suc k) h = omega (arith, ints, rest-at_least xs k h.2)
 
-pub loss-drop : (prices : List Price) (k : ℕ) → k < length prices → loss (drop k prices) ≡ loss (drop (suc k) prices) -ℤ gain_of (price_at prices k)
+pub loss-drop : (prices : List Price) (k : ℕ) → k < length prices →
+    loss (drop k prices) ≡ loss (drop (suc k) prices) -ℤ gain_of (price_at prices k)
 loss-drop [] k h = absurd (omega arith)
 loss-drop (x ∷ xs) zero h = refl
 loss-drop (x ∷ xs) (suc k) h = loss-drop xs k (omega arith)
 
-pub rests-drop : (prices : List Price) (k : ℕ) → k < length prices → rests_of (drop k prices) ≡ loss (drop (suc k) prices) ∷ rests_of (drop (suc k) prices)
+pub rests-drop : (prices : List Price) (k : ℕ) → k < length prices →
+    rests_of (drop k prices) ≡ loss (drop (suc k) prices) ∷ rests_of (drop (suc k) prices)
 rests-drop [] k h = absurd (omega arith)
 rests-drop (x ∷ xs) zero h = refl
 rests-drop (x ∷ xs) (suc k) h = rests-drop xs k (omega arith)

@@ -18,11 +18,13 @@ module _ {X : Type 0} where
   drop-past (x ∷ xs) (suc i) h = drop-past xs i (omega arith)
 
   -- whether some item passes a test
-  pub any-here : (p : X → Bool) (xs : List X) (i : ℕ) (x : X) → list_any p xs ≡ list_any p (drop i xs) → i < length xs → x ≡ get_or xs i x → p x ≡ true → true ≡ list_any p xs
+  pub any-here : (p : X → Bool) (xs : List X) (i : ℕ) (x : X) → list_any p xs ≡ list_any p (drop i xs) → i < length xs → x ≡ get_or xs i x →
+      p x ≡ true → true ≡ list_any p xs
   any-here p xs i x so_far below is test =
       sym (so_far ∙ ap (list_any p) (drop-at xs i x below is) ∙ ap (λ b. b || list_any p (drop (i + 1) xs)) test)
 
-  pub any-next : (p : X → Bool) (xs : List X) (i : ℕ) (x : X) → list_any p xs ≡ list_any p (drop i xs) → i < length xs → x ≡ get_or xs i x → p x ≡ false → list_any p xs ≡ list_any p (drop (i + 1) xs)
+  pub any-next : (p : X → Bool) (xs : List X) (i : ℕ) (x : X) → list_any p xs ≡ list_any p (drop i xs) → i < length xs → x ≡ get_or xs i x →
+      p x ≡ false → list_any p xs ≡ list_any p (drop (i + 1) xs)
   any-next p xs i x so_far below is test =
       so_far ∙ ap (list_any p) (drop-at xs i x below is) ∙ ap (λ b. b || list_any p (drop (i + 1) xs)) test
 
@@ -36,15 +38,19 @@ module _ {X : Type 0} where
   take-drop (x ∷ xs) (suc i) = ap (λ (l : List X). x ∷ l) (take-drop xs i)
 
   -- the item at a place, taken out or not
-  pub without-out : (p : X → Bool) (xs : List X) (i : ℕ) (x : X) → i < length xs → x ≡ get_or xs i x → p x ≡ false → take i xs ++ drop (i + 1) xs ≡ without p i xs
+  pub without-out : (p : X → Bool) (xs : List X) (i : ℕ) (x : X) → i < length xs → x ≡ get_or xs i x → p x ≡ false →
+      take i xs ++ drop (i + 1) xs ≡ without p i xs
   without-out p xs i x below is test =
-      let here : filter p (take 1 (drop i xs)) ≡ [] = ap (λ (l : List X). filter p (take 1 l)) (drop-at xs i x below is) ∙ ap (λ b. cond b (x ∷ []) []) test in
+      let here : filter p (take 1 (drop i xs)) ≡ [] =
+      ap (λ (l : List X). filter p (take 1 l)) (drop-at xs i x below is) ∙ ap (λ b. cond b (x ∷ []) []) test in
       sym (ap (λ (l : List X). take i xs ++ (l ++ drop (i + 1) xs)) here)
 
   pub without-stays : (p : X → Bool) (xs : List X) (i : ℕ) (x : X) → i < length xs → x ≡ get_or xs i x → p x ≡ true → xs ≡ without p i xs
   without-stays p xs i x below is test =
-      let here : filter p (take 1 (drop i xs)) ≡ x ∷ [] = ap (λ (l : List X). filter p (take 1 l)) (drop-at xs i x below is) ∙ ap (λ b. cond b (x ∷ []) []) test in
-      sym (ap (λ (l : List X). take i xs ++ (l ++ drop (i + 1) xs)) here ∙ ap (λ (l : List X). take i xs ++ l) (sym (drop-at xs i x below is)) ∙ take-drop xs i)
+      let here : filter p (take 1 (drop i xs)) ≡ x ∷ [] =
+      ap (λ (l : List X). filter p (take 1 l)) (drop-at xs i x below is) ∙ ap (λ b. cond b (x ∷ []) []) test in
+      sym (ap (λ (l : List X). take i xs ++ (l ++ drop (i + 1) xs)) here
+      ∙ ap (λ (l : List X). take i xs ++ l) (sym (drop-at xs i x below is)) ∙ take-drop xs i)
 
   filter-one : (p : X → Bool) (x : X) (xs : List X) (b : Bool) → cond b (x ∷ []) [] ++ filter p xs ≡ cond b (x ∷ filter p xs) (filter p xs)
   filter-one p x xs true = refl
@@ -52,17 +58,27 @@ module _ {X : Type 0} where
 
   -- all behind a place have been tested, and the place is next
   out-back : (p : X → Bool) (xs : List X) (i : ℕ) → i < length xs →
-      take i (take (suc i) xs ++ filter p (drop (suc i) xs)) ++ (filter p (take 1 (drop i (take (suc i) xs ++ filter p (drop (suc i) xs)))) ++ drop (suc i) (take (suc i) xs ++ filter p (drop (suc i) xs)))
+      take i (take (suc i) xs ++ filter p (drop (suc i) xs))
+      ++ (filter p (take 1 (drop i (take (suc i) xs ++ filter p (drop (suc i) xs))))
+      ++ drop (suc i) (take (suc i) xs ++ filter p (drop (suc i) xs)))
       ≡ take i xs ++ filter p (drop i xs)
   out-back p [] i h = absurd (omega arith)
   out-back p (x ∷ xs) zero h = filter-one p x xs (p x)
   out-back p (x ∷ xs) (suc i) h = ap (λ (l : List X). x ∷ l) (out-back p xs i (omega arith))
 
-  pub out-step : (p : X → Bool) (xs made new : List X) (i : ℕ) → i < length xs → made ≡ take (i + 1) xs ++ filter p (drop (i + 1) xs) → new ≡ without p i made → new ≡ take i xs ++ filter p (drop i xs)
+  pub out-step : (p : X → Bool) (xs made new : List X) (i : ℕ) → i < length xs → made ≡ take (i + 1) xs ++ filter p (drop (i + 1) xs) →
+      new ≡ without p i made → new ≡ take i xs ++ filter p (drop i xs)
   out-step p xs made new i below is e =
       let is' : made ≡ take (suc i) xs ++ filter p (drop (suc i) xs) = rw add-one at is in
       let e' : new ≡ take i made ++ (filter p (take 1 (drop i made)) ++ drop (suc i) made) = rw add-one at e in
       e' ∙ ap (λ (l : List X). take i l ++ (filter p (take 1 (drop i l)) ++ drop (suc i) l)) is' ∙ out-back p xs i below
 
-  pub out-within : (p : X → Bool) (xs made : List X) (i : ℕ) → i < length xs → made ≡ take (i + 1) xs ++ filter p (drop (i + 1) xs) → i < length made
-  out-within p xs made i below is = omega (arith, ap (λ (l : List X). length l) is, length-append (take (i + 1) xs) (filter p (drop (i + 1) xs)), length-take-le (i + 1) xs (omega arith))
+  pub out-within : (p : X → Bool) (xs made : List X) (i : ℕ) → i < length xs →
+      made ≡ take (i + 1) xs ++ filter p (drop (i + 1) xs) → i < length made
+  out-within p xs made i below is =
+      omega (
+        arith,
+        ap (λ (l : List X). length l) is,
+        length-append (take (i + 1) xs) (filter p (drop (i + 1) xs)),
+        length-take-le (i + 1) xs (omega arith),
+      )

@@ -23,37 +23,43 @@ start-parts false o b e = absurd (cc)
 
 -- The laws of labels stay where a test says which items lists may begin with: they speak of steps, which are the same, and of starts, of
 -- which some are left.
-pub of_start-kept : {L : Type 0} (w : Labelling L) (good : L → L → Type 0) (begins : ℕ → Bool) → IsKept w good → IsKept (of_start w begins) good
+pub of_start-kept : {L : Type 0} (w : Labelling L) (good : L → L → Type 0) (begins : ℕ → Bool) → IsKept w good →
+    IsKept (of_start w begins) good
 of_start-kept w good begins k = record { same = k.same; through = k.through; extended = k.extended }
 
 pub of_start-valued : {L : Type 0} (w : Labelling L) (good : L → L → Type 0) (value_at : L → ℤ) (close : L → Option ℤ) (begins : ℕ → Bool) →
     IsValued w good value_at close → IsValued (of_start w begins) good value_at close
 of_start-valued w good value_at close begins v = record { at_most = v.at_most; apart = v.apart; closes = v.closes }
 
-pub of_start-stepwise : {L : Type 0} (w : Labelling L) (count : ℕ) (last : L → ℕ) (begins : ℕ → Bool) → IsStepwise w count last → IsStepwise (of_start w begins) count last
+pub of_start-stepwise : {L : Type 0} (w : Labelling L) (count : ℕ) (last : L → ℕ) (begins : ℕ → Bool) → IsStepwise w count last →
+    IsStepwise (of_start w begins) count last
 of_start-stepwise w count last begins s = record {
   starts = λ item a e. let (test, e1) = start-parts _ _ a e in s.starts item a e1;
   steps = s.steps;
 }
 
-pub of_start-safe : {L : Type 0} (w : Labelling L) (sound : L → Type 0) (begins : ℕ → Bool) → IsSafe w sound → IsSafe (of_start w begins) sound
+pub of_start-safe : {L : Type 0} (w : Labelling L) (sound : L → Type 0) (begins : ℕ → Bool) → IsSafe w sound →
+    IsSafe (of_start w begins) sound
 of_start-safe w sound begins s = record {
   starts = λ item a e. let (test, e1) = start-parts _ _ a e in s.starts item a e1;
   steps = s.steps;
 }
 
-pub of_start-hides : {L : Type 0} (w : Labelling L) (good : L → L → Bool) (close : L → Option ℤ) (sound : L → Type 0) (may_close : ℤ → L → Bool) (begins : ℕ → Bool) →
+pub of_start-hides : {L : Type 0} (w : Labelling L) (good : L → L → Bool) (close : L → Option ℤ) (sound : L → Type 0)
+    (may_close : ℤ → L → Bool) (begins : ℕ → Bool) →
     HidesNone w good close sound may_close → HidesNone (of_start w begins) good close sound may_close
 of_start-hides w good close sound may_close begins h = record { closes = h.closes; steps = h.steps; ordered = h.ordered }
 
-after-start : {L : Type 0} (w : Labelling L) (begins : ℕ → Bool) (o : Option L) (xs : List ℕ) → label_after (of_start w begins) o xs ≡ label_after w o xs
+after-start : {L : Type 0} (w : Labelling L) (begins : ℕ → Bool) (o : Option L) (xs : List ℕ) →
+    label_after (of_start w begins) o xs ≡ label_after w o xs
 after-start w begins None [] = refl
 after-start w begins None (x ∷ xs) = refl
 after-start w begins (Some a) [] = refl
 after-start w begins (Some a) (x ∷ xs) = after-start w begins (w.extend a x) xs
 
 -- the label of a list depends on the test of its first item alone
-pub start-label : {L : Type 0} (w : Labelling L) (begins : ℕ → Bool) (x : ℕ) (xs : List ℕ) → label_of (of_start w begins) (x ∷ xs) ≡ label_after w (cond (begins x) (w.start x) None) xs
+pub start-label : {L : Type 0} (w : Labelling L) (begins : ℕ → Bool) (x : ℕ) (xs : List ℕ) →
+    label_of (of_start w begins) (x ∷ xs) ≡ label_after w (cond (begins x) (w.start x) None) xs
 start-label w begins x xs = after-start w begins (cond (begins x) (w.start x) None) xs
 
 -- the laws of labels stay in a group
@@ -64,13 +70,15 @@ pub of_group-valued : {L : Type 0} (w : Labelling L) (good : L → L → Type 0)
     IsValued w good value_at close → IsValued (of_group w group) good value_at close
 of_group-valued w good value_at close group = of_start-valued w good value_at close (λ item. nat_eq (item / 16) group)
 
-pub of_group-stepwise : {L : Type 0} (w : Labelling L) (count : ℕ) (last : L → ℕ) (group : ℕ) → IsStepwise w count last → IsStepwise (of_group w group) count last
+pub of_group-stepwise : {L : Type 0} (w : Labelling L) (count : ℕ) (last : L → ℕ) (group : ℕ) → IsStepwise w count last →
+    IsStepwise (of_group w group) count last
 of_group-stepwise w count last group = of_start-stepwise w count last (λ item. nat_eq (item / 16) group)
 
 pub of_group-safe : {L : Type 0} (w : Labelling L) (sound : L → Type 0) (group : ℕ) → IsSafe w sound → IsSafe (of_group w group) sound
 of_group-safe w sound group = of_start-safe w sound (λ item. nat_eq (item / 16) group)
 
-pub of_group-hides : {L : Type 0} (w : Labelling L) (good : L → L → Bool) (close : L → Option ℤ) (sound : L → Type 0) (may_close : ℤ → L → Bool) (group : ℕ) →
+pub of_group-hides : {L : Type 0} (w : Labelling L) (good : L → L → Bool) (close : L → Option ℤ) (sound : L → Type 0)
+    (may_close : ℤ → L → Bool) (group : ℕ) →
     HidesNone w good close sound may_close → HidesNone (of_group w group) good close sound may_close
 of_group-hides w good close sound may_close group = of_start-hides w good close sound may_close (λ item. nat_eq (item / 16) group)
 
@@ -84,16 +92,20 @@ none-after : {L : Type 0} (w : Labelling L) (xs : List ℕ) (b : L) → label_af
 none-after w [] b e = cc
 none-after w (x ∷ xs) b e = cc
 
-pub from-group : {L : Type 0} (w : Labelling L) (group : ℕ) (xs : List ℕ) (b : L) → label_of (of_group w group) xs ≡ Some b → (label_of w xs ≡ Some b) × InGroup group xs
+pub from-group : {L : Type 0} (w : Labelling L) (group : ℕ) (xs : List ℕ) (b : L) → label_of (of_group w group) xs ≡ Some b →
+    (label_of w xs ≡ Some b) × InGroup group xs
 from-group w group [] b e = absurd (cc)
 from-group {L = L} w group (x ∷ xs) b e =
-    let e' : label_after w (cond (nat_eq (x / 16) group) (w.start x) None) xs ≡ Some b = sym (start-label w (λ item. nat_eq (item / 16) group) x xs) ∙ e in
-    elim (nat_eq (x / 16) group) as (λ t. nat_eq (x / 16) group ≡ t → label_after w (cond t (w.start x) None) xs ≡ Some b → (label_after w (w.start x) xs ≡ Some b) × (x / 16 ≡ group)) [
+    let e' : label_after w (cond (nat_eq (x / 16) group) (w.start x) None) xs ≡ Some b =
+    sym (start-label w (λ item. nat_eq (item / 16) group) x xs) ∙ e in
+    elim (nat_eq (x / 16) group) as (λ t. nat_eq (x / 16) group ≡ t → label_after w (cond t (w.start x) None) xs ≡ Some b →
+    (label_after w (w.start x) xs ≡ Some b) × (x / 16 ≡ group)) [
       | true ↦ λ is f. (f, group-test x group is)
       | false ↦ λ is f. absurd (none-after w xs b f)
     ] refl e'
 
-pub onto-group : {L : Type 0} (w : Labelling L) (group : ℕ) (xs : List ℕ) → InGroup group xs → label_of (of_group w group) xs ≡ label_of w xs
+pub onto-group : {L : Type 0} (w : Labelling L) (group : ℕ) (xs : List ℕ) → InGroup group xs →
+    label_of (of_group w group) xs ≡ label_of w xs
 onto-group w group [] inside = absurd inside
 onto-group {L = L} w group (x ∷ xs) inside =
     start-label w (λ item. nat_eq (item / 16) group) x xs ∙ ap (λ t. label_after w (cond t (w.start x) None) xs) (test-group x group inside)
@@ -103,7 +115,8 @@ pub of_group-tied : {L : Type 0} (w : Labelling L) (close : L → Option ℤ) (p
     IsTied w close prices worth_of → IsTiedInGroup (of_group w group) close prices group worth_of
 of_group-tied w close prices group worth_of tied = record {
   onto = λ list worth e inside. let (a, has, closes) = tied.onto list worth e in (a, onto-group w group list inside ∙ has, closes);
-  from = λ list a v e c. let (has, inside) = from-group w group list a e in let (worth, worth_is, value_is) = tied.from list a v has c in (inside, worth, worth_is, value_is);
+  from = λ list a v e c. let (has, inside) = from-group w group list a e in let (worth, worth_is, value_is) = tied.from list a v has c in
+      (inside, worth, worth_is, value_is);
 }
 
 -- an item of a group is between the group's first one and the next group's
@@ -118,17 +131,21 @@ pub of_range-tied : {L : Type 0} (w : Labelling L) (close : L → Option ℤ) (p
     IsTied w close prices worth_of → IsTiedInGroup (of_range w (16 * group) (16 * group + 16)) close prices group worth_of
 of_range-tied {L = L} w close prices group worth_of tied = record {
   onto = λ list worth e inside. let (a, has, closes) = tied.onto list worth e in (a, onto list inside ∙ has, closes);
-  from = λ list a v e c. let (has, inside) = from list a e in let (worth, worth_is, value_is) = tied.from list a v has c in (inside, worth, worth_is, value_is);
+  from = λ list a v e c. let (has, inside) = from list a e in let (worth, worth_is, value_is) = tied.from list a v has c in
+      (inside, worth, worth_is, value_is);
 }
   where
     onto : (xs : List ℕ) → InGroup group xs → label_of (of_range w (16 * group) (16 * group + 16)) xs ≡ label_of w xs
     onto [] inside = absurd inside
-    onto (x ∷ xs) inside = start-label w (is_between (16 * group) (16 * group + 16)) x xs ∙ ap (λ t. label_after w (cond t (w.start x) None) xs) (between-group x group inside)
+    onto (x ∷ xs) inside = start-label w (is_between (16 * group) (16 * group + 16)) x xs
+        ∙ ap (λ t. label_after w (cond t (w.start x) None) xs) (between-group x group inside)
 
-    from : (xs : List ℕ) (b : L) → label_of (of_range w (16 * group) (16 * group + 16)) xs ≡ Some b → (label_of w xs ≡ Some b) × InGroup group xs
+    from : (xs : List ℕ) (b : L) → label_of (of_range w (16 * group) (16 * group + 16)) xs ≡ Some b →
+        (label_of w xs ≡ Some b) × InGroup group xs
     from [] b e = absurd (cc)
     from (x ∷ xs) b e =
-        elim (is_between (16 * group) (16 * group + 16) x) as (λ t. is_between (16 * group) (16 * group + 16) x ≡ t → label_after w (cond t (w.start x) None) xs ≡ Some b → (label_after w (w.start x) xs ≡ Some b) × (x / 16 ≡ group)) [
+        elim (is_between (16 * group) (16 * group + 16) x) as (λ t. is_between (16 * group) (16 * group + 16) x ≡ t →
+        label_after w (cond t (w.start x) None) xs ≡ Some b → (label_after w (w.start x) xs ≡ Some b) × (x / 16 ≡ group)) [
           | true ↦ λ is f. (f, group-between x group is)
           | false ↦ λ is f. absurd (none-after w xs b f)
         ] refl (sym (start-label w (is_between (16 * group) (16 * group + 16)) x xs) ∙ e)
@@ -137,7 +154,8 @@ below-end : (x count end : ℕ) → x < count → count ≤ end → is_between 0
 below-end x count end below few = grind (arith, nat_tests)
 
 -- where a range has all items, all lists are left
-pub of_range-all : {L : Type 0} (w : Labelling L) (count end : ℕ) (last : L → ℕ) → IsStepwise w count last → count ≤ end → (xs : List ℕ) → label_of (of_range w 0 end) xs ≡ label_of w xs
+pub of_range-all : {L : Type 0} (w : Labelling L) (count end : ℕ) (last : L → ℕ) → IsStepwise w count last → count ≤ end → (xs : List ℕ) →
+    label_of (of_range w 0 end) xs ≡ label_of w xs
 of_range-all w count end last steps few [] = refl
 of_range-all {L = L} w count end last steps few (x ∷ xs) =
     start-label w (is_between 0 end) x xs ∙
@@ -150,7 +168,8 @@ of_range-all {L = L} w count end last steps few (x ∷ xs) =
     none-either true = refl
     none-either false = refl
 
-pub of_range-tied-all : {L : Type 0} (w : Labelling L) (count end : ℕ) (last : L → ℕ) (close : L → Option ℤ) (prices : List Price) (worth_of : List ℕ → Option ℕ) → IsStepwise w count last → count ≤ end →
+pub of_range-tied-all : {L : Type 0} (w : Labelling L) (count end : ℕ) (last : L → ℕ) (close : L → Option ℤ) (prices : List Price)
+    (worth_of : List ℕ → Option ℕ) → IsStepwise w count last → count ≤ end →
     IsTied w close prices worth_of → IsTied (of_range w 0 end) close prices worth_of
 of_range-tied-all w count end last close prices worth_of steps few tied = record {
   onto = λ list worth e. let (a, has, closes) = tied.onto list worth e in (a, of_range-all w count end last steps few list ∙ has, closes);
@@ -189,7 +208,8 @@ all_above w close p prices class group limit tied above = λ list n e g.
     let (a, has, closes) = tied.onto list n e g in above list a (value_of prices n list) has closes
 
 -- a test that says the same as a relation
-pub kept-by : {L : Type 0} (w : Labelling L) (good : L → L → Type 0) (test : L → L → Bool) → ((a b : L) → good a b → test a b ≡ true) → ((a b : L) → test a b ≡ true → good a b) →
+pub kept-by : {L : Type 0} (w : Labelling L) (good : L → L → Type 0) (test : L → L → Bool) → ((a b : L) → good a b → test a b ≡ true) →
+    ((a b : L) → test a b ≡ true → good a b) →
     IsKept w good → IsKept w (GoodAs test)
 kept-by w good test onto from k = record {
   same = λ a. onto a a (k.same a);
@@ -197,7 +217,8 @@ kept-by w good test onto from k = record {
   extended = λ a b b' item h e. let (a', is, better) = k.extended a b b' item (from a b h) e in (a', is, onto a' b' better);
 }
 
-pub valued-by : {L : Type 0} (w : Labelling L) (good : L → L → Type 0) (test : L → L → Bool) (value_at : L → ℤ) (close : L → Option ℤ) → ((a b : L) → test a b ≡ true → good a b) →
+pub valued-by : {L : Type 0} (w : Labelling L) (good : L → L → Type 0) (test : L → L → Bool) (value_at : L → ℤ) (close : L → Option ℤ) →
+    ((a b : L) → test a b ≡ true → good a b) →
     IsValued w good value_at close → IsValued w (GoodAs test) value_at close
 valued-by w good test value_at close from v = record {
   at_most = λ a b h. v.at_most a b (from a b h);
@@ -206,7 +227,8 @@ valued-by w good test value_at close from v = record {
 }
 
 -- where the kept labels are a cover and none closes below minus the class price, the prices of each list are paid
-pub cover-pays : {L : Type 0} (w : Labelling L) (good : L → L → Type 0) (value_at : L → ℤ) (close : L → Option ℤ) (kept : L → Type 0) (prices : List Price) (worth_of : List ℕ → Option ℕ) (class_price : ℤ) →
+pub cover-pays : {L : Type 0} (w : Labelling L) (good : L → L → Type 0) (value_at : L → ℤ) (close : L → Option ℤ) (kept : L → Type 0)
+    (prices : List Price) (worth_of : List ℕ → Option ℕ) (class_price : ℤ) →
     IsKept w good → IsValued w good value_at close → IsTied w close prices worth_of → IsCover w good kept →
     ((a : L) (u : ℤ) → kept a → close a ≡ Some u → neg_ℤ class_price ≤ℤ u) →
     (list : List ℕ) (worth : ℕ) → worth_of list ≡ Some worth → price_of prices list ≤ℤ (pos (1000 * worth) +ℤ class_price)
@@ -217,8 +239,10 @@ cover-pays w good value_at close kept prices worth_of class_price k v tied cover
     let least = low a u is_kept closes in
     omega (arith, ints)
 
-pub labels-pay : {L : Type 0} (w : Labelling L) (good : L → L → Type 0) (value_at : L → ℤ) (close : L → Option ℤ) → IsKept w good → IsValued w good value_at close → CoverPays w good close
-labels-pay w good value_at close k v kept prices worth_of class_price = cover-pays w good value_at close (Contains kept) prices worth_of class_price k v
+pub labels-pay : {L : Type 0} (w : Labelling L) (good : L → L → Type 0) (value_at : L → ℤ) (close : L → Option ℤ) → IsKept w good →
+    IsValued w good value_at close → CoverPays w good close
+labels-pay w good value_at close k v kept prices worth_of class_price =
+    cover-pays w good value_at close (Contains kept) prices worth_of class_price k v
 
 -- the first least list as a column is the best column within a limit
 pub found-best : {L : Type 0} (w : Labelling L) (close : L → Option ℤ) (p : Problem) (prices : List Price) (class group : ℕ) (limit : ℤ) →

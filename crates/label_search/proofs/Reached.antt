@@ -27,7 +27,8 @@ AreSorted {L} (h ∷ hs) = ((g : Held L) → In g hs → IsNotAfter h.0 g.0) × 
 abbrev pub EndsWith : ℕ → List ℕ → Type 0
 EndsWith x xs = (ys : List ℕ) × (xs ≡ ys ++ x ∷ [])
 
-pub AreSorted-append : {L : Type 0} (xs ys : List (Held L)) → AreSorted xs → AreSorted ys → ((x y : Held L) → In x xs → In y ys → IsNotAfter x.0 y.0) → AreSorted (xs ++ ys)
+pub AreSorted-append : {L : Type 0} (xs ys : List (Held L)) → AreSorted xs → AreSorted ys →
+    ((x y : Held L) → In x xs → In y ys → IsNotAfter x.0 y.0) → AreSorted (xs ++ ys)
 AreSorted-append [] ys sx sy h = sy
 AreSorted-append (x ∷ xs) ys sx sy h = (
   (λ g has. elim (In-split g xs ys has) [ inl l ↦ sx.0 g l | inr r ↦ h x g (inl refl) r ]),
@@ -39,7 +40,8 @@ place-In [] i h = absurd (omega arith)
 place-In (x ∷ hs) zero h = (x, inl refl, refl)
 place-In (x ∷ hs) (suc i) h = let (g, has, is) = place-In hs i (omega arith) in (g, inr has, is)
 
-pub place-sorted : {L : Type 0} (hs : List (Held L)) (i j : ℕ) → AreSorted hs → i ≤ j → j < length hs → IsNotAfter (place_list hs i) (place_list hs j)
+pub place-sorted : {L : Type 0} (hs : List (Held L)) (i j : ℕ) → AreSorted hs → i ≤ j → j < length hs →
+    IsNotAfter (place_list hs i) (place_list hs j)
 place-sorted [] i j s h below = absurd (omega arith)
 place-sorted (x ∷ hs) zero zero s h below = IsNotAfter-same x.0
 place-sorted (x ∷ hs) zero (suc j) s h below =
@@ -51,7 +53,8 @@ place-sorted (x ∷ hs) (suc i) (suc j) s h below = place-sorted hs i j s.1 (ome
 empty-first : (zs : List ℕ) → IsNotAfter [] zs
 empty-first zs = elim (reverse zs) as (λ l. is_gt (slice_cmp nat_cmp [] l) ≡ false) [ [] ↦ refl | (y ∷ ys) ↦ refl ]
 
-pub before-sorted : {L : Type 0} (hs : List (Held L)) (r s : ℕ) → AreSorted hs → r ≤ s → s ≤ length hs → IsNotAfter (list_before hs r) (list_before hs s)
+pub before-sorted : {L : Type 0} (hs : List (Held L)) (r s : ℕ) → AreSorted hs → r ≤ s → s ≤ length hs →
+    IsNotAfter (list_before hs r) (list_before hs s)
 before-sorted hs zero s sorted h below = empty-first (list_before hs s)
 before-sorted hs (suc i) zero sorted h below = absurd (omega arith)
 before-sorted hs (suc i) (suc j) sorted h below = place-sorted hs i j sorted (omega arith) (omega arith)
@@ -60,9 +63,11 @@ pub In-helds_at : {L : Type 0} (hs : List (Held L)) (ms : List (Node L)) (m : No
 In-helds_at hs [] m has = has
 In-helds_at hs (n ∷ ns) m has = elim has [ inl e ↦ inl (ap (held_of hs) e) | inr r ↦ inr (In-helds_at hs ns m r) ]
 
-pub from-helds_at : {L : Type 0} (hs : List (Held L)) (ms : List (Node L)) (h : Held L) → In h (helds_at hs ms) → (m : Node L) × In m ms × (h ≡ held_of hs m)
+pub from-helds_at : {L : Type 0} (hs : List (Held L)) (ms : List (Node L)) (h : Held L) → In h (helds_at hs ms) →
+    (m : Node L) × In m ms × (h ≡ held_of hs m)
 from-helds_at hs [] h has = absurd has
-from-helds_at hs (n ∷ ns) h has = elim has [ inl e ↦ (n, inl refl, e) | inr r ↦ (let (m, there, is) = from-helds_at hs ns h r in (m, inr there, is)) ]
+from-helds_at hs (n ∷ ns) h has =
+    elim has [ inl e ↦ (n, inl refl, e) | inr r ↦ (let (m, there, is) = from-helds_at hs ns h r in (m, inr there, is)) ]
 
 pub AllEarly-from : {L : Type 0} (k : ℕ) (ms : List (Node L)) → ((m : Node L) → In m ms → m.before ≤ k) → AllEarly k ms
 AllEarly-from k [] h = tt
@@ -93,7 +98,8 @@ node_of-ranked : {L : Type 0} (item before : ℕ) (o : Option L) → AreRanked (
 node_of-ranked item before None = tt
 node_of-ranked item before (Some a) = ((λ m none. absurd none), tt)
 
-pub next_from-ranked : {L : Type 0} (w : Labelling L) (item : ℕ) (gs rest : List (Held L)) → AreRanked (next_from w item (length gs) (held_labels rest))
+pub next_from-ranked : {L : Type 0} (w : Labelling L) (item : ℕ) (gs rest : List (Held L)) →
+    AreRanked (next_from w item (length gs) (held_labels rest))
 next_from-ranked w item gs [] = tt
 next_from-ranked {L = L} w item gs (r ∷ rest) =
     let longer : length (gs ++ r ∷ []) ≡ length gs + 1 = length-append {A = Held L} gs (r ∷ []) in
@@ -117,9 +123,11 @@ candidates-ranked {L = L} w item hs =
 pub record IsCandidate {L : Type 0} (w : Labelling L) (item : ℕ) (hs : List (Held L)) (c : Node L) : Type 0 where
   pub item_is : c.item ≡ item
   pub early : c.before ≤ length hs
-  pub made : ((w.start item ≡ Some c.label) × (c.before ≡ 0)) ⊎ ((h : Held L) × In h hs × (w.extend h.1 item ≡ Some c.label) × (list_before hs c.before ≡ h.0))
+  pub made : ((w.start item ≡ Some c.label) × (c.before ≡ 0)) ⊎ ((h : Held L) × In h hs × (w.extend h.1 item ≡ Some c.label)
+      × (list_before hs c.before ≡ h.0))
 
-pub from-candidates : {L : Type 0} (w : Labelling L) (item : ℕ) (hs : List (Held L)) (c : Node L) → In c (candidates w item hs) → IsCandidate w item hs c
+pub from-candidates : {L : Type 0} (w : Labelling L) (item : ℕ) (hs : List (Held L)) (c : Node L) → In c (candidates w item hs) →
+    IsCandidate w item hs c
 from-candidates {L = L} w item hs c has =
     elim (In-split c (node_of item 0 (w.start item)) (next_from w item 0 (held_labels hs)) has) [
       | inl here ↦
@@ -140,10 +148,13 @@ level-from w good value_at item hs m has =
 pub level-beats : {L : Type 0} (w : Labelling L) (good : L → L → Bool) (value_at : L → ℤ) (close : L → Option ℤ) →
     IsKept w (GoodAs good) → IsValued w (GoodAs good) value_at close → (item : ℕ) (hs : List (Held L)) → AreSorted hs →
     (c : Node L) → In c (candidates w item hs) →
-    (h : Held L) × In h (helds_at hs (fold (insert_node good value_at) [] (candidates w item hs))) × Beats (GoodAs good) value_at h (list_before hs c.before ++ item ∷ [], c.label)
+    (h : Held L) × In h (helds_at hs (fold (insert_node good value_at) [] (candidates w item hs)))
+    × Beats (GoodAs good) value_at h (list_before hs c.before ++ item ∷ [], c.label)
 level-beats {L = L} w good value_at close k v item hs sorted c has =
     let ms : List (Node L) = fold (insert_node good value_at) [] (candidates w item hs) in
-    let (m, there, better) = inserted-covers w good value_at close k v (candidates w item hs) [] (candidates-ranked w item hs) (λ x y none hy. absurd none) c (inr has) in
+    let (m, there, better) =
+    inserted-covers w good value_at close k v (candidates w item hs) [] (candidates-ranked w item hs)
+    (λ x y none hy. absurd none) c (inr has) in
     let mc = level-from w good value_at item hs m there in
     let cc' = from-candidates w item hs c has in (
       held_of hs m,
@@ -153,14 +164,16 @@ level-beats {L = L} w good value_at close k v item hs sorted c has =
         elim better.1 [
           | inl less ↦ inl less
           | inr early ↦ inr (
-              let order = IsNotAfter-append (list_before hs m.before) (list_before hs c.before) (item ∷ []) (before-sorted hs m.before c.before sorted early cc'.early) in
+              let order = IsNotAfter-append (list_before hs m.before) (list_before hs c.before) (item ∷ [])
+              (before-sorted hs m.before c.before sorted early cc'.early) in
               let P : ℕ → Type 0 = λ x. IsNotAfter (list_before hs m.before ++ x ∷ []) (list_before hs c.before ++ item ∷ []) in
               subst P (sym mc.item_is) order)
         ],
       ),
     )
 
-pub label_after-append : {L : Type 0} (w : Labelling L) (o : Option L) (xs ys : List ℕ) → label_after w o (xs ++ ys) ≡ label_after w (label_after w o xs) ys
+pub label_after-append : {L : Type 0} (w : Labelling L) (o : Option L) (xs ys : List ℕ) →
+    label_after w o (xs ++ ys) ≡ label_after w (label_after w o xs) ys
 label_after-append w None [] ys = refl
 label_after-append w None (x ∷ xs) [] = refl
 label_after-append w None (x ∷ xs) (y ∷ ys) = refl
@@ -171,42 +184,57 @@ pub label_after-none : {L : Type 0} (w : Labelling L) (o : Option L) → label_a
 label_after-none w None = refl
 label_after-none w (Some a) = refl
 
-pub label_of-more : {L : Type 0} (w : Labelling L) (xs : List ℕ) (a : L) (item : ℕ) → label_of w xs ≡ Some a → label_of w (xs ++ item ∷ []) ≡ w.extend a item
+pub label_of-more : {L : Type 0} (w : Labelling L) (xs : List ℕ) (a : L) (item : ℕ) → label_of w xs ≡ Some a →
+    label_of w (xs ++ item ∷ []) ≡ w.extend a item
 label_of-more w [] a item e = absurd (cc)
 label_of-more w (x ∷ xs) a item e =
     label_after-append w (w.start x) xs (item ∷ []) ∙ ap (λ o. label_after w o (item ∷ [])) e ∙ label_after-none w (w.extend a item)
 
 -- what holds of the held labels of the lists below an item
-pub record IsReached {L : Type 0} (w : Labelling L) (good : L → L → Bool) (value_at : L → ℤ) (last : L → ℕ) (q : ℕ) (hs : List (Held L)) : Type 0 where
-  pub starts : (item : ℕ) (b : L) → item < q → w.start item ≡ Some b → (h : Held L) × In h hs × Beats (GoodAs good) value_at h (item ∷ [], b)
-  pub steps : (g : Held L) (b : L) (item : ℕ) → In g hs → item < q → w.extend g.1 item ≡ Some b → (h : Held L) × In h hs × Beats (GoodAs good) value_at h (g.0 ++ item ∷ [], b)
+pub record IsReached {L : Type 0} (w : Labelling L) (good : L → L → Bool) (value_at : L → ℤ) (last : L → ℕ) (q : ℕ)
+    (hs : List (Held L)) : Type 0 where
+  pub starts : (item : ℕ) (b : L) → item < q → w.start item ≡ Some b →
+      (h : Held L) × In h hs × Beats (GoodAs good) value_at h (item ∷ [], b)
+  pub steps : (g : Held L) (b : L) (item : ℕ) → In g hs → item < q → w.extend g.1 item ≡ Some b →
+      (h : Held L) × In h hs × Beats (GoodAs good) value_at h (g.0 ++ item ∷ [], b)
   pub sorted : AreSorted hs
   pub lasts : (h : Held L) → In h hs → (last h.1 < q) × EndsWith (last h.1) h.0
   pub sound : (h : Held L) → In h hs → label_of w h.0 ≡ Some h.1
 
 -- a held label of a level
-pub new-held : {L : Type 0} (w : Labelling L) (good : L → L → Bool) (value_at : L → ℤ) (count : ℕ) (last : L → ℕ) → IsStepwise w count last →
+pub new-held : {L : Type 0} (w : Labelling L) (good : L → L → Bool) (value_at : L → ℤ) (count : ℕ) (last : L → ℕ) →
+    IsStepwise w count last →
     (q : ℕ) (hs : List (Held L)) → ((h : Held L) → In h hs → label_of w h.0 ≡ Some h.1) → (h : Held L) →
-    In h (helds_at hs (fold (insert_node good value_at) [] (candidates w q hs))) → (last h.1 ≡ q) × EndsWith q h.0 × (label_of w h.0 ≡ Some h.1)
+    In h (helds_at hs (fold (insert_node good value_at) [] (candidates w q hs))) →
+    (last h.1 ≡ q) × EndsWith q h.0 × (label_of w h.0 ≡ Some h.1)
 new-held {L = L} w good value_at count last st q hs sound h has =
     let ms : List (Node L) = fold (insert_node good value_at) [] (candidates w q hs) in
     let (m, there, is) = from-helds_at hs ms h has in
     let c = level-from w good value_at q hs m there in
-    let list : h.0 ≡ list_before hs m.before ++ q ∷ [] = ap (λ (x : Held L). x.0) is ∙ ap (λ x. list_before hs m.before ++ x ∷ []) c.item_is in
+    let list : h.0 ≡ list_before hs m.before ++ q ∷ [] =
+    ap (λ (x : Held L). x.0) is ∙ ap (λ x. list_before hs m.before ++ x ∷ []) c.item_is in
     let label : h.1 ≡ m.label = ap (λ (x : Held L). x.1) is in
     let P : L → Type 0 = λ a. last a ≡ q in (
-      subst P (sym label) (elim c.made [ inl start ↦ (st.starts q m.label start.0).1 | inr (g, in_hs, made, before) ↦ (st.steps g.1 m.label q made).2 ]),
+      subst P (sym label) (elim c.made [
+        | inl start ↦ (st.starts q m.label start.0).1
+        | inr (g, in_hs, made, before) ↦
+            (st.steps g.1 m.label q made).2
+      ]),
       (list_before hs m.before, list),
       ap (label_of w) list ∙
           elim c.made [
-            | inl start ↦ ap (λ r. label_of w (list_before hs r ++ q ∷ [])) start.1 ∙ label_after-none w (w.start q) ∙ start.0 ∙ ap Some (sym label)
-            | inr (g, in_hs, made, before) ↦ ap (λ l. label_of w (l ++ q ∷ [])) before ∙ label_of-more w g.0 g.1 q (sound g in_hs) ∙ made ∙ ap Some (sym label)
+            | inl start ↦ ap (λ r. label_of w (list_before hs r ++ q ∷ [])) start.1 ∙ label_after-none w (w.start q)
+                ∙ start.0 ∙ ap Some (sym label)
+            | inr (g, in_hs, made, before) ↦ ap (λ l. label_of w (l ++ q ∷ [])) before ∙ label_of-more w g.0 g.1 q (sound g in_hs)
+                ∙ made ∙ ap Some (sym label)
           ],
     )
 
-pub reached-step : {L : Type 0} (w : Labelling L) (good : L → L → Bool) (value_at : L → ℤ) (close : L → Option ℤ) (count : ℕ) (last : L → ℕ) →
+pub reached-step : {L : Type 0} (w : Labelling L) (good : L → L → Bool) (value_at : L → ℤ) (close : L → Option ℤ)
+    (count : ℕ) (last : L → ℕ) →
     IsKept w (GoodAs good) → IsValued w (GoodAs good) value_at close → IsStepwise w count last → (q : ℕ) (hs : List (Held L)) →
-    IsReached w good value_at last q hs → IsReached w good value_at last (suc q) (hs ++ helds_at hs (fold (insert_node good value_at) [] (candidates w q hs)))
+    IsReached w good value_at last q hs →
+    IsReached w good value_at last (suc q) (hs ++ helds_at hs (fold (insert_node good value_at) [] (candidates w q hs)))
 reached-step {L = L} w good value_at close count last k v st q hs r =
     let ms : List (Node L) = fold (insert_node good value_at) [] (candidates w q hs) in
     let new : List (Held L) = helds_at hs ms in
@@ -218,10 +246,13 @@ reached-step {L = L} w good value_at close count last k v st q hs r =
                 let same : item ≡ q = omega arith in
                 let start : w.start q ≡ Some b = ap w.start (sym same) ∙ e in
                 let (c, there, is) = In-node_of q 0 (w.start q) b start in
-                let (h, has, beats) = level-beats w good value_at close k v q hs r.sorted c (In-left c (node_of q 0 (w.start q)) (next_from w q 0 (held_labels hs)) there) in
+                let (h, has, beats) = level-beats w good value_at close k v q hs r.sorted c
+                (In-left c (node_of q 0 (w.start q)) (next_from w q 0 (held_labels hs)) there) in
                 let P : Held L → Type 0 = λ x. Beats (GoodAs good) value_at h x in
-                let list : list_before hs c.before ++ q ∷ [] ≡ item ∷ [] = ap (λ x. list_before hs x ++ q ∷ []) is.before_is ∙ ap (λ x. x ∷ []) (sym same) in
-                let pair : list_and_label L (list_before hs c.before ++ q ∷ []) c.label ≡ list_and_label L (item ∷ []) b = ap (λ l. list_and_label L l c.label) list ∙ ap (list_and_label L (item ∷ [])) is.label in
+                let list : list_before hs c.before ++ q ∷ [] ≡ item ∷ [] =
+                ap (λ x. list_before hs x ++ q ∷ []) is.before_is ∙ ap (λ x. x ∷ []) (sym same) in
+                let pair : list_and_label L (list_before hs c.before ++ q ∷ []) c.label ≡ list_and_label L (item ∷ []) b =
+                ap (λ l. list_and_label L l c.label) list ∙ ap (list_and_label L (item ∷ [])) is.label in
                 (h, In-right h hs new has, subst P pair beats)
           ];
       steps = λ g b item has below e.
@@ -234,10 +265,14 @@ reached-step {L = L} w good value_at close count last k v st q hs r =
                       let none : List (Held L) = [] in
                       let made : w.extend g.1 q ≡ Some b = ap (w.extend g.1) (sym same) ∙ e in
                       let (c, there, label, item_is, list) = In-next w q none hs g b old made in
-                      let (h, in_new, beats) = level-beats w good value_at close k v q hs r.sorted c (In-right c (node_of q 0 (w.start q)) (next_from w q 0 (held_labels hs)) there) in
+                      let (h, in_new, beats) =
+                      level-beats w good value_at close k v q hs r.sorted c
+                      (In-right c (node_of q 0 (w.start q)) (next_from w q 0 (held_labels hs)) there) in
                       let P : Held L → Type 0 = λ x. Beats (GoodAs good) value_at h x in
-                      let all : list_before hs c.before ++ q ∷ [] ≡ g.0 ++ item ∷ [] = ap (λ l. l ++ q ∷ []) list ∙ ap (λ x. g.0 ++ x ∷ []) (sym same) in
-                      let pair : list_and_label L (list_before hs c.before ++ q ∷ []) c.label ≡ list_and_label L (g.0 ++ item ∷ []) b = ap (λ l. list_and_label L l c.label) all ∙ ap (list_and_label L (g.0 ++ item ∷ [])) label in
+                      let all : list_before hs c.before ++ q ∷ [] ≡ g.0 ++ item ∷ [] =
+                      ap (λ l. l ++ q ∷ []) list ∙ ap (λ x. g.0 ++ x ∷ []) (sym same) in
+                      let pair : list_and_label L (list_before hs c.before ++ q ∷ []) c.label ≡ list_and_label L (g.0 ++ item ∷ []) b =
+                      ap (λ l. list_and_label L l c.label) all ∙ ap (list_and_label L (g.0 ++ item ∷ [])) label in
                       (h, In-right h hs new in_new, subst P pair beats)
                 ]
             | inr in_new ↦
@@ -246,7 +281,8 @@ reached-step {L = L} w good value_at close count last k v st q hs r =
                 absurd (omega arith)
           ];
       sorted = AreSorted-append hs new r.sorted
-          (helds_at-sorted hs q ms r.sorted (inserted-ranked good value_at (candidates w q hs) [] (candidates-ranked w q hs) tt (λ x y none hy. absurd none))
+          (helds_at-sorted hs q ms r.sorted
+          (inserted-ranked good value_at (candidates w q hs) [] (candidates-ranked w q hs) tt (λ x y none hy. absurd none))
           (λ m there. let c = level-from w good value_at q hs m there in (c.early, c.item_is)))
           (λ x y hx hy.
           let (below, (ys, front)) = r.lasts x hx in
@@ -270,7 +306,8 @@ reached-step {L = L} w good value_at close count last k v st q hs r =
           ];
     }
 
-pub reached-none : {L : Type 0} (w : Labelling L) (good : L → L → Bool) (value_at : L → ℤ) (last : L → ℕ) → IsReached w good value_at last 0 []
+pub reached-none : {L : Type 0} (w : Labelling L) (good : L → L → Bool) (value_at : L → ℤ) (last : L → ℕ) →
+    IsReached w good value_at last 0 []
 reached-none w good value_at last = record {
   starts = λ item b below e. absurd (omega arith);
   steps = λ g b item has below e. absurd has;
@@ -307,7 +344,8 @@ reached {L = L} w good value_at close count last k v st (suc q) =
     let P : List (Held L) → Type 0 = λ l. IsReached w good value_at last (suc q) l in
     subst P (sym whole) (reached-step w good value_at close count last k v st q hs before)
 
-pub reached-cover : {L : Type 0} (w : Labelling L) (good : L → L → Bool) (value_at : L → ℤ) (count : ℕ) (last : L → ℕ) → IsStepwise w count last →
+pub reached-cover : {L : Type 0} (w : Labelling L) (good : L → L → Bool) (value_at : L → ℤ) (count : ℕ) (last : L → ℕ) →
+    IsStepwise w count last →
     (hs : List (Held L)) → IsReached w good value_at last count hs → IsCover (held w) (Beats (GoodAs good) value_at) (λ h. In h hs)
 reached-cover {L = L} w good value_at count last st hs r = record {
   starts = λ item b e.
@@ -323,9 +361,11 @@ reached-cover {L = L} w good value_at count last st hs r = record {
 }
 
 -- the first of the kept nodes' lists is the first least of all lists
-pub first_of_nodes : {L : Type 0} (w : Labelling L) (good : L → L → Bool) (value_at : L → ℤ) (close : L → Option ℤ) (count : ℕ) (last : L → ℕ) →
+pub first_of_nodes : {L : Type 0} (w : Labelling L) (good : L → L → Bool) (value_at : L → ℤ) (close : L → Option ℤ)
+    (count : ℕ) (last : L → ℕ) →
     IsKept w (GoodAs good) → IsValued w (GoodAs good) value_at close → IsStepwise w count last → (list : List ℕ) (least : ℤ) →
-    IsFirstKept (λ (h : Held L). In h (helds_from [] (nodes_below w good value_at count))) close list least → IsFirstClosed w close list least
+    IsFirstKept (λ (h : Held L). In h (helds_from [] (nodes_below w good value_at count))) close list least →
+    IsFirstClosed w close list least
 first_of_nodes {L = L} w good value_at close count last k v st list least first =
     let none : List (Held L) = [] in
     let hs : List (Held L) = helds_from none (nodes_below w good value_at count) in
@@ -333,7 +373,8 @@ first_of_nodes {L = L} w good value_at close count last k v st list least first 
     (reached-cover w good value_at count last st hs (reached w good value_at close count last k v st count)) list least first
 
 -- where no kept node closes, no list does
-pub none_of_nodes : {L : Type 0} (w : Labelling L) (good : L → L → Bool) (value_at : L → ℤ) (close : L → Option ℤ) (count : ℕ) (last : L → ℕ) →
+pub none_of_nodes : {L : Type 0} (w : Labelling L) (good : L → L → Bool) (value_at : L → ℤ) (close : L → Option ℤ)
+    (count : ℕ) (last : L → ℕ) →
     IsKept w (GoodAs good) → IsValued w (GoodAs good) value_at close → IsStepwise w count last →
     ((h : Held L) (u : ℤ) → In h (helds_from [] (nodes_below w good value_at count)) → close h.1 ≡ Some u → ⊥) →
     (xs : List ℕ) (b : L) (z : ℤ) → label_of w xs ≡ Some b → close b ≡ Some z → ⊥
@@ -341,6 +382,7 @@ none_of_nodes {L = L} w good value_at close count last k v st none_closes xs b z
     let none : List (Held L) = [] in
     let hs : List (Held L) = helds_from none (nodes_below w good value_at count) in
     let cover = reached-cover w good value_at count last st hs (reached w good value_at close count last k v st count) in
-    let (h, has, beats) = covers (held w) (Beats (GoodAs good) value_at) (λ h. In h hs) (beats-kept w (GoodAs good) value_at close k v) cover xs (list_and_label L xs b) (label_of-held w xs ∙ ap (hold xs) e) in
+    let (h, has, beats) = covers (held w) (Beats (GoodAs good) value_at) (λ h. In h hs) (beats-kept w (GoodAs good) value_at close k v)
+    cover xs (list_and_label L xs b) (label_of-held w xs ∙ ap (hold xs) e) in
     let (u, is, below, strict) = v.closes h.1 b z beats.0 c in
     none_closes h u has is

@@ -38,6 +38,8 @@ pub below-more : (n m : ℕ) (xs : List ℕ) → n ≤ m → AllBelow n xs → A
 below-more n m [] h all = tt
 below-more n m (x ∷ xs) h all = ((let first = all.0 in omega arith), below-more n m xs h all.1)
 
-pub least-rises : {L : Type 0} (w : Labelling L) (close : L → Option ℤ) (count : ℕ) (last : L → ℕ) (test : L → Bool) → IsStepwise w count last → (list : List ℕ) (least : ℤ) →
+pub least-rises : {L : Type 0} (w : Labelling L) (close : L → Option ℤ) (count : ℕ) (last : L → ℕ) (test : L → Bool) →
+    IsStepwise w count last → (list : List ℕ) (least : ℤ) →
     IsLeastClosed (limited w test) close list least → Rises list × AllBelow count list
-least-rises w close count last test s list least is = label-rises w count last s list is.label (from-limited w test list is.label is.label_is)
+least-rises w close count last test s list least is =
+    label-rises w count last s list is.label (from-limited w test list is.label is.label_is)

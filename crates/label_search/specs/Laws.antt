@@ -18,7 +18,8 @@ pub record IsSafe {L : Type 0} (w : Labelling L) (sound : L → Type 0) : Type 0
 
 -- the test hides no list that closes within a limit: a label that closes within it passes, a label passes where an extension of it
 -- does, and where one does that it is at least as good as
-pub record HidesNone {L : Type 0} (w : Labelling L) (good : L → L → Bool) (close : L → Option ℤ) (sound : L → Type 0) (may_close : ℤ → L → Bool) : Type 0 where
+pub record HidesNone {L : Type 0} (w : Labelling L) (good : L → L → Bool) (close : L → Option ℤ) (sound : L → Type 0)
+    (may_close : ℤ → L → Bool) : Type 0 where
   pub closes : (limit : ℤ) (a : L) (v : ℤ) → sound a → close a ≡ Some v → v ≤ℤ limit → may_close limit a ≡ true
   pub steps : (limit : ℤ) (a b : L) (item : ℕ) → sound a → w.extend a item ≡ Some b → may_close limit b ≡ true → may_close limit a ≡ true
   pub ordered : (limit : ℤ) (a b : L) → good a b ≡ true → may_close limit b ≡ true → may_close limit a ≡ true

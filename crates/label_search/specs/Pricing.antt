@@ -29,12 +29,16 @@ of_range w first end = of_start w (is_between first end)
 
 -- a list has a worth exactly where it has a label that closes, and it closes with its value
 pub record IsTied {L : Type 0} (w : Labelling L) (close : L → Option ℤ) (prices : List Price) (worth_of : List ℕ → Option ℕ) : Type 0 where
-  pub onto : (list : List ℕ) (worth : ℕ) → worth_of list ≡ Some worth → (a : L) × (label_of w list ≡ Some a) × (close a ≡ Some (value_of prices worth list))
-  pub from : (list : List ℕ) (a : L) (v : ℤ) → label_of w list ≡ Some a → close a ≡ Some v → (worth : ℕ) × (worth_of list ≡ Some worth) × (v ≡ value_of prices worth list)
+  pub onto : (list : List ℕ) (worth : ℕ) → worth_of list ≡ Some worth →
+      (a : L) × (label_of w list ≡ Some a) × (close a ≡ Some (value_of prices worth list))
+  pub from : (list : List ℕ) (a : L) (v : ℤ) → label_of w list ≡ Some a → close a ≡ Some v →
+      (worth : ℕ) × (worth_of list ≡ Some worth) × (v ≡ value_of prices worth list)
 
 -- the same for the lists of a group, and no others
-pub record IsTiedInGroup {L : Type 0} (w : Labelling L) (close : L → Option ℤ) (prices : List Price) (group : ℕ) (worth_of : List ℕ → Option ℕ) : Type 0 where
-  pub onto : (list : List ℕ) (worth : ℕ) → worth_of list ≡ Some worth → InGroup group list → (a : L) × (label_of w list ≡ Some a) × (close a ≡ Some (value_of prices worth list))
+pub record IsTiedInGroup {L : Type 0} (w : Labelling L) (close : L → Option ℤ) (prices : List Price) (group : ℕ)
+    (worth_of : List ℕ → Option ℕ) : Type 0 where
+  pub onto : (list : List ℕ) (worth : ℕ) → worth_of list ≡ Some worth → InGroup group list →
+      (a : L) × (label_of w list ≡ Some a) × (close a ≡ Some (value_of prices worth list))
   pub from : (list : List ℕ) (a : L) (v : ℤ) → label_of w list ≡ Some a → close a ≡ Some v →
       InGroup group list × (worth : ℕ) × (worth_of list ≡ Some worth) × (v ≡ value_of prices worth list)
 

@@ -82,21 +82,27 @@ step-parts count seed a b item e =
     let worth : Way → ℤ = λ w. w.1 in
     record { up = grind (arith, nat_tests); there = grind (arith, nat_tests); item_is = sym (ap last is); value_is = sym (ap worth is) }
 
-parts-step : (count seed : ℕ) (a : Way) (item : ℕ) → a.0 < item → item < count → (ways count seed).extend a item ≡ Some (way item (a.1 +ℤ toll seed a.0 item))
+parts-step : (count seed : ℕ) (a : Way) (item : ℕ) → a.0 < item → item < count →
+    (ways count seed).extend a item ≡ Some (way item (a.1 +ℤ toll seed a.0 item))
 parts-step count seed a item up there =
-    onto-cond (nat_lt a.0 item && nat_lt item count) (way item (a.1 +ℤ toll seed a.0 item)) (and_true (nat_lt a.0 item) (nat_lt item count) (grind (arith, nat_tests)) (grind (arith, nat_tests)))
+    onto-cond (nat_lt a.0 item && nat_lt item count) (way item (a.1 +ℤ toll seed a.0 item))
+    (and_true (nat_lt a.0 item) (nat_lt item count) (grind (arith, nat_tests)) (grind (arith, nat_tests)))
 
 pub ways-kept : (count seed : ℕ) → IsKept (ways count seed) (GoodAs way_good)
 ways-kept count seed = record {
   same = λ a. parts-good a a refl (omega (arith, ints));
-  through = λ a b c h k. let (t1, v1) = good-parts a b h in let (t2, v2) = good-parts b c k in parts-good a c (t1 ∙ t2) (omega (arith, ints));
+  through = λ a b c h k. let (t1, v1) = good-parts a b h in let (t2, v2) = good-parts b c k in
+      parts-good a c (t1 ∙ t2) (omega (arith, ints));
   extended = λ a b b' item h e.
       let x = step-parts count seed b b' item e in
       let (trip, value) = good-parts a b h in
       let up = x.up in
       let value_is = x.value_is in
-      let same : toll seed a.0 item ≡ toll seed b.0 item = ap (λ i. toll seed i item) trip in
-      (way item (a.1 +ℤ toll seed a.0 item), parts-step count seed a item (omega arith) x.there, parts-good (way item (a.1 +ℤ toll seed a.0 item)) b' (sym x.item_is) (omega (arith, ints)));
+      let same : toll seed a.0 item ≡ toll seed b.0 item = ap (λ i. toll seed i item) trip in (
+        way item (a.1 +ℤ toll seed a.0 item),
+        parts-step count seed a item (omega arith) x.there,
+        parts-good (way item (a.1 +ℤ toll seed a.0 item)) b' (sym x.item_is) (omega (arith, ints)),
+      );
 }
 
 pub ways-valued : (count seed : ℕ) → IsValued (ways count seed) (GoodAs way_good) (λ a. a.1) (way_close count)
@@ -178,7 +184,8 @@ ways-hide count seed = record {
 }
 
 -- values above the most are too high for each further step
-pub ways-unreached : (count seed : ℕ) (item : ℕ) (limit most : ℤ) → ((v : ℤ) → IsAbove most v → (limit +ℤ pos (5 * count)) <ℤ (v +ℤ pos (5 * item))) →
+pub ways-unreached : (count seed : ℕ) (item : ℕ) (limit most : ℤ) →
+    ((v : ℤ) → IsAbove most v → (limit +ℤ pos (5 * count)) <ℤ (v +ℤ pos (5 * item))) →
     NoneReachesAbove (ways count seed) WayFits (λ a. a.1) (way_may_close count limit) item most
 ways-unreached count seed item limit most high a fits more =
     let w : Labelling Way = ways count seed in
@@ -191,11 +198,13 @@ ways-unreached count seed item limit most high a fits more =
           let value_is = x.value_is in
           let (low, up) = toll-range seed a.0 item in
           let above = high a.1 more in
-          let over : int_le (b.1 +ℤ pos (5 * (b.0 + 1))) (limit +ℤ pos (5 * count)) ≡ false = over-limit (b.1 +ℤ pos (5 * (b.0 + 1))) (limit +ℤ pos (5 * count)) (omega (arith, ints)) in
+          let over : int_le (b.1 +ℤ pos (5 * (b.0 + 1))) (limit +ℤ pos (5 * count)) ≡ false =
+          over-limit (b.1 +ℤ pos (5 * (b.0 + 1))) (limit +ℤ pos (5 * count)) (omega (arith, ints)) in
           ap (λ t. cond t (Some b) None) over
     ] refl
 
-pub ways-end : (count seed before : ℕ) (item : ℕ) (limit most : ℤ) → ((v : ℤ) → IsAbove most v → (limit +ℤ pos (5 * count)) <ℤ (v +ℤ pos (5 * item))) →
+pub ways-end : (count seed before : ℕ) (item : ℕ) (limit most : ℤ) →
+    ((v : ℤ) → IsAbove most v → (limit +ℤ pos (5 * count)) <ℤ (v +ℤ pos (5 * item))) →
     NoneFollowsAbove (ways count seed) WayFits (λ a. a.0) (λ a. a.1) (way_may_close count limit) before item most
 ways-end count seed before item limit most high a fits ends more = ways-unreached count seed item limit most high a fits more
 
@@ -214,7 +223,8 @@ weight item = item * 5 % 7 + 1
 abbrev pub hauls : ℕ → ℕ → ℕ → Labelling Haul
 hauls count seed room = record {
   start = λ item. cond (nat_lt item count && nat_lt (weight item) room) (Some (haul item (toll seed item item) (weight item))) None;
-  extend = λ a item. cond (nat_lt a.0 item && nat_lt item count && nat_lt (a.2 + weight item) room) (Some (haul item (a.1 +ℤ toll seed a.0 item) (a.2 + weight item))) None;
+  extend = λ a item. cond (nat_lt a.0 item && nat_lt item count && nat_lt (a.2 + weight item) room)
+      (Some (haul item (a.1 +ℤ toll seed a.0 item) (a.2 + weight item))) None;
 }
 
 -- the same last item, no greater cost and no greater load
@@ -263,9 +273,11 @@ record IsHaulStep (count seed room : ℕ) (a b : Haul) (item : ℕ) : Type 0 whe
   pub value_is : b.1 ≡ a.1 +ℤ toll seed a.0 item
   pub load_is : b.2 ≡ a.2 + weight item
 
-haul-step : (count seed room : ℕ) (a b : Haul) (item : ℕ) → (hauls count seed room).extend a item ≡ Some b → IsHaulStep count seed room a b item
+haul-step : (count seed room : ℕ) (a b : Haul) (item : ℕ) → (hauls count seed room).extend a item ≡ Some b →
+    IsHaulStep count seed room a b item
 haul-step count seed room a b item e =
-    let (test, is) = from-cond (nat_lt a.0 item && nat_lt item count && nat_lt (a.2 + weight item) room) (haul item (a.1 +ℤ toll seed a.0 item) (a.2 + weight item)) b e in
+    let (test, is) = from-cond (nat_lt a.0 item && nat_lt item count && nat_lt (a.2 + weight item) room)
+    (haul item (a.1 +ℤ toll seed a.0 item) (a.2 + weight item)) b e in
     let (front, right) = both_true (nat_lt a.0 item && nat_lt item count) (nat_lt (a.2 + weight item) room) test in
     let (left, middle) = both_true (nat_lt a.0 item) (nat_lt item count) front in
     let last : Haul → ℕ = λ w. w.0 in
@@ -283,9 +295,11 @@ haul-step count seed room a b item e =
 step-haul : (count seed room : ℕ) (a : Haul) (item : ℕ) → a.0 < item → item < count → a.2 + weight item < room →
     (hauls count seed room).extend a item ≡ Some (haul item (a.1 +ℤ toll seed a.0 item) (a.2 + weight item))
 step-haul count seed room a item up there fits =
-    onto-cond (nat_lt a.0 item && nat_lt item count && nat_lt (a.2 + weight item) room) (haul item (a.1 +ℤ toll seed a.0 item) (a.2 + weight item))
+    onto-cond (nat_lt a.0 item && nat_lt item count && nat_lt (a.2 + weight item) room)
+    (haul item (a.1 +ℤ toll seed a.0 item) (a.2 + weight item))
     (and_true (nat_lt a.0 item && nat_lt item count) (nat_lt (a.2 + weight item) room)
-    (and_true (nat_lt a.0 item) (nat_lt item count) (grind (arith, nat_tests)) (grind (arith, nat_tests))) (is-below (a.2 + weight item) room fits))
+    (and_true (nat_lt a.0 item) (nat_lt item count) (grind (arith, nat_tests)) (grind (arith, nat_tests)))
+    (is-below (a.2 + weight item) room fits))
 
 pub hauls-kept : (count seed room : ℕ) → IsKept (hauls count seed room) (GoodAs haul_good)
 hauls-kept count seed room = record {
@@ -301,8 +315,11 @@ hauls-kept count seed room = record {
       let trip = y.item in let value = y.value in let load = y.load in
       let up = x.up in let fits = x.fits in let value_is = x.value_is in let load_is = x.load_is in
       let same : toll seed a.0 item ≡ toll seed b.0 item = ap (λ i. toll seed i item) trip in
-      let next : Haul = haul item (a.1 +ℤ toll seed a.0 item) (a.2 + weight item) in
-      (next, step-haul count seed room a item (omega arith) x.there (omega arith), parts-haul next b' (sym x.item_is) (omega (arith, ints)) (omega arith));
+      let next : Haul = haul item (a.1 +ℤ toll seed a.0 item) (a.2 + weight item) in (
+        next,
+        step-haul count seed room a item (omega arith) x.there (omega arith),
+        parts-haul next b' (sym x.item_is) (omega (arith, ints)) (omega arith),
+      );
 }
 
 pub hauls-valued : (count seed room : ℕ) → IsValued (hauls count seed room) (GoodAs haul_good) (λ a. a.1) haul_close
@@ -322,7 +339,8 @@ hauls-valued count seed room = record {
       (a.1, refl, omega (arith, ints), (λ less. omega (arith, ints)));
 }
 
-haul-starts : (count seed room item : ℕ) (a : Haul) → (hauls count seed room).start item ≡ Some a → (item < count) × (weight item < room) × (haul item (toll seed item item) (weight item) ≡ a)
+haul-starts : (count seed room item : ℕ) (a : Haul) → (hauls count seed room).start item ≡ Some a →
+    (item < count) × (weight item < room) × (haul item (toll seed item item) (weight item) ≡ a)
 haul-starts count seed room item a e =
     let (test, is) = from-cond (nat_lt item count && nat_lt (weight item) room) (haul item (toll seed item item) (weight item)) a e in
     let (left, right) = both_true (nat_lt item count) (nat_lt (weight item) room) test in
@@ -330,7 +348,8 @@ haul-starts count seed room item a e =
 
 pub hauls-stepwise : (count seed room : ℕ) → IsStepwise (hauls count seed room) count (λ a. a.0)
 hauls-stepwise count seed room = record {
-  starts = λ item a e. let (there, fits, is) = haul-starts count seed room item a e in let last : Haul → ℕ = λ w. w.0 in (there, sym (ap last is));
+  starts = λ item a e. let (there, fits, is) = haul-starts count seed room item a e in let last : Haul → ℕ = λ w. w.0 in
+      (there, sym (ap last is));
   steps = λ a b item e. let x = haul-step count seed room a b item e in (x.up, x.there, x.item_is);
 }
 
@@ -396,7 +415,8 @@ any_way limit a = true
 pub singles-kept : (count : ℕ) → IsKept (singles count) (GoodAs way_good)
 singles-kept count = record {
   same = λ a. parts-good a a refl (omega (arith, ints));
-  through = λ a b c h k. let (t1, v1) = good-parts a b h in let (t2, v2) = good-parts b c k in parts-good a c (t1 ∙ t2) (omega (arith, ints));
+  through = λ a b c h k. let (t1, v1) = good-parts a b h in let (t2, v2) = good-parts b c k in
+      parts-good a c (t1 ∙ t2) (omega (arith, ints));
   extended = λ a b b' item h e. absurd (cc);
 }
 

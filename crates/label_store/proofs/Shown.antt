@@ -59,8 +59,10 @@ once-right (x ∷ xs) made h = once-right xs made h.1
 
 pub once-both-less : (kept made : List ℕ) (i : ℕ) → AreOnce (kept ++ made) → AreOnce (kept ++ (take i made ++ drop (suc i) made))
 once-both-less [] made i h = once-less made i h
-once-both-less (x ∷ xs) made i h =
-    (not-in-both x xs (take i made ++ drop (suc i) made) (not-in-left x xs made h.0) (not-in-less x made i (not-in-right x xs made h.0)), once-both-less xs made i h.1)
+once-both-less (x ∷ xs) made i h = (
+  not-in-both x xs (take i made ++ drop (suc i) made) (not-in-left x xs made h.0) (not-in-less x made i (not-in-right x xs made h.0)),
+  once-both-less xs made i h.1,
+)
 
 append-none : (xs : List ℕ) → xs ++ [] ≡ xs
 append-none [] = refl
@@ -81,7 +83,8 @@ module _ {X : Type 0} where
       let rest = shown-length s ids h.1 in
       ap (λ (l : List X). length l) (shown-cons s id ids x.0 x.1) ∙ (omega (arith, rest))
 
-  pub shown-at : (s : Shelf X) (ids : List ℕ) (i z : ℕ) → AreLive s ids → i < length ids → slice_get (shown s ids) i ≡ label_at s (slice_index_or ids i z)
+  pub shown-at : (s : Shelf X) (ids : List ℕ) (i z : ℕ) → AreLive s ids → i < length ids →
+      slice_get (shown s ids) i ≡ label_at s (slice_index_or ids i z)
   shown-at s [] i z h b = absurd (omega arith)
   shown-at s (id ∷ ids) zero z h b =
       let x = some-of (label_at s id) h.0 in
@@ -108,13 +111,16 @@ module _ {X : Type 0} where
   live-both s (x ∷ xs) ys h k = (h.0, live-both s xs ys h.1 k)
 
   -- where a number is not in the list, a change of it shows nothing
-  pub shown-same : (s t : Shelf X) (id : ℕ) (ids : List ℕ) → ((x : ℕ) → x ≢ id → label_at t x ≡ label_at s x) → IsNotIn id ids → shown t ids ≡ shown s ids
+  pub shown-same : (s t : Shelf X) (id : ℕ) (ids : List ℕ) → ((x : ℕ) → x ≢ id → label_at t x ≡ label_at s x) →
+      IsNotIn id ids → shown t ids ≡ shown s ids
   shown-same s t id [] same h = refl
   shown-same s t id (x ∷ xs) same h =
       let here : label_at t x ≡ label_at s x = same x (λ e. h.0 (sym e)) in
-      ap (λ (o : Option X). cons_option o (shown t xs)) here ∙ ap (λ (l : List X). cons_option (label_at s x) l) (shown-same s t id xs same h.1)
+      ap (λ (o : Option X). cons_option o (shown t xs)) here
+      ∙ ap (λ (l : List X). cons_option (label_at s x) l) (shown-same s t id xs same h.1)
 
-  pub live-same : (s t : Shelf X) (id : ℕ) (ids : List ℕ) → ((x : ℕ) → x ≢ id → label_at t x ≡ label_at s x) → IsNotIn id ids → AreLive s ids → AreLive t ids
+  pub live-same : (s t : Shelf X) (id : ℕ) (ids : List ℕ) → ((x : ℕ) → x ≢ id → label_at t x ≡ label_at s x) → IsNotIn id ids →
+      AreLive s ids → AreLive t ids
   live-same s t id [] same h l = tt
   live-same s t id (x ∷ xs) same h l =
       let here : label_at s x ≡ label_at t x = sym (same x (λ e. h.0 (sym e))) in
@@ -143,7 +149,8 @@ module _ {X : Type 0} where
   shown-both s xs ys = filter_map-append (label_at s) xs ys
 
   -- a label put in under a free number
-  pub put-stocked : (s t : Shelf X) (id : ℕ) (x : X) (kept made : List ℕ) → IsStocked s kept made → label_at s id ≡ None → label_at t id ≡ Some x →
+  pub put-stocked : (s t : Shelf X) (id : ℕ) (x : X) (kept made : List ℕ) → IsStocked s kept made →
+      label_at s id ≡ None → label_at t id ≡ Some x →
       ((y : ℕ) → y ≢ id → label_at t y ≡ label_at s y) → IsStocked t kept (made ++ id ∷ [])
   put-stocked s t id x kept made h free here others =
       let apart : IsNotIn id (kept ++ made) = free-not-in s id (kept ++ made) free h.live in
@@ -166,7 +173,8 @@ module _ {X : Type 0} where
   put-kept s t id kept made h free others =
       shown-same s t id kept others (not-in-left id kept made (free-not-in s id (kept ++ made) free h.live))
 
-  pub put-made : (s t : Shelf X) (id : ℕ) (x : X) (kept made : List ℕ) → IsStocked s kept made → label_at s id ≡ None → label_at t id ≡ Some x →
+  pub put-made : (s t : Shelf X) (id : ℕ) (x : X) (kept made : List ℕ) → IsStocked s kept made →
+      label_at s id ≡ None → label_at t id ≡ Some x →
       ((y : ℕ) → y ≢ id → label_at t y ≡ label_at s y) → shown t (made ++ id ∷ []) ≡ shown s made ++ x ∷ []
   put-made s t id x kept made h free here others =
       let apart : IsNotIn id made = not-in-right id kept made (free-not-in s id (kept ++ made) free h.live) in
@@ -175,7 +183,8 @@ module _ {X : Type 0} where
       ∙ ap (λ (l : List X). shown s made ++ l) (shown-cons t id [] x here)
 
   -- the list without the number at a place
-  shown-less : (s : Shelf X) (ids : List ℕ) (i : ℕ) → AreLive s ids → shown s (take i ids ++ drop (suc i) ids) ≡ take i (shown s ids) ++ drop (suc i) (shown s ids)
+  shown-less : (s : Shelf X) (ids : List ℕ) (i : ℕ) → AreLive s ids →
+      shown s (take i ids ++ drop (suc i) ids) ≡ take i (shown s ids) ++ drop (suc i) (shown s ids)
   shown-less s [] zero h = refl
   shown-less s [] (suc i) h = refl
   shown-less s (id ∷ ids) zero h =
@@ -194,7 +203,8 @@ module _ {X : Type 0} where
   live-less s (id ∷ ids) (suc i) h = (h.0, live-less s ids i h.1)
 
   -- a label taken out
-  pub out-stocked : (s t : Shelf X) (kept made : List ℕ) (i id : ℕ) → IsStocked s kept made → i < length made → id ≡ slice_index_or made i id →
+  pub out-stocked : (s t : Shelf X) (kept made : List ℕ) (i id : ℕ) → IsStocked s kept made → i < length made →
+      id ≡ slice_index_or made i id →
       ((y : ℕ) → y ≢ id → label_at t y ≡ label_at s y) → IsStocked t kept (take i made ++ drop (i + 1) made)
   out-stocked s t kept made i id h b is others =
       let apart : IsNotIn id kept = subst (λ (n : ℕ). IsNotIn n kept) (sym is) (apart-kept kept made i id h.once b) in
@@ -207,7 +217,8 @@ module _ {X : Type 0} where
 
   pub out-kept : (s t : Shelf X) (kept made : List ℕ) (i id : ℕ) → IsStocked s kept made → i < length made → id ≡ slice_index_or made i id →
       ((y : ℕ) → y ≢ id → label_at t y ≡ label_at s y) → shown t kept ≡ shown s kept
-  out-kept s t kept made i id h b is others = shown-same s t id kept others (subst (λ (n : ℕ). IsNotIn n kept) (sym is) (apart-kept kept made i id h.once b))
+  out-kept s t kept made i id h b is others =
+      shown-same s t id kept others (subst (λ (n : ℕ). IsNotIn n kept) (sym is) (apart-kept kept made i id h.once b))
 
   pub out-made : (s t : Shelf X) (kept made : List ℕ) (i id : ℕ) → IsStocked s kept made → i < length made → id ≡ slice_index_or made i id →
       ((y : ℕ) → y ≢ id → label_at t y ≡ label_at s y) →
@@ -215,15 +226,24 @@ module _ {X : Type 0} where
   out-made s t kept made i id h b is others =
       let rest : List ℕ = take i made ++ drop (suc i) made in
       let apart : IsNotIn id rest = subst (λ (n : ℕ). IsNotIn n rest) (sym is) (apart-at made i id (once-right kept made h.once) b) in
-      let e : shown t rest ≡ take i (shown s made) ++ drop (suc i) (shown s made) = shown-same s t id rest others apart ∙ shown-less s made i (live-right s kept made h.live) in
+      let e : shown t rest ≡ take i (shown s made) ++ drop (suc i) (shown s made) =
+      shown-same s t id rest others apart ∙ shown-less s made i (live-right s kept made h.live) in
       rw add-one e
 
   -- what a push that may fail leaves
-  pub push-stocked : (s t : Shelf X) (id : ℕ) (x : X) (kept made made' : List ℕ) (ok : Bool) → IsStocked s kept made → label_at s id ≡ None → label_at t id ≡ Some x →
+  pub push-stocked : (s t : Shelf X) (id : ℕ) (x : X) (kept made made' : List ℕ) (ok : Bool) → IsStocked s kept made →
+      label_at s id ≡ None → label_at t id ≡ Some x →
       ((y : ℕ) → y ≢ id → label_at t y ≡ label_at s y) → made' ≡ (if ok then made ++ id ∷ [] else made) → IsStocked t kept made'
-  push-stocked s t id x kept made made' true h free here others e = subst (λ (l : List ℕ). IsStocked t kept l) (sym e) (put-stocked s t id x kept made h free here others)
-  push-stocked s t id x kept made made' false h free here others e = subst (λ (l : List ℕ). IsStocked t kept l) (sym e) (put-loose s t id kept made h free others)
+  push-stocked s t id x kept made made' true h free here others e =
+      subst (λ (l : List ℕ). IsStocked t kept l) (sym e) (put-stocked s t id x kept made h free here others)
+  push-stocked s t id x kept made made' false h free here others e =
+      subst (λ (l : List ℕ). IsStocked t kept l) (sym e) (put-loose s t id kept made h free others)
 
   -- the second list behind the first
   pub all-kept : (s : Shelf X) (kept made : List ℕ) → IsStocked s kept made → IsStocked s (kept ++ made) []
-  all-kept s kept made h = record { live = live-both s (kept ++ made) [] h.live tt; once = subst (λ (l : List ℕ). AreOnce l) (sym (append-none (kept ++ made))) h.once }
+  all-kept s kept made h =
+      record {
+        live = live-both s (kept ++ made) [] h.live tt;
+        once =
+            subst (λ (l : List ℕ). AreOnce l) (sym (append-none (kept ++ made))) h.once;
+      }

@@ -10,5 +10,6 @@ singles-few count = let Few : ℕ → Type 0 = λ cap. cap ≤ 10000 in All-cons
 
 pub singles-modest : (count : ℕ) → HasModestWorths (single_problem count)
 singles-modest count class [] there = tt
-singles-modest count class (x ∷ []) there = elim (nat_lt x count) as (λ b. IfSome (cond b (Some 1) None) (λ worth. worth ≤ 4000000000)) [ true ↦ omega arith | false ↦ tt ]
+singles-modest count class (x ∷ []) there =
+    elim (nat_lt x count) as (λ b. IfSome (cond b (Some 1) None) (λ worth. worth ≤ 4000000000)) [ true ↦ omega arith | false ↦ tt ]
 singles-modest count class (x ∷ y ∷ rest) there = tt

@@ -19,7 +19,8 @@ abbrev pub step : ℕ → ℕ → ℤ → Step
 step class item value = (class, item, value)
 
 abbrev pub first_step : List Price → ℕ → ℕ → Option Step
-first_step prices class item = cond (nat_lt class 2 && nat_lt item (length prices)) (Some (step class item (pos 1000 -ℤ price_at prices item))) None
+first_step prices class item =
+    cond (nat_lt class 2 && nat_lt item (length prices)) (Some (step class item (pos 1000 -ℤ price_at prices item))) None
 
 abbrev pub next_step : List Price → Step → ℕ → Option Step
 next_step prices a item = cond (nat_lt a.1 item && nat_lt item (length prices)) (Some (step a.0 item (a.2 -ℤ price_at prices item))) None
@@ -75,7 +76,8 @@ good-parts a b h =
 
 parts-good : (a b : Step) → a.0 ≡ b.0 → a.1 ≡ b.1 → a.2 ≤ℤ b.2 → step_good a b ≡ true
 parts-good a b h k l =
-    and_true (nat_eq a.0 b.0 && nat_eq a.1 b.1) (int_le a.2 b.2) (and_true (nat_eq a.0 b.0) (nat_eq a.1 b.1) (grind (arith, nat_tests)) (grind (arith, nat_tests))) (grind (arith, ints))
+    and_true (nat_eq a.0 b.0 && nat_eq a.1 b.1) (int_le a.2 b.2)
+    (and_true (nat_eq a.0 b.0) (nat_eq a.1 b.1) (grind (arith, nat_tests)) (grind (arith, nat_tests))) (grind (arith, ints))
 
 -- what an extension is
 record IsNext (prices : List Price) (a b : Step) (item : ℕ) : Type 0 where
@@ -92,11 +94,20 @@ next-parts prices a b item e =
     let f : Step → ℕ = λ s. s.0 in
     let h : Step → ℕ = λ s. s.1 in
     let v : Step → ℤ = λ s. s.2 in
-    record { up = grind (arith, nat_tests); there = grind (arith, nat_tests); same = sym (ap f is); item_is = sym (ap h is); value_is = sym (ap v is) }
+    record {
+      up = grind (arith, nat_tests);
+      there = grind (arith, nat_tests);
+      same = sym (ap f is);
+      item_is =
+          sym (ap h is);
+      value_is = sym (ap v is);
+    }
 
-parts-next : (prices : List Price) (a : Step) (item : ℕ) → a.1 < item → item < length prices → next_step prices a item ≡ Some (step a.0 item (a.2 -ℤ price_at prices item))
+parts-next : (prices : List Price) (a : Step) (item : ℕ) → a.1 < item → item < length prices →
+    next_step prices a item ≡ Some (step a.0 item (a.2 -ℤ price_at prices item))
 parts-next prices a item up there =
-    onto-cond (nat_lt a.1 item && nat_lt item (length prices)) (step a.0 item (a.2 -ℤ price_at prices item)) (and_true (nat_lt a.1 item) (nat_lt item (length prices)) (grind (arith, nat_tests)) (grind (arith, nat_tests)))
+    onto-cond (nat_lt a.1 item && nat_lt item (length prices)) (step a.0 item (a.2 -ℤ price_at prices item))
+    (and_true (nat_lt a.1 item) (nat_lt item (length prices)) (grind (arith, nat_tests)) (grind (arith, nat_tests)))
 
 record IsFirst (prices : List Price) (class item : ℕ) (b : Step) : Type 0 where
   pub there : item < length prices
@@ -160,7 +171,8 @@ none-after : (prices : List Price) (class : ℕ) (xs : List ℕ) (b : Step) → 
 none-after prices class [] b e = cc
 none-after prices class (x ∷ xs) b e = cc
 
-from-after : (prices : List Price) (class : ℕ) (a b : Step) (xs : List ℕ) → label_after (of_class (steps prices) class) (Some a) xs ≡ Some b →
+from-after : (prices : List Price) (class : ℕ) (a b : Step) (xs : List ℕ) →
+    label_after (of_class (steps prices) class) (Some a) xs ≡ Some b →
     (rises_after (length prices) a.1 xs ≡ true) × (b.2 ≡ a.2 -ℤ price_of prices xs)
 from-after prices class a b [] e =
     let f : Option Step → Step = λ o. unwrap_or o a in
@@ -168,7 +180,8 @@ from-after prices class a b [] e =
     let same : a.2 ≡ b.2 = ap v (ap f e) in
     (refl, omega (arith, ints))
 from-after prices class a b (x ∷ xs) e =
-    elim (next_step prices a x) as (λ o. next_step prices a x ≡ o → label_after (of_class (steps prices) class) o xs ≡ Some b → (rises_after (length prices) a.1 (x ∷ xs) ≡ true) × (b.2 ≡ a.2 -ℤ price_of prices (x ∷ xs))) [
+    elim (next_step prices a x) as (λ o. next_step prices a x ≡ o → label_after (of_class (steps prices) class) o xs ≡ Some b →
+    (rises_after (length prices) a.1 (x ∷ xs) ≡ true) × (b.2 ≡ a.2 -ℤ price_of prices (x ∷ xs))) [
       | None ↦ λ is e'. absurd (none-after prices class xs b e')
       | Some next ↦ λ is e'.
           let p = next-parts prices a next x is in
@@ -179,7 +192,8 @@ from-after prices class a b (x ∷ xs) e =
           let there = p.there in
           let P : ℕ → Type 0 = λ i. rises_after (length prices) i xs ≡ true in (
             and_true (nat_lt a.1 x && nat_lt x (length prices)) (rises_after (length prices) x xs)
-                (and_true (nat_lt a.1 x) (nat_lt x (length prices)) (grind (arith, nat_tests)) (grind (arith, nat_tests))) (subst P item_is rest),
+                (and_true (nat_lt a.1 x) (nat_lt x (length prices)) (grind (arith, nat_tests)) (grind (arith, nat_tests)))
+                (subst P item_is rest),
             omega (arith, ints),
           )
     ] refl e
@@ -192,16 +206,19 @@ onto-list prices class below (x ∷ xs) worth e =
     let (there, rest) = both_true (nat_lt x (length prices)) (rises_after (length prices) x xs) tests in
     let first = step class x (pos 1000 -ℤ price_at prices x) in
     let made : first_step prices class x ≡ Some first =
-    onto-cond (nat_lt class 2 && nat_lt x (length prices)) first (and_true (nat_lt class 2) (nat_lt x (length prices)) (grind (arith, nat_tests)) there) in
+    onto-cond (nat_lt class 2 && nat_lt x (length prices)) first
+    (and_true (nat_lt class 2) (nat_lt x (length prices)) (grind (arith, nat_tests)) there) in
     let (b, is, value) = onto-after prices class first xs rest in
     let total : b.2 ≡ value_of prices worth (x ∷ xs) = omega (arith, ints) in
     (b, ap (λ o. label_after (of_class (steps prices) class) o xs) made ∙ is, ap Some total)
 
-from-list : (prices : List Price) (class : ℕ) (list : List ℕ) (a : Step) (v : ℤ) → label_of (of_class (steps prices) class) list ≡ Some a → Some a.2 ≡ Some v →
+from-list : (prices : List Price) (class : ℕ) (list : List ℕ) (a : Step) (v : ℤ) → label_of (of_class (steps prices) class) list ≡ Some a →
+    Some a.2 ≡ Some v →
     (worth : ℕ) × (rising_worth (length prices) list ≡ Some worth) × (v ≡ value_of prices worth list)
 from-list prices class [] a v e closes = absurd (cc)
 from-list prices class (x ∷ xs) a v e closes =
-    elim (first_step prices class x) as (λ o. first_step prices class x ≡ o → label_after (of_class (steps prices) class) o xs ≡ Some a → (worth : ℕ) × (rising_worth (length prices) (x ∷ xs) ≡ Some worth) × (v ≡ value_of prices worth (x ∷ xs))) [
+    elim (first_step prices class x) as (λ o. first_step prices class x ≡ o → label_after (of_class (steps prices) class) o xs ≡ Some a →
+    (worth : ℕ) × (rising_worth (length prices) (x ∷ xs) ≡ Some worth) × (v ≡ value_of prices worth (x ∷ xs))) [
       | None ↦ λ is e'. absurd (none-after prices class xs a e')
       | Some first ↦ λ is e'.
           let p = first-parts prices class x first is in
@@ -213,12 +230,14 @@ from-list prices class (x ∷ xs) a v e closes =
           let f : Option ℤ → ℤ = λ o. unwrap_or o v in
           let same : a.2 ≡ v = ap f closes in (
             1,
-            onto-cond (nat_lt x (length prices) && rises_after (length prices) x xs) 1 (and_true (nat_lt x (length prices)) (rises_after (length prices) x xs) (grind (arith, nat_tests)) (subst P item_is rest)),
+            onto-cond (nat_lt x (length prices) && rises_after (length prices) x xs) 1
+                (and_true (nat_lt x (length prices)) (rises_after (length prices) x xs) (grind (arith, nat_tests)) (subst P item_is rest)),
             omega (arith, ints),
           )
     ] refl e
 
-tied-of : (prices : List Price) (class : ℕ) → class < 2 → IsTied (of_class (steps prices) class) (λ a. Some a.2) prices (rising_worth (length prices))
+tied-of : (prices : List Price) (class : ℕ) → class < 2 →
+    IsTied (of_class (steps prices) class) (λ a. Some a.2) prices (rising_worth (length prices))
 tied-of prices class below = record {
   onto = λ list worth e. onto-list prices class below list worth e;
   from = λ list a v e closes. from-list prices class list a v e closes;

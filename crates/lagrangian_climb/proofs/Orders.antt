@@ -6,7 +6,8 @@ use Rattle.lagrangian_climb.specs.declared.key.Key.{Key}
 use Rattle.lagrangian_climb.specs.Choices.{key_cmp, is_before}
 
 pub key_total : IsTotalOrder key_cmp
-key_total = then_total (on_total (λ (k : Key). k.class) nat_cmp_total) (then_total (on_total (λ (k : Key). k.value) int_cmp_total) (on_total (λ (k : Key). k.place) nat_cmp_total))
+key_total = then_total (on_total (λ (k : Key). k.class) nat_cmp_total)
+    (then_total (on_total (λ (k : Key). k.value) int_cmp_total) (on_total (λ (k : Key). k.place) nat_cmp_total))
 
 pub before_order : IsStrictWeakOrder is_before
 before_order = ranks_by key_total (λ (k : Key). k)

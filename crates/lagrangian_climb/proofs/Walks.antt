@@ -18,8 +18,10 @@ pub places-below : (k m : ℕ) (caps counts : List ℕ) (keys : List Key) → Al
 places-below k m caps counts [] all = tt
 places-below k m caps counts (x ∷ xs) all =
     let here : IsGain k m x = All-get_or (IsGain k m) (x ∷ xs) 0 x (omega arith) all in
-    let rest : AllBelow m (chosen_places caps (seen counts x) xs) = places-below k m caps (seen counts x) xs (All-tail (IsGain k m) x xs all) in
-    elim (has_room caps counts x) as (λ b. AllBelow m (cond b (x.place ∷ chosen_places caps (seen counts x) xs) (chosen_places caps (seen counts x) xs))) [
+    let rest : AllBelow m (chosen_places caps (seen counts x) xs) =
+    places-below k m caps (seen counts x) xs (All-tail (IsGain k m) x xs all) in
+    elim (has_room caps counts x) as
+    (λ b. AllBelow m (cond b (x.place ∷ chosen_places caps (seen counts x) xs) (chosen_places caps (seen counts x) xs))) [
       | true ↦ (here.place, rest)
       | false ↦ rest
     ]
@@ -28,7 +30,9 @@ pub places-few : (caps counts : List ℕ) (keys : List Key) → length (chosen_p
 places-few caps counts [] = omega arith
 places-few caps counts (x ∷ xs) =
     let rest : length (chosen_places caps (seen counts x) xs) ≤ length xs = places-few caps (seen counts x) xs in
-    elim (has_room caps counts x) as (λ b. length (cond b (x.place ∷ chosen_places caps (seen counts x) xs) (chosen_places caps (seen counts x) xs)) ≤ suc (length xs)) [ true ↦ omega arith | false ↦ omega arith ]
+    elim (has_room caps counts x) as
+    (λ b. length (cond b (x.place ∷ chosen_places caps (seen counts x) xs) (chosen_places caps (seen counts x) xs))
+    ≤ suc (length xs)) [ true ↦ omega arith | false ↦ omega arith ]
 
 asked-set : (zs : List ℤ) (i : ℕ) (z : ℤ) → AreAsked zs → pos 0 ≤ℤ z → z ≤ℤ pos 30000000000000000 → AreAsked (slice_set zs i z)
 asked-set [] i z are low high = tt
@@ -41,7 +45,8 @@ asked-length (x ∷ xs) zero z = refl
 asked-length (x ∷ xs) (suc i) z = ap (λ (n : ℕ). suc n) (asked-length xs i z)
 
 -- what classes ask stays in range
-pub priced-asked : (k m : ℕ) (caps counts : List ℕ) (keys : List Key) (prices : List ℤ) → All (IsGain k m) keys → AreAsked prices → AreAsked (priced_classes caps counts keys prices)
+pub priced-asked : (k m : ℕ) (caps counts : List ℕ) (keys : List Key) (prices : List ℤ) → All (IsGain k m) keys → AreAsked prices →
+    AreAsked (priced_classes caps counts keys prices)
 priced-asked k m caps counts [] prices all are = are
 priced-asked k m caps counts (x ∷ xs) prices all are =
     let here : IsGain k m x = All-get_or (IsGain k m) (x ∷ xs) 0 x (omega arith) all in
@@ -49,34 +54,50 @@ priced-asked k m caps counts (x ∷ xs) prices all are =
     let high : neg_ℤ x.value ≤ℤ pos 30000000000000000 = omega (arith, ints, here.low) in
     let set : AreAsked (slice_set prices x.class (neg_ℤ x.value)) = asked-set prices x.class (neg_ℤ x.value) are low high in
     let next : AreAsked (cond (is_next caps counts x) (slice_set prices x.class (neg_ℤ x.value)) prices) =
-    elim (is_next caps counts x) as (λ b. AreAsked (cond b (slice_set prices x.class (neg_ℤ x.value)) prices)) [ true ↦ set | false ↦ are ] in
-    priced-asked k m caps (seen counts x) xs (cond (is_next caps counts x) (slice_set prices x.class (neg_ℤ x.value)) prices) (All-tail (IsGain k m) x xs all) next
+    elim (is_next caps counts x) as (λ b. AreAsked (cond b (slice_set prices x.class (neg_ℤ x.value)) prices)) [
+      | true ↦
+          set
+      | false ↦ are
+    ] in
+    priced-asked k m caps (seen counts x) xs (cond (is_next caps counts x) (slice_set prices x.class (neg_ℤ x.value)) prices)
+    (All-tail (IsGain k m) x xs all) next
 
 pub next-length : (b : Bool) (prices : List ℤ) (i : ℕ) (z : ℤ) → length (cond b (slice_set prices i z) prices) ≡ length prices
 next-length true prices i z = asked-length prices i z
 next-length false prices i z = refl
 
-pub priced-length : (caps counts : List ℕ) (keys : List Key) (prices : List ℤ) → length (priced_classes caps counts keys prices) ≡ length prices
+pub priced-length : (caps counts : List ℕ) (keys : List Key) (prices : List ℤ) →
+    length (priced_classes caps counts keys prices) ≡ length prices
 priced-length caps counts [] prices = refl
 priced-length caps counts (x ∷ xs) prices =
-    priced-length caps (seen counts x) xs (cond (is_next caps counts x) (slice_set prices x.class (neg_ℤ x.value)) prices) ∙ next-length (is_next caps counts x) prices x.class (neg_ℤ x.value)
+    priced-length caps (seen counts x) xs (cond (is_next caps counts x) (slice_set prices x.class (neg_ℤ x.value)) prices)
+    ∙ next-length (is_next caps counts x) prices x.class (neg_ℤ x.value)
 
 pub zero-asked : (zs : List ℤ) → ((i : ℕ) → number_at zs i ≡ pos 0) → AreAsked zs
 zero-asked [] h = tt
 zero-asked (z ∷ zs) h = let here : z ≡ pos 0 = h 0 in (omega (arith, ints), omega (arith, ints), zero-asked zs (λ i. h (suc i)))
 
 -- one key more
-pub places-more : (caps counts new : List ℕ) (keys : List Key) (i : ℕ) (places more : List ℕ) → i < length keys → new ≡ seen counts (get_or keys i no_key) →
+pub places-more : (caps counts new : List ℕ) (keys : List Key) (i : ℕ) (places more : List ℕ) → i < length keys →
+    new ≡ seen counts (get_or keys i no_key) →
     more ≡ cond (has_room caps counts (get_or keys i no_key)) (places ++ (get_or keys i no_key).place ∷ []) places →
     places ++ chosen_places caps counts (drop i keys) ≡ more ++ chosen_places caps new (drop (i + 1) keys)
 places-more caps counts new keys i places more h e is =
     let key : Key = get_or keys i no_key in
     let front : drop i keys ≡ key ∷ drop (i + 1) keys = rw add-one (drop-cons keys i no_key h) in
     let rest : List ℕ = chosen_places caps (seen counts key) (drop (i + 1) keys) in
-    let step : (b : Bool) → places ++ cond b (key.place ∷ rest) rest ≡ cond b (places ++ key.place ∷ []) places ++ rest = λ b. elim b as (λ b. places ++ cond b (key.place ∷ rest) rest ≡ cond b (places ++ key.place ∷ []) places ++ rest) [ true ↦ simp append_assoc | false ↦ refl ] in
-    ap (λ (l : List Key). places ++ chosen_places caps counts l) front ∙ (step (has_room caps counts key) ∙ (ap (λ (l : List ℕ). l ++ rest) (sym is) ∙ ap (λ (l : List ℕ). more ++ chosen_places caps l (drop (i + 1) keys)) (sym e)))
+    let step : (b : Bool) → places ++ cond b (key.place ∷ rest) rest ≡ cond b (places ++ key.place ∷ []) places ++ rest =
+    λ b. elim b as (λ b. places ++ cond b (key.place ∷ rest) rest ≡ cond b (places ++ key.place ∷ []) places ++ rest) [
+      | true ↦
+          simp append_assoc
+      | false ↦ refl
+    ] in
+    ap (λ (l : List Key). places ++ chosen_places caps counts l) front
+    ∙ (step (has_room caps counts key)
+    ∙ (ap (λ (l : List ℕ). l ++ rest) (sym is) ∙ ap (λ (l : List ℕ). more ++ chosen_places caps l (drop (i + 1) keys)) (sym e)))
 
-pub sum-more : (caps counts new : List ℕ) (keys : List Key) (i : ℕ) (sum more : ℤ) → i < length keys → new ≡ seen counts (get_or keys i no_key) →
+pub sum-more : (caps counts new : List ℕ) (keys : List Key) (i : ℕ) (sum more : ℤ) → i < length keys →
+    new ≡ seen counts (get_or keys i no_key) →
     more ≡ sum +ℤ cond (has_room caps counts (get_or keys i no_key)) (get_or keys i no_key).value (pos 0) →
     sum +ℤ chosen_sum caps counts (drop i keys) ≡ more +ℤ chosen_sum caps new (drop (i + 1) keys)
 sum-more caps counts new keys i sum more h e is =
@@ -85,24 +106,31 @@ sum-more caps counts new keys i sum more h e is =
     let rest : ℤ = chosen_sum caps (seen counts key) (drop (i + 1) keys) in
     let here : ℤ = cond (has_room caps counts key) key.value (pos 0) in
     let step : sum +ℤ (here +ℤ rest) ≡ (sum +ℤ here) +ℤ rest = omega (arith, ints) in
-    ap (λ (l : List Key). sum +ℤ chosen_sum caps counts l) front ∙ (step ∙ (ap (λ (z : ℤ). z +ℤ rest) (sym is) ∙ ap (λ (l : List ℕ). more +ℤ chosen_sum caps l (drop (i + 1) keys)) (sym e)))
+    ap (λ (l : List Key). sum +ℤ chosen_sum caps counts l) front
+    ∙ (step ∙ (ap (λ (z : ℤ). z +ℤ rest) (sym is) ∙ ap (λ (l : List ℕ). more +ℤ chosen_sum caps l (drop (i + 1) keys)) (sym e)))
 
-pub prices-more : (caps counts new : List ℕ) (keys : List Key) (i : ℕ) (prices more : List ℤ) → i < length keys → new ≡ seen counts (get_or keys i no_key) →
-    more ≡ cond (is_next caps counts (get_or keys i no_key)) (slice_set prices (get_or keys i no_key).class (neg_ℤ (get_or keys i no_key).value)) prices →
+pub prices-more : (caps counts new : List ℕ) (keys : List Key) (i : ℕ) (prices more : List ℤ) → i < length keys →
+    new ≡ seen counts (get_or keys i no_key) →
+    more ≡ cond (is_next caps counts (get_or keys i no_key))
+    (slice_set prices (get_or keys i no_key).class (neg_ℤ (get_or keys i no_key).value)) prices →
     priced_classes caps counts (drop i keys) prices ≡ priced_classes caps new (drop (i + 1) keys) more
 prices-more caps counts new keys i prices more h e is =
     let key : Key = get_or keys i no_key in
     let front : drop i keys ≡ key ∷ drop (i + 1) keys = rw add-one (drop-cons keys i no_key h) in
-    ap (λ (l : List Key). priced_classes caps counts l prices) front ∙ (ap (λ (l : List ℤ). priced_classes caps (seen counts key) (drop (i + 1) keys) l) (sym is) ∙ ap (λ (l : List ℕ). priced_classes caps l (drop (i + 1) keys) more) (sym e))
+    ap (λ (l : List Key). priced_classes caps counts l prices) front
+    ∙ (ap (λ (l : List ℤ). priced_classes caps (seen counts key) (drop (i + 1) keys) l) (sym is)
+    ∙ ap (λ (l : List ℕ). priced_classes caps l (drop (i + 1) keys) more) (sym e))
 
-set-few : (counts : List ℕ) (at v t : ℕ) → v ≤ t → ((i : ℕ) → slice_index counts i ≤ t) → (i : ℕ) → slice_index (slice_set counts at v) i ≤ t
+set-few : (counts : List ℕ) (at v t : ℕ) → v ≤ t → ((i : ℕ) → slice_index counts i ≤ t) → (i : ℕ) →
+    slice_index (slice_set counts at v) i ≤ t
 set-few [] at v t h all i = all i
 set-few (x ∷ xs) zero v t h all zero = h
 set-few (x ∷ xs) zero v t h all (suc i) = all (suc i)
 set-few (x ∷ xs) (suc at) v t h all zero = all zero
 set-few (x ∷ xs) (suc at) v t h all (suc i) = set-few xs at v t h (λ j. all (suc j)) i
 
-pub seen-few : (counts new : List ℕ) (key : Key) (t : ℕ) → new ≡ seen counts key → ((i : ℕ) → slice_index counts i ≤ t) → (i : ℕ) → slice_index new i ≤ t + 1
+pub seen-few : (counts new : List ℕ) (key : Key) (t : ℕ) → new ≡ seen counts key → ((i : ℕ) → slice_index counts i ≤ t) →
+    (i : ℕ) → slice_index new i ≤ t + 1
 seen-few counts new key t e all i =
     let here = all key.class in
     let top : slice_index counts key.class + 1 ≤ t + 1 = omega arith in
@@ -126,7 +154,8 @@ nothing-more (x ∷ xs) = ap (λ (l : List ℕ). x ∷ l) (nothing-more xs)
 
 pub places-end : (caps start counts : List ℕ) (keys : List Key) (i : ℕ) (places : List ℕ) → length keys ≤ i →
     chosen_places caps start keys ≡ places ++ chosen_places caps counts (drop i keys) → places ≡ chosen_places caps start keys
-places-end caps start counts keys i places h e = sym (e ∙ (ap (λ (l : List Key). places ++ chosen_places caps counts l) (drop_all i keys h) ∙ nothing-more places))
+places-end caps start counts keys i places h e =
+    sym (e ∙ (ap (λ (l : List Key). places ++ chosen_places caps counts l) (drop_all i keys h) ∙ nothing-more places))
 
 pub sum-end : (caps start counts : List ℕ) (keys : List Key) (i : ℕ) (sum : ℤ) → length keys ≤ i →
     chosen_sum caps start keys ≡ sum +ℤ chosen_sum caps counts (drop i keys) → sum ≡ chosen_sum caps start keys
@@ -136,7 +165,8 @@ sum-end caps start counts keys i sum h e =
 
 pub prices-end : (caps start counts : List ℕ) (keys : List Key) (i : ℕ) (first prices : List ℤ) → length keys ≤ i →
     priced_classes caps start keys first ≡ priced_classes caps counts (drop i keys) prices → prices ≡ priced_classes caps start keys first
-prices-end caps start counts keys i first prices h e = sym (e ∙ ap (λ (l : List Key). priced_classes caps counts l prices) (drop_all i keys h))
+prices-end caps start counts keys i first prices h e =
+    sym (e ∙ ap (λ (l : List Key). priced_classes caps counts l prices) (drop_all i keys h))
 
 -- one number 0 more
 zero-more : (zs : List ℤ) (z : ℤ) → z ≡ pos 0 → ((i : ℕ) → number_at zs i ≡ pos 0) → (i : ℕ) → number_at (zs ++ z ∷ []) i ≡ pos 0

@@ -25,7 +25,8 @@ abbrev pub gains_from : List Bool → List ℕ → List Price → ℕ → List C
 gains_from fixed caps prices place [] = []
 gains_from fixed caps prices place (c ∷ cs) =
     let rest = gains_from fixed caps prices (suc place) cs in
-    cond (is_in_play fixed caps c && int_lt (value prices c) (pos 0)) (record { class = c.class; value = value prices c; place = place } ∷ rest) rest
+    cond (is_in_play fixed caps c && int_lt (value prices c) (pos 0))
+    (record { class = c.class; value = value prices c; place = place } ∷ rest) rest
 
 abbrev pub gains_of : List Bool → List ℕ → List Price → List Column → List Key
 gains_of fixed caps prices pool = gains_from fixed caps prices 0 pool
@@ -43,7 +44,8 @@ playing_of fixed caps pool = playing_from fixed caps 0 pool
 -- before others the column of a place, where its value is below 0
 abbrev pub gain_before : List Price → ℕ → List Key → Option Column → List Key
 gain_before prices place rest None = rest
-gain_before prices place rest (Some c) = cond (int_lt (value prices c) (pos 0)) (record { class = c.class; value = value prices c; place = place } ∷ rest) rest
+gain_before prices place rest (Some c) =
+    cond (int_lt (value prices c) (pos 0)) (record { class = c.class; value = value prices c; place = place } ∷ rest) rest
 
 -- of the columns at some places those whose values are below 0
 abbrev pub gains_at : List Price → List Column → List ℕ → List Key
@@ -72,7 +74,8 @@ is_next caps counts key = slice_index counts key.class == slice_index caps key.c
 -- the places of the columns that are chosen of those in order, after so many of each class were seen
 abbrev pub chosen_places : List ℕ → List ℕ → List Key → List ℕ
 chosen_places caps counts [] = []
-chosen_places caps counts (k ∷ ks) = cond (has_room caps counts k) (k.place ∷ chosen_places caps (seen counts k) ks) (chosen_places caps (seen counts k) ks)
+chosen_places caps counts (k ∷ ks) =
+    cond (has_room caps counts k) (k.place ∷ chosen_places caps (seen counts k) ks) (chosen_places caps (seen counts k) ks)
 
 -- the sum of their values
 abbrev pub chosen_sum : List ℕ → List ℕ → List Key → ℤ
@@ -82,7 +85,8 @@ chosen_sum caps counts (k ∷ ks) = cond (has_room caps counts k) k.value (pos 0
 -- class prices: minus the value of the first column of a class for which there is no place
 abbrev pub priced_classes : List ℕ → List ℕ → List Key → List ℤ → List ℤ
 priced_classes caps counts [] prices = prices
-priced_classes caps counts (k ∷ ks) prices = priced_classes caps (seen counts k) ks (cond (is_next caps counts k) (slice_set prices k.class (neg_ℤ k.value)) prices)
+priced_classes caps counts (k ∷ ks) prices =
+    priced_classes caps (seen counts k) ks (cond (is_next caps counts k) (slice_set prices k.class (neg_ℤ k.value)) prices)
 
 -- the zeros of a list of a length
 pub record AreZeroCounts (n : ℕ) (counts : List ℕ) : Type 0 where

@@ -13,17 +13,21 @@ use Rattle.made_plans.specs.Rooms.{HasRoomForTrips}
 use Rattle.made_plans.proofs.Places.{there, first_mapped, le_test}
 
 -- a trip alone can be driven
-alone_drives : (day : DayFacts) (pool : Pool) (k : ℕ) (t : Trip) → slice_get day.trips k ≡ Some t → IsAlone day pool t → drives day pool (k ∷ []) ≡ true
+alone_drives : (day : DayFacts) (pool : Pool) (k : ℕ) (t : Trip) → slice_get day.trips k ≡ Some t → IsAlone day pool t →
+    drives day pool (k ∷ []) ≡ true
 alone_drives day pool k t at is =
     let out_is = is.out_is in
     let in_is = is.in_is in
     let short = is.short in
-    let first : nat_le (is.out + trip_seconds t) longest_driving ≡ true = le_test (is.out + trip_seconds t) longest_driving (omega (arith, short)) in
-    let last : nat_le (is.out + trip_seconds t + is.inward) longest_driving ≡ true = le_test (is.out + trip_seconds t + is.inward) longest_driving short in
+    let first : nat_le (is.out + trip_seconds t) longest_driving ≡ true =
+    le_test (is.out + trip_seconds t) longest_driving (omega (arith, short)) in
+    let last : nat_le (is.out + trip_seconds t + is.inward) longest_driving ≡ true =
+    le_test (is.out + trip_seconds t + is.inward) longest_driving short in
     rw (at, out_is, first, in_is, last) refl
 
 -- a trip alone has a worth as a block of the pool
-alone_worth : (day : DayFacts) (pool : Pool) (k : ℕ) (t : Trip) → slice_get day.params.pools 0 ≡ Some pool → slice_get day.trips k ≡ Some t → (is : IsAlone day pool t) →
+alone_worth : (day : DayFacts) (pool : Pool) (k : ℕ) (t : Trip) → slice_get day.params.pools 0 ≡ Some pool →
+    slice_get day.trips k ≡ Some t → (is : IsAlone day pool t) →
     block_worth day false 0 (k ∷ []) ≡ Some (pool.fixed + pool.dead_rate * is.out + pool.dead_rate * is.inward)
 alone_worth day pool k t pool_is at is =
     let out_is = is.out_is in

@@ -39,17 +39,27 @@ pub record IsLight (day : DayFacts) (group : Group) (way : ℕ) (p : Piece) : Ty
   pub short : p.driving ≤ longest_driving
 
 -- one drive of at most four and a half hours in a spread of at most thirteen is lawful
-lawful_one : (ten reduced : Bool) (driving spread : ℕ) → driving ≤ longest_driving → spread ≤ regular.spread → is_lawful (limits_for ten reduced) (record { pause = 0; driving = driving } ∷ []) spread ≡ true
+lawful_one : (ten reduced : Bool) (driving spread : ℕ) → driving ≤ longest_driving → spread ≤ regular.spread →
+    is_lawful (limits_for ten reduced) (record { pause = 0; driving = driving } ∷ []) spread ≡ true
 lawful_one ten reduced driving spread low within =
     let four : nat_le (driving + 0) 16200 ≡ true = le_test (driving + 0) 16200 (omega (arith, low)) in
     let nine : nat_le (driving + 0) 32400 ≡ true = le_test (driving + 0) 32400 (omega (arith, low)) in
     let tenth : nat_le (driving + 0) 36000 ≡ true = le_test (driving + 0) 36000 (omega (arith, low)) in
     let thirteen : nat_le spread 46800 ≡ true = le_test spread 46800 (omega (arith, within)) in
     let fifteen : nat_le spread 54000 ≡ true = le_test spread 54000 (omega (arith, within)) in
-    let Goal : Bool → Bool → Type 0 = λ ten reduced. is_lawful (limits_for ten reduced) (record { pause = 0; driving = driving } ∷ []) spread ≡ true in
+    let Goal : Bool → Bool → Type 0 =
+    λ ten reduced. is_lawful (limits_for ten reduced) (record { pause = 0; driving = driving } ∷ []) spread ≡ true in
     elim ten as (λ ten. Goal ten reduced) [
-      | true ↦ elim reduced as (λ reduced. Goal true reduced) [ true ↦ rw (tenth, four, fifteen) refl | false ↦ rw (tenth, four, thirteen) refl ]
-      | false ↦ elim reduced as (λ reduced. Goal false reduced) [ true ↦ rw (nine, four, fifteen) refl | false ↦ rw (nine, four, thirteen) refl ]
+      | true ↦ elim reduced as (λ reduced. Goal true reduced) [
+        | true ↦ rw (tenth, four, fifteen) refl
+        | false ↦
+            rw (tenth, four, thirteen) refl
+      ]
+      | false ↦ elim reduced as (λ reduced. Goal false reduced) [
+        | true ↦ rw (nine, four, fifteen) refl
+        | false ↦
+            rw (nine, four, thirteen) refl
+      ]
     ]
 
 module _ (day : DayFacts) (pool : Pool) (group : Group) (way : ℕ) (roomy : IsRoomyWith day pool group way) where
@@ -64,21 +74,30 @@ module _ (day : DayFacts) (pool : Pool) (group : Group) (way : ℕ) (roomy : IsR
       let in_is = near_to.in_is in
       let spread : ℕ = near_from.out + group.sign_on + p.driving + near_to.inward + group.sign_off in
       let lasts = light.runs.lasts in
-      let whole : (p.end.0 +ℤ pos near_to.inward +ℤ pos group.sign_off -ℤ (p.begin.0 -ℤ pos near_from.out -ℤ pos group.sign_on)) ≡ pos spread = omega (arith, ints, lasts) in
+      let whole : (p.end.0 +ℤ pos near_to.inward +ℤ pos group.sign_off -ℤ (p.begin.0 -ℤ pos near_from.out -ℤ pos group.sign_on))
+      ≡ pos spread = omega (arith, ints, lasts) in
       let fits : spread ≤ regular.spread = omega (arith, near_from.out_short, near_to.in_short, light.short, roomy.spread) in
       let lawful = lawful_one group.ten group.reduced p.driving spread light.short fits in
       (group.fixed + group.rate * spread, rw (group_is, at, out_is, in_is, whole, lawful) refl)
 
   -- the pieces of a block are light
-  block_light : (number : ℕ) (column : Column) (worth : ℕ) → block_worth day false column.class column.items ≡ Some worth → All (IsLight day group way) (block_pieces day number column)
+  block_light : (number : ℕ) (column : Column) (worth : ℕ) → block_worth day false column.class column.items ≡ Some worth →
+      All (IsLight day group way) (block_pieces day number column)
   block_light number column worth e =
       let list : List ℕ = column.items in
-      let cost : Pool → Option ℕ = λ pool. option_and_then (λ (ts : List Trip). option_and_then (λ (c : ℕ). Some c) (block_cost day pool ts)) (trips_at day.trips list) in
-      let (up, e1) = given_true (rises list) (option_and_then (λ (pool : Pool). given (can_be_driven day pool list) (cost pool)) (slice_get day.params.pools column.class)) worth e in
-      let (q, is_q, e2) = and_then_some (λ (pool : Pool). given (can_be_driven day pool list) (cost pool)) (slice_get day.params.pools column.class) worth e1 in
+      let cost : Pool → Option ℕ =
+      λ pool. option_and_then (λ (ts : List Trip). option_and_then (λ (c : ℕ). Some c) (block_cost day pool ts))
+      (trips_at day.trips list) in
+      let (up, e1) = given_true (rises list)
+      (option_and_then (λ (pool : Pool). given (can_be_driven day pool list) (cost pool)) (slice_get day.params.pools column.class))
+      worth e in
+      let (q, is_q, e2) = and_then_some (λ (pool : Pool). given (can_be_driven day pool list) (cost pool))
+      (slice_get day.params.pools column.class) worth e1 in
       let (driven, e3) = given_true (can_be_driven day q list) (cost q) worth e2 in
       let Light : List Piece → Type 0 = λ ps. All (IsLight day group way) ps in
-      let Goal : Option (List Leg) → Type 0 = λ o. legs_of day q list ≡ o → option_map_or (λ pieces. list_all may_be_driven pieces) (option_and_then (λ (legs : List Leg). Some (pieces_from 1 1 (parts day q legs))) o) false ≡ true →
+      let Goal : Option (List Leg) → Type 0 = λ o. legs_of day q list ≡ o →
+      option_map_or (λ pieces. list_all may_be_driven pieces)
+      (option_and_then (λ (legs : List Leg). Some (pieces_from 1 1 (parts day q legs))) o) false ≡ true →
       Light (unwrap_or (option_and_then (λ (legs : List Leg). Some (pieces_from number 1 (parts day q legs))) o) []) in
       let by : (o : Option (List Leg)) → Goal o = λ o. elim o as Goal [
         | None ↦ λ is tested. All-nil (IsLight day group way)
@@ -88,14 +107,18 @@ module _ (day : DayFacts) (pool : Pool) (group : Group) (way : ℕ) (roomy : IsR
             let short = pieces_short 1 number 1 1 (parts day q legs) tested in
             λ k d within. record { runs = running k d within; short = short k d within }
       ] in
-      let same : pieces_of day q number list ≡ option_and_then (λ (legs : List Leg). Some (pieces_from number 1 (parts day q legs))) (legs_of day q list) = refl in
-      let there_is : block_pieces day number column ≡ unwrap_or (pieces_of day q number list) [] = ap (λ (o : Option Pool). unwrap_or (option_and_then (λ (pool : Pool). pieces_of day pool number list) o) []) is_q in
+      let same : pieces_of day q number list ≡ option_and_then (λ (legs : List Leg). Some (pieces_from number 1 (parts day q legs)))
+      (legs_of day q list) = refl in
+      let there_is : block_pieces day number column ≡ unwrap_or (pieces_of day q number list) [] =
+      ap (λ (o : Option Pool). unwrap_or (option_and_then (λ (pool : Pool). pieces_of day pool number list) o) []) is_q in
       subst Light (sym there_is) (by (legs_of day q list) refl driven)
 
-  blocks_light : (number : ℕ) (columns : List Column) → AreColumns (blocks_of day false) columns → All (IsLight day group way) (pieces_by_block day number columns)
+  blocks_light : (number : ℕ) (columns : List Column) → AreColumns (blocks_of day false) columns →
+      All (IsLight day group way) (pieces_by_block day number columns)
   blocks_light number [] are = All-nil (IsLight day group way)
   blocks_light number (column ∷ columns) are =
-      All-append (IsLight day group way) (block_pieces day number column) (pieces_by_block day (number + 1) columns) (block_light number column column.worth are.0.1) (blocks_light (number + 1) columns are.1)
+      All-append (IsLight day group way) (block_pieces day number column) (pieces_by_block day (number + 1) columns)
+      (block_light number column column.worth are.0.1) (blocks_light (number + 1) columns are.1)
 
   pub room_for_pieces : HasRoomForPieces day
   room_for_pieces columns plan k within =
@@ -106,5 +129,6 @@ module _ (day : DayFacts) (pool : Pool) (group : Group) (way : ℕ) (roomy : IsR
       let (worth, alone) = light_worth pieces k p at (all_there (IsLight day group way) pieces k p light at) in
       let listed : HasListedColumns (blocks_of day false) = blocks_listed (record { day = day; counts = false }) in
       let (some, first) = first_mapped (λ (g : Group). g.cap) day.params.groups group roomy.group_is in
-      let few : length pieces ≤ length day.trips = omega (arith, order_length moment ps, all_few day 1 columns, plan_items (blocks_of day false) columns listed plan) in
+      let few : length pieces ≤ length day.trips =
+      omega (arith, order_length moment ps, all_few day 1 columns, plan_items (blocks_of day false) columns listed plan) in
       record { class = 0; worth = worth; there = some; alone = alone; wide = omega (arith, first, few, roomy.drivers) }

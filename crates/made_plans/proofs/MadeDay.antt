@@ -55,7 +55,8 @@ made_params trips = record {
 abbrev pub made_dead : Point → Point → Option ℕ
 made_dead from to =
     if point_eq from to then Some 0 else
-    value_at move_key_eq dead_key_of (λ row. row.time) (rows_each (λ from. dead_rows from places) places) (record { version = 1; area = 1; group = 1; from = from; to = to })
+    value_at move_key_eq dead_key_of (λ row. row.time) (rows_each (λ from. dead_rows from places) places)
+    (record { version = 1; area = 1; group = 1; from = from; to = to })
 
 -- what is told of a made day
 pub record IsMade (trips : ℕ) (day : DayFacts) : Type 0 where
@@ -83,36 +84,44 @@ params_made seed trips few =
     }
 
 -- the rows at places are made rows, and no more than the places
-pub rows_at_made : (rows : List TripRow) (places : List ℕ) → All IsMadeRow rows → All IsMadeRow (rows_at rows places) × (length (rows_at rows places) ≤ length places)
+pub rows_at_made : (rows : List TripRow) (places : List ℕ) → All IsMadeRow rows →
+    All IsMadeRow (rows_at rows places) × (length (rows_at rows places) ≤ length places)
 rows_at_made rows [] all = (All-nil IsMadeRow, omega arith)
 rows_at_made rows (place ∷ places) all = by (slice_get rows place) refl (rows_at_made rows places all)
   where
-    by : (o : Option TripRow) → slice_get rows place ≡ o → All IsMadeRow (rows_at rows places) × (length (rows_at rows places) ≤ length places) →
+    by : (o : Option TripRow) → slice_get rows place ≡ o →
+        All IsMadeRow (rows_at rows places) × (length (rows_at rows places) ≤ length places) →
         All IsMadeRow (rows_at rows (place ∷ places)) × (length (rows_at rows (place ∷ places)) ≤ suc (length places))
     by None is rest = rw is (rest.0, omega (arith, rest.1))
     by (Some row) is rest =
-        let here : IsMadeRow row = (let P : TripRow → Type 0 = λ row. IsMadeRow row in subst P (get_or_from_slice_get rows place row row is) (all place row (slice_get_within rows place row is))) in
+        let here : IsMadeRow row =
+        (let P : TripRow → Type 0 = λ row. IsMadeRow row in
+        subst P (get_or_from_slice_get rows place row row is) (all place row (slice_get_within rows place row is))) in
         rw is (All-cons IsMadeRow row (rows_at rows places) here rest.0, omega (arith, rest.1))
 
 -- trips that are joined
-joins : (fid : ℕ) (one : Result Trip TripFault) (others : Result (List Trip) DayModelFault) (trips : List Trip) → joined (named fid one) others ≡ Ok trips →
+joins : (fid : ℕ) (one : Result Trip TripFault) (others : Result (List Trip) DayModelFault) (trips : List Trip) →
+    joined (named fid one) others ≡ Ok trips →
     (t : Trip) × (ts : List Trip) × (one ≡ Ok t) × (others ≡ Ok ts) × ((t ∷ ts) ≡ trips)
 joins fid (Err fault) others trips e = absurd (cc)
 joins fid (Ok t) (Err fault) trips e = absurd (cc)
 joins fid (Ok t) (Ok ts) trips e = (t, ts, refl, refl, ok_same (t ∷ ts) trips e)
   where
     ok_same : (x y : List Trip) → ◌≡◌ {A = Result (List Trip) DayModelFault} (Ok x) (Ok y) → x ≡ y
-    ok_same x y e = let f : Result (List Trip) DayModelFault → List Trip = λ r. elim r as (λ r. List Trip) [ Ok z ↦ z | Err z ↦ x ] in ap f e
+    ok_same x y e = let f : Result (List Trip) DayModelFault →
+        List Trip = λ r. elim r as (λ r. List Trip) [ Ok z ↦ z | Err z ↦ x ] in ap f e
 
 ok_none : (ts : List Trip) → ◌≡◌ {A = Result (List Trip) DayModelFault} (Ok []) (Ok ts) → [] ≡ ts
 ok_none ts e = let f : Result (List Trip) DayModelFault → List Trip = λ r. elim r as (λ r. List Trip) [ Ok z ↦ z | Err z ↦ [] ] in ap f e
 
 -- made rows that are timed are made trips
-timed_made : (seed trips : ℕ) (rows : List TripRow) (ts : List Trip) → All IsMadeRow rows → timed_rows (made_net seed trips) 1 rows ≡ Ok ts → All IsMadeTrip ts × (length ts ≡ length rows)
+timed_made : (seed trips : ℕ) (rows : List TripRow) (ts : List Trip) → All IsMadeRow rows →
+    timed_rows (made_net seed trips) 1 rows ≡ Ok ts → All IsMadeTrip ts × (length ts ≡ length rows)
 timed_made seed trips [] ts all e =
     let P : List Trip → Type 0 = λ ts. All IsMadeTrip ts × (length ts ≡ 0) in subst P (ok_none ts e) (All-nil IsMadeTrip, refl)
 timed_made seed trips (row ∷ rows) ts all e =
-    let (first, rest, first_is, rest_is, is) = joins row.fid (timed (made_net seed trips) 1 row) (timed_rows (made_net seed trips) 1 rows) ts e in
+    let (first, rest, first_is, rest_is, is) =
+    joins row.fid (timed (made_net seed trips) 1 row) (timed_rows (made_net seed trips) 1 rows) ts e in
     let (others, many) = timed_made seed trips rows rest (All-tail IsMadeRow row rows all) rest_is in
     let here = trip_made seed trips row (All-head IsMadeRow row rows all) first first_is in
     let P : List Trip → Type 0 = λ ts. All IsMadeTrip ts × (length ts ≡ suc (length rows)) in
@@ -124,12 +133,14 @@ few_from version kind place [] = omega arith
 few_from version kind place (row ∷ rows) = by (is_of_day version kind row) (few_from version kind (place + 1) rows)
   where
     by : (b : Bool) → length (trips_from version kind (place + 1) rows) ≤ length rows →
-        length (if b then record { start = row.start; fid = row.fid; place = place } ∷ trips_from version kind (place + 1) rows else trips_from version kind (place + 1) rows) ≤ suc (length rows)
+        length (if b then record { start = row.start; fid = row.fid; place = place } ∷ trips_from version kind (place + 1) rows else
+        trips_from version kind (place + 1) rows) ≤ suc (length rows)
     by true rest = omega (arith, rest)
     by false rest = omega (arith, rest)
 
 -- the places of the trips of a day
-pub places_few : (seed trips version kind : ℕ) (places : List ℕ) → AreDayRows (made_net seed trips).trips version kind places → length places ≤ trips
+pub places_few : (seed trips version kind : ℕ) (places : List ℕ) → AreDayRows (made_net seed trips).trips version kind places →
+    length places ≤ trips
 places_few seed trips version kind places rows =
     let places_many = ap length rows.are ∙ length-map rows.ordered (λ (trip : DayTrip). trip.place) in
     let ordered_many = length_permutation (day_trips (made_net seed trips).trips version kind) rows.ordered rows.same in
@@ -137,7 +148,8 @@ places_few seed trips version kind places rows =
     omega (arith, places_many, ordered_many, less, trips_count seed trips)
 
 -- rows that can be timed are timed
-pub rows_timed : (seed trips : ℕ) (rows : List TripRow) → All IsMadeRow rows → (ts : List Trip) × (timed_rows (made_net seed trips) 1 rows ≡ Ok ts)
+pub rows_timed : (seed trips : ℕ) (rows : List TripRow) → All IsMadeRow rows →
+    (ts : List Trip) × (timed_rows (made_net seed trips) 1 rows ≡ Ok ts)
 rows_timed seed trips [] all = ([], refl)
 rows_timed seed trips (row ∷ rows) all =
     let (t, first) = row_timed seed trips row (All-head IsMadeRow row rows all) in
@@ -148,7 +160,8 @@ rows_timed seed trips (row ∷ rows) all =
 pub one_version : (seed trips day version : ℕ) → version_on (made_net seed trips) day ≡ Some version → 1 ≡ version
 one_version seed trips day version = by (nat_le 20260101 day)
   where
-    by : (b : Bool) → option_map (λ (row : VersionRow). row.version) (latest (cond b (record { day = 20260101; version = 1 } ∷ []) [])) ≡ Some version → 1 ≡ version
+    by : (b : Bool) → option_map (λ (row : VersionRow). row.version) (latest (cond b (record { day = 20260101; version = 1 } ∷ []) []))
+        ≡ Some version → 1 ≡ version
     by true e = let f : Option ℕ → ℕ = λ o. unwrap_or o 1 in ap f e
     by false e = absurd (cc)
 
@@ -168,10 +181,12 @@ made_is seed trips day facts few made =
       params_are = params;
       deads_are = λ from to.
           made.day_is.deads from to
-          ∙ ap (λ v. if point_eq from to then Some 0 else dead_time_on (made_net seed trips) v facts.params.settings.area facts.params.settings.group from to) (sym version)
+          ∙ ap (λ v. if point_eq from to then Some 0 else dead_time_on (made_net seed trips) v facts.params.settings.area
+          facts.params.settings.group from to) (sym version)
           ∙ ap (λ a. if point_eq from to then Some 0 else dead_time_on (made_net seed trips) 1 a facts.params.settings.group from to) area
           ∙ ap (λ g. if point_eq from to then Some 0 else dead_time_on (made_net seed trips) 1 1 g from to) group
-          ∙ ap (λ rows. if point_eq from to then Some 0 else value_at move_key_eq dead_key_of (λ row. row.time) rows (record { version = 1; area = 1; group = 1; from = from; to = to })) (deads_are seed trips);
+          ∙ ap (λ rows. if point_eq from to then Some 0 else value_at move_key_eq dead_key_of (λ row. row.time) rows
+          (record { version = 1; area = 1; group = 1; from = from; to = to })) (deads_are seed trips);
       trips_are = trips_are;
       few = omega (arith, many, within, less);
     }

@@ -17,14 +17,18 @@ settings_right : (seed trips : ℕ) → first_fault (made_net seed trips) 1 ≡ 
 unfolding first_fault
 settings_right seed trips = refl
 
-fault_none : (seed trips : ℕ) (kind : DayKind) (places : List ℕ) → 1 ≡ kind.version → length places ≤ 3000 → day_fault (made_net seed trips) kind places ≡ None
+fault_none : (seed trips : ℕ) (kind : DayKind) (places : List ℕ) → 1 ≡ kind.version → length places ≤ 3000 →
+    day_fault (made_net seed trips) kind places ≡ None
 fault_none seed trips kind places version few =
     let (all, within) = rows_at_made (made_net seed trips).trips places (trips_made seed trips) in
     let (ts, timed) = rows_timed seed trips (rows_at (made_net seed trips).trips places) all in
     let test : nat_lt 3000 (length places) ≡ false = grind (arith, nat_tests) in
-    ap (λ b. if b then Some (faults.TooManyTrips (length places)) else settings_or (first_fault (made_net seed trips) kind.version) (timing_fault (timed_rows (made_net seed trips) kind.version (rows_at (made_net seed trips).trips places)))) test
-    ∙ ap (λ v. settings_or (first_fault (made_net seed trips) v) (timing_fault (timed_rows (made_net seed trips) v (rows_at (made_net seed trips).trips places)))) (sym version)
-    ∙ ap (λ o. settings_or o (timing_fault (timed_rows (made_net seed trips) 1 (rows_at (made_net seed trips).trips places)))) (settings_right seed trips)
+    ap (λ b. if b then Some (faults.TooManyTrips (length places)) else settings_or (first_fault (made_net seed trips) kind.version)
+    (timing_fault (timed_rows (made_net seed trips) kind.version (rows_at (made_net seed trips).trips places)))) test
+    ∙ ap (λ v. settings_or (first_fault (made_net seed trips) v)
+    (timing_fault (timed_rows (made_net seed trips) v (rows_at (made_net seed trips).trips places)))) (sym version)
+    ∙ ap (λ o. settings_or o (timing_fault (timed_rows (made_net seed trips) 1 (rows_at (made_net seed trips).trips places))))
+    (settings_right seed trips)
     ∙ ap (λ r. timing_fault r) timed
 
 pub no_day_fault : (seed trips : ℕ) → trips ≤ 3000 → HasNoDayFault seed trips
@@ -35,7 +39,17 @@ no_day_fault seed trips few day kind fault kind_is has =
     absurd (cc)
 
 civil : IsCivilDay 20260302
-civil = (omega arith, ((omega (arith, ints), omega (arith, ints)), (omega (arith, ints), omega (arith, ints)), (omega (arith, ints), omega (arith, ints))))
+civil = (
+  omega arith,
+  (
+    (omega (arith, ints), omega (arith, ints)),
+    (omega (arith, ints), omega (arith, ints)),
+    (
+      omega (arith, ints),
+      omega (arith, ints),
+    ),
+  ),
+)
 
 pub has_kind : (seed trips : ℕ) → HasKind seed trips 20260302
 has_kind seed trips = record { civil = civil; version = refl; kind_is = refl }

@@ -43,7 +43,9 @@ pub read_number : (most n : ℕ) → nat_le n most ≡ true → number_up_to mos
 read_number most n test = ap (λ b. if b then Some (Number n) else None) test
 
 pub depots_are : (seed trips : ℕ) → nat_le trips 10000 ≡ true → (made_net seed trips).depots ≡ depot_rows trips
-depots_are seed trips few = let F : Option Cell → List (List ℕ) = λ c. depot_rows (number_of (unwrap_or c Nothing)) in ap F (read_number 10000 trips few)
+depots_are seed trips few = let F : Option Cell → List (List ℕ) = λ c. depot_rows (number_of (unwrap_or c Nothing)) in
+    ap F (read_number 10000 trips few)
 
 pub drivers_are : (seed trips : ℕ) → nat_le trips 10000 ≡ true → (made_net seed trips).drivers ≡ driver_rows trips
-drivers_are seed trips few = let F : Option Cell → List (List ℕ) = λ c. driver_rows (number_of (unwrap_or c Nothing)) in ap F (read_number 10000 trips few)
+drivers_are seed trips few = let F : Option Cell → List (List ℕ) = λ c. driver_rows (number_of (unwrap_or c Nothing)) in
+    ap F (read_number 10000 trips few)

@@ -49,7 +49,8 @@ beside p a = 300 * ((p - a) + (a - p)) + 300
 abbrev Between : ℕ → ℕ → Type 0
 Between a b = made_dead (point a) (point b) ≡ Some (between a b)
 
-from_terminal : (a : ℕ) → Between a 1 → Between a 2 → Between a 3 → Between a 4 → Between a 5 → Between a 6 → Between a 7 → Between a 8 → (b : ℕ) → IsTerminal b → Between a b
+from_terminal : (a : ℕ) → Between a 1 → Between a 2 → Between a 3 → Between a 4 → Between a 5 → Between a 6 → Between a 7 → Between a 8 →
+    (b : ℕ) → IsTerminal b → Between a b
 from_terminal a = by_terminal (Between a)
 
 between_is : (a b : ℕ) → IsTerminal a → IsTerminal b → Between a b
@@ -90,10 +91,12 @@ second_depot = record {
 
 -- the ways of drivers of the first group
 abbrev Home : ℕ → ℕ → Type 0
-Home trips nr = (way_in (made_params trips) (point 101) (point nr) ≡ Some (beside 2 nr)) × (way_in (made_params trips) (point nr) (point 101) ≡ Some (beside 2 nr))
+Home trips nr = (way_in (made_params trips) (point 101) (point nr) ≡ Some (beside 2 nr))
+    × (way_in (made_params trips) (point nr) (point 101) ≡ Some (beside 2 nr))
 
 home_ways : (trips a : ℕ) → IsTerminal a → Home trips a
-home_ways trips = by_terminal (Home trips) (refl, refl) (refl, refl) (refl, refl) (refl, refl) (refl, refl) (refl, refl) (refl, refl) (refl, refl)
+home_ways trips = by_terminal (Home trips) (refl, refl) (refl, refl) (refl, refl) (refl, refl) (refl, refl)
+    (refl, refl) (refl, refl) (refl, refl)
 
 near_terminal : (trips a : ℕ) → IsTerminal a → IsNear (made_params trips) (made_group 1 101 trips) 2100 (point a)
 near_terminal trips a at =
@@ -141,7 +144,8 @@ and_from : (a b : Bool) → a ≡ true → b ≡ true → (a && b) ≡ true
 and_from a b first second = rw (first, second) refl
 
 -- which of two is there
-either : (P : Link → Type 0) (a b : Option Link) (l : Link) → ((l : Link) → a ≡ Some l → P l) → (a ≡ None → (l : Link) → b ≡ Some l → P l) → first_of a b ≡ Some l → P l
+either : (P : Link → Type 0) (a b : Option Link) (l : Link) → ((l : Link) → a ≡ Some l → P l) → (a ≡ None → (l : Link) → b ≡ Some l → P l) →
+    first_of a b ≡ Some l → P l
 either P None b l first second e = second refl l e
 either P (Some m) b l first second e = first l e
 
@@ -156,18 +160,22 @@ record IsMadePool (trips : ℕ) (q : Pool) : Type 0 where
 pool_made : (trips class : ℕ) (q : Pool) → slice_get (made_params trips).pools class ≡ Some q → IsMadePool trips q
 pool_made trips zero q e =
     let P : Pool → Type 0 = λ q. IsMadePool trips q in
-    subst P (some_same (made_pool 1 101 trips) q e) (record { d = 101; p = 2; depot_is = refl; depot = first_depot; near = near_first trips })
+    subst P (some_same (made_pool 1 101 trips) q e)
+    (record { d = 101; p = 2; depot_is = refl; depot = first_depot; near = near_first trips })
 pool_made trips (suc zero) q e =
     let P : Pool → Type 0 = λ q. IsMadePool trips q in
-    subst P (some_same (made_pool 2 102 trips) q e) (record { d = 102; p = 7; depot_is = refl; depot = second_depot; near = near_second trips })
+    subst P (some_same (made_pool 2 102 trips) q e)
+    (record { d = 102; p = 7; depot_is = refl; depot = second_depot; near = near_second trips })
 pool_made trips (suc (suc n)) q e = absurd (cc)
 
 module _ (trips : ℕ) (day : DayFacts) (made : IsMade trips day) where
-  dead_is : (from to : Point) (a b n : ℕ) → from ≡ point a → to ≡ point b → made_dead (point a) (point b) ≡ Some n → dead day from to ≡ Some n
+  dead_is : (from to : Point) (a b n : ℕ) → from ≡ point a → to ≡ point b → made_dead (point a) (point b) ≡ Some n →
+      dead day from to ≡ Some n
   dead_is from to a b n from_is to_is is =
       ap (λ x. dead day x to) from_is ∙ ap (λ y. dead day (point a) y) to_is ∙ made.deads_are (point a) (point b) ∙ is
 
-  near_is : (at : Point) (a : ℕ) → at ≡ point a → IsNear (made_params trips) (made_group 1 101 trips) 2100 (point a) → IsNear day.params (made_group 1 101 trips) 2100 at
+  near_is : (at : Point) (a : ℕ) → at ≡ point a → IsNear (made_params trips) (made_group 1 101 trips) 2100 (point a) →
+      IsNear day.params (made_group 1 101 trips) 2100 at
   near_is at a is near =
       let P : ParamRows → Type 0 = λ params. IsNear params (made_group 1 101 trips) 2100 at in
       let Q : Point → Type 0 = λ at. IsNear (made_params trips) (made_group 1 101 trips) 2100 at in
@@ -190,7 +198,8 @@ module _ (trips : ℕ) (day : DayFacts) (made : IsMade trips day) where
       let to_high = trip.to_there.high in
       let out_short : out ≤ 2100 = omega (arith, from_low, from_high) in
       let in_short : inward ≤ 2100 = omega (arith, to_low, to_high) in
-      let out_is : dead day (point 101) t.from ≡ Some out = dead_is (point 101) t.from 101 trip.from out refl trip.from_is (first_depot.out trip.from trip.from_there) in
+      let out_is : dead day (point 101) t.from ≡ Some out =
+      dead_is (point 101) t.from 101 trip.from out refl trip.from_is (first_depot.out trip.from trip.from_there) in
       let (leaves, leaves_is) = natural (t.begin.0 -ℤ pos out) (omega (arith, ints, low, out_short)) in
       record {
         admitted = ap (λ (params : ParamRows). admits_in params t.line 1) made.params_are;
@@ -203,7 +212,8 @@ module _ (trips : ℕ) (day : DayFacts) (made : IsMade trips day) where
       }
 
   -- each link has a cut
-  module _ (class : ℕ) (q : Pool) (t u : Trip) (q_is : slice_get day.params.pools class ≡ Some q) (trip : IsMadeTrip t) (next : IsMadeTrip u) where
+  module _ (class : ℕ) (q : Pool) (t u : Trip) (q_is : slice_get day.params.pools class ≡ Some q) (trip : IsMadeTrip t)
+      (next : IsMadeTrip u) where
     abbrev Cut : Link → Type 0
     Cut l = is_cut_on day q u l ≡ true
 
@@ -220,20 +230,28 @@ module _ (trips : ℕ) (day : DayFacts) (made : IsMade trips day) where
     handover = ap (λ (params : ParamRows). params.settings.handover) made.params_are
 
     relieved : is_relief day u.from ≡ true
-    relieved = ap (λ (params : ParamRows). is_relief_in params u.from) made.params_are ∙ ap (λ at. is_relief_in (made_params trips) at) next.from_is ∙ reliefs trips next.from next.from_there
+    relieved = ap (λ (params : ParamRows). is_relief_in params u.from) made.params_are
+        ∙ ap (λ at. is_relief_in (made_params trips) at) next.from_is ∙ reliefs trips next.from next.from_there
 
     between_them : dead day t.to u.from ≡ Some (between trip.to next.from)
-    between_them = dead_is t.to u.from trip.to next.from (between trip.to next.from) trip.to_is next.from_is (between_is trip.to next.from trip.to_there next.from_there)
+    between_them = dead_is t.to u.from trip.to next.from (between trip.to next.from) trip.to_is next.from_is
+        (between_is trip.to next.from trip.to_there next.from_there)
 
     long_stand : (s : ℕ) → 300 ≤ s → (nat_le 1 s ≡ true) × (nat_le day.params.settings.handover s ≡ true)
     long_stand s long = (le_test 1 s (omega (arith, long)), ap (λ n. nat_le n s) handover ∙ le_test 300 s long)
 
     direct : (l : Link) → direct_link day t u ≡ Some l → Cut l
     direct l e =
-        let (move, is_dead, stands) = and_then_some (λ (m : ℕ). direct_for day.params.settings m (seconds (u.begin.0 -ℤ t.end.0 -ℤ pos m))) (dead day t.to u.from) l e in
-        let (stand, is_stand, made_of) = and_then_some (λ (s : ℕ). given (nat_le day.params.settings.turn s && nat_le s day.params.settings.max_wait) (Some (Direct move s))) (seconds (u.begin.0 -ℤ t.end.0 -ℤ pos move)) l stands in
-        let (test, is) = given_parts (nat_le day.params.settings.turn stand && nat_le stand day.params.settings.max_wait) (Some (Direct move stand)) l made_of in
-        let turned : nat_le 300 stand ≡ true = sym (ap (λ n. nat_le n stand) turn) ∙ (and_both (nat_le day.params.settings.turn stand) (nat_le stand day.params.settings.max_wait) test).0 in
+        let (move, is_dead, stands) =
+        and_then_some (λ (m : ℕ). direct_for day.params.settings m (seconds (u.begin.0 -ℤ t.end.0 -ℤ pos m))) (dead day t.to u.from) l e in
+        let (stand, is_stand, made_of) =
+        and_then_some (λ (s : ℕ). given (nat_le day.params.settings.turn s && nat_le s day.params.settings.max_wait) (Some (Direct move s)))
+        (seconds (u.begin.0 -ℤ t.end.0 -ℤ pos move)) l stands in
+        let (test, is) = given_parts (nat_le day.params.settings.turn stand && nat_le stand day.params.settings.max_wait)
+        (Some (Direct move stand)) l made_of in
+        let turned : nat_le 300 stand ≡ true =
+        sym (ap (λ n. nat_le n stand) turn)
+        ∙ (and_both (nat_le day.params.settings.turn stand) (nat_le stand day.params.settings.max_wait) test).0 in
         let long : 300 ≤ stand = grind (arith, nat_tests) in
         let (some, handed) = long_stand stand long in
         let here : Cut (Direct move stand) = rw (some, handed, relieved) refl in
@@ -244,10 +262,12 @@ module _ (trips : ℕ) (day : DayFacts) (made : IsMade trips day) where
     in_is = dead_is t.to q.depot trip.to pool.d (beside pool.p trip.to) trip.to_is pool.depot_is (pool.depot.inward trip.to trip.to_there)
 
     out_is : dead day q.depot u.from ≡ Some (beside pool.p next.from)
-    out_is = dead_is q.depot u.from pool.d next.from (beside pool.p next.from) pool.depot_is next.from_is (pool.depot.out next.from next.from_there)
+    out_is = dead_is q.depot u.from pool.d next.from (beside pool.p next.from) pool.depot_is next.from_is
+        (pool.depot.out next.from next.from_there)
 
     -- where there is no direct link the vehicle stands long at the depot
-    stands_long : (s : ℕ) → direct_link day t u ≡ None → (u.begin.0 -ℤ t.end.0 -ℤ pos (beside pool.p trip.to) -ℤ pos (beside pool.p next.from)) ≡ pos s → 300 ≤ s
+    stands_long : (s : ℕ) → direct_link day t u ≡ None →
+        (u.begin.0 -ℤ t.end.0 -ℤ pos (beside pool.p trip.to) -ℤ pos (beside pool.p next.from)) ≡ pos s → 300 ≤ s
     stands_long s none is =
         let m : ℕ = between trip.to next.from in
         let i : ℕ = beside pool.p trip.to in
@@ -265,8 +285,10 @@ module _ (trips : ℕ) (day : DayFacts) (made : IsMade trips day) where
         let left : (u.begin.0 -ℤ t.end.0 -ℤ pos m) ≡ pos n = omega (arith, ints, is, around) in
         let test : (nat_le day.params.settings.turn n && nat_le n day.params.settings.max_wait) ≡ false =
         given_none (nat_le day.params.settings.turn n && nat_le n day.params.settings.max_wait) (Direct m n)
-        (sym (ap (λ o. direct_over day.params.settings t u o) between_them ∙ ap (λ z. direct_for day.params.settings m (seconds z)) left) ∙ none) in
-        let tested : (nat_le 300 n && nat_le n 7200) ≡ false = sym (ap (λ k. nat_le k n && nat_le n day.params.settings.max_wait) turn ∙ ap (λ k. nat_le 300 n && nat_le n k) wait) ∙ test in
+        (sym (ap (λ o. direct_over day.params.settings t u o) between_them ∙ ap (λ z. direct_for day.params.settings m (seconds z)) left)
+        ∙ none) in
+        let tested : (nat_le 300 n && nat_le n 7200) ≡ false =
+        sym (ap (λ k. nat_le k n && nat_le n day.params.settings.max_wait) turn ∙ ap (λ k. nat_le 300 n && nat_le n k) wait) ∙ test in
         let enough : nat_le 300 n ≡ true = le_test 300 n (omega (arith, around)) in
         let past : nat_le n 7200 ≡ false = sym (ap (λ b. b && nat_le n 7200) enough) ∙ tested in
         let over : 7200 < n = grind (arith, nat_tests) in
@@ -276,11 +298,14 @@ module _ (trips : ℕ) (day : DayFacts) (made : IsMade trips day) where
     by_depot none l e =
         let i : ℕ = beside pool.p trip.to in
         let o : ℕ = beside pool.p next.from in
-        let told : depot_over t u (Some i) (Some o) ≡ Some l = sym (ap (λ x. depot_over t u x (dead day q.depot u.from)) in_is ∙ ap (λ y. depot_over t u (Some i) y) out_is) ∙ e in
-        let (stand, is_stand, is) = and_then_some (λ (s : ℕ). Some (Depot i o s)) (seconds (u.begin.0 -ℤ t.end.0 -ℤ pos i -ℤ pos o)) l told in
+        let told : depot_over t u (Some i) (Some o) ≡ Some l =
+        sym (ap (λ x. depot_over t u x (dead day q.depot u.from)) in_is ∙ ap (λ y. depot_over t u (Some i) y) out_is) ∙ e in
+        let (stand, is_stand, is) =
+        and_then_some (λ (s : ℕ). Some (Depot i o s)) (seconds (u.begin.0 -ℤ t.end.0 -ℤ pos i -ℤ pos o)) l told in
         let long = stands_long stand none (seconds_some (u.begin.0 -ℤ t.end.0 -ℤ pos i -ℤ pos o) stand is_stand) in
         let (some, handed) = long_stand stand long in
-        let own : (is_relief day q.depot || point_eq q.depot q.depot) ≡ true = ap (λ b. is_relief day q.depot || b) (point_same q.depot) ∙ or_true (is_relief day q.depot) in
+        let own : (is_relief day q.depot || point_eq q.depot q.depot) ≡ true =
+        ap (λ b. is_relief day q.depot || b) (point_same q.depot) ∙ or_true (is_relief day q.depot) in
         let here : Cut (Depot i o stand) = rw (some, handed, own) refl in
         let P : Link → Type 0 = λ l. Cut l in
         subst P (some_same (Depot i o stand) l is) here
@@ -306,4 +331,10 @@ module _ (trips : ℕ) (day : DayFacts) (made : IsMade trips day) where
 
 pub made_roomy : (seed trips day : ℕ) (facts : DayFacts) → trips ≤ 3000 → IsMadeDay seed trips day facts → IsRoomy facts
 made_roomy seed trips day facts few made =
-    record { pool = made_pool 1 101 trips; group = made_group 1 101 trips; way = 2100; roomy = made_roomy_with trips facts (made_is seed trips day facts few made) }
+    record {
+      pool = made_pool 1 101 trips;
+      group = made_group 1 101 trips;
+      way = 2100;
+      roomy =
+          made_roomy_with trips facts (made_is seed trips day facts few made);
+    }

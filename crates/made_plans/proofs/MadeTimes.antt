@@ -37,10 +37,14 @@ end_of out l = cond out (l + 1) l
 
 pub record HasCourse (l : ℕ) (out : Bool) : Type 0 where
   pub area : value_at line_key_eq line_key_of (λ row. row.area) (rows_each line_rows lines) (named 1 l (variant_name out)) ≡ Some 1
-  pub course : points_of (named 1 l (variant_name out)) (in_order (rows_each stop_rows lines)) ≡ point (start_of out l) ∷ point (10 + l) ∷ point (end_of out l) ∷ []
-  pub first : value_at move_key_eq run_key_of (λ row. row.time) (rows_each run_rows lines) (record { version = 1; area = 1; group = 1; from = point (start_of out l); to = point (10 + l) }) ≡ Some (2400 + 60 * l)
-  pub second : value_at move_key_eq run_key_of (λ row. row.time) (rows_each run_rows lines) (record { version = 1; area = 1; group = 1; from = point (10 + l); to = point (end_of out l) }) ≡ Some (2400 + 60 * l)
-  pub dwell : value_at group_dwell_key_eq group_dwell_key_of (λ row. row.time) (rows_each dwell_rows lines) (record { version = 1; group = 1; at = point (10 + l) }) ≡ Some 60
+  pub course : points_of (named 1 l (variant_name out)) (in_order (rows_each stop_rows lines)) ≡ point (start_of out l) ∷ point (10 + l)
+      ∷ point (end_of out l) ∷ []
+  pub first : value_at move_key_eq run_key_of (λ row. row.time) (rows_each run_rows lines)
+      (record { version = 1; area = 1; group = 1; from = point (start_of out l); to = point (10 + l) }) ≡ Some (2400 + 60 * l)
+  pub second : value_at move_key_eq run_key_of (λ row. row.time) (rows_each run_rows lines)
+      (record { version = 1; area = 1; group = 1; from = point (10 + l); to = point (end_of out l) }) ≡ Some (2400 + 60 * l)
+  pub dwell : value_at group_dwell_key_eq group_dwell_key_of (λ row. row.time) (rows_each dwell_rows lines)
+      (record { version = 1; group = 1; at = point (10 + l) }) ≡ Some 60
 
 both : (P : Bool → Type 0) → P true → P false → (out : Bool) → P out
 both P front back true = front
@@ -52,16 +56,24 @@ Courses l = (out : Bool) → HasCourse l out
 courses : (l : ℕ) → 1 ≤ l → l ≤ 7 → Courses l
 courses =
     by_line Courses
-    (both (HasCourse 1) (record { area = refl; course = refl; first = refl; second = refl; dwell = refl }) (record { area = refl; course = refl; first = refl; second = refl; dwell = refl }))
-    (both (HasCourse 2) (record { area = refl; course = refl; first = refl; second = refl; dwell = refl }) (record { area = refl; course = refl; first = refl; second = refl; dwell = refl }))
-    (both (HasCourse 3) (record { area = refl; course = refl; first = refl; second = refl; dwell = refl }) (record { area = refl; course = refl; first = refl; second = refl; dwell = refl }))
-    (both (HasCourse 4) (record { area = refl; course = refl; first = refl; second = refl; dwell = refl }) (record { area = refl; course = refl; first = refl; second = refl; dwell = refl }))
-    (both (HasCourse 5) (record { area = refl; course = refl; first = refl; second = refl; dwell = refl }) (record { area = refl; course = refl; first = refl; second = refl; dwell = refl }))
-    (both (HasCourse 6) (record { area = refl; course = refl; first = refl; second = refl; dwell = refl }) (record { area = refl; course = refl; first = refl; second = refl; dwell = refl }))
-    (both (HasCourse 7) (record { area = refl; course = refl; first = refl; second = refl; dwell = refl }) (record { area = refl; course = refl; first = refl; second = refl; dwell = refl }))
+    (both (HasCourse 1) (record { area = refl; course = refl; first = refl; second = refl; dwell = refl })
+    (record { area = refl; course = refl; first = refl; second = refl; dwell = refl }))
+    (both (HasCourse 2) (record { area = refl; course = refl; first = refl; second = refl; dwell = refl })
+    (record { area = refl; course = refl; first = refl; second = refl; dwell = refl }))
+    (both (HasCourse 3) (record { area = refl; course = refl; first = refl; second = refl; dwell = refl })
+    (record { area = refl; course = refl; first = refl; second = refl; dwell = refl }))
+    (both (HasCourse 4) (record { area = refl; course = refl; first = refl; second = refl; dwell = refl })
+    (record { area = refl; course = refl; first = refl; second = refl; dwell = refl }))
+    (both (HasCourse 5) (record { area = refl; course = refl; first = refl; second = refl; dwell = refl })
+    (record { area = refl; course = refl; first = refl; second = refl; dwell = refl }))
+    (both (HasCourse 6) (record { area = refl; course = refl; first = refl; second = refl; dwell = refl })
+    (record { area = refl; course = refl; first = refl; second = refl; dwell = refl }))
+    (both (HasCourse 7) (record { area = refl; course = refl; first = refl; second = refl; dwell = refl })
+    (record { area = refl; course = refl; first = refl; second = refl; dwell = refl }))
 
 -- a course of three points
-three : (time_of : Point × Point → Option ℕ) (dwell_of : Point → ℕ) (row : TripRow) (a m b : Point) (s t d : ℕ) → time_of (a, m) ≡ Some s → time_of (m, b) ≡ Some t → dwell_of m ≡ d →
+three : (time_of : Point × Point → Option ℕ) (dwell_of : Point → ℕ) (row : TripRow) (a m b : Point) (s t d : ℕ) → time_of (a, m) ≡ Some s →
+    time_of (m, b) ≡ Some t → dwell_of m ≡ d →
     timed_on time_of dwell_of row (a ∷ m ∷ b ∷ []) ≡ ended row a b (s + t + d)
 three time_of dwell_of row a m b s t d first second dwell =
     let whole : 0 + s + t + (0 + d) ≡ s + t + d = omega arith in
@@ -90,32 +102,44 @@ module _ (seed trips : ℕ) (row : TripRow) (made : IsMadeRow row) where
   area_is : area_on (made_net seed trips) 1 row.line row.variant ≡ Some 1
   area_is =
       ap (λ n. area_on (made_net seed trips) 1 n row.variant) made.line_is ∙ ap (λ v. area_on (made_net seed trips) 1 l v) made.variant_is
-      ∙ ap (λ rows. value_at line_key_eq line_key_of (λ row. row.area) rows (named 1 l (variant_name out))) (lines_are seed trips) ∙ course_is.area
+      ∙ ap (λ rows. value_at line_key_eq line_key_of (λ row. row.area) rows (named 1 l (variant_name out))) (lines_are seed trips)
+      ∙ course_is.area
 
   points_are : course_on (made_net seed trips) 1 row.line row.variant ≡ point (start_of out l) ∷ point (10 + l) ∷ point (end_of out l) ∷ []
   points_are =
-      ap (λ n. course_on (made_net seed trips) 1 n row.variant) made.line_is ∙ ap (λ v. course_on (made_net seed trips) 1 l v) made.variant_is
+      ap (λ n. course_on (made_net seed trips) 1 n row.variant) made.line_is
+      ∙ ap (λ v. course_on (made_net seed trips) 1 l v) made.variant_is
       ∙ ap (λ rows. points_of (named 1 l (variant_name out)) (in_order rows)) (stops_are seed trips) ∙ course_is.course
 
-  run_is : (from to : Point) (s : ℕ) → value_at move_key_eq run_key_of (λ row. row.time) (rows_each run_rows lines) (record { version = 1; area = 1; group = 1; from = from; to = to }) ≡ Some s →
+  run_is : (from to : Point) (s : ℕ) →
+      value_at move_key_eq run_key_of (λ row. row.time) (rows_each run_rows lines)
+      (record { version = 1; area = 1; group = 1; from = from; to = to }) ≡ Some s →
       run_time_of (made_net seed trips) 1 1 row.group (from, to) ≡ Some s
   run_is from to s is =
       ap (λ g. run_time_on (made_net seed trips) 1 1 g from to) made.group_is
-      ∙ ap (λ rows. value_at move_key_eq run_key_of (λ row. row.time) rows (record { version = 1; area = 1; group = 1; from = from; to = to })) (runs_are seed trips) ∙ is
+      ∙ ap (λ rows. value_at move_key_eq run_key_of (λ row. row.time) rows
+      (record { version = 1; area = 1; group = 1; from = from; to = to })) (runs_are seed trips) ∙ is
 
   dwell_is : dwell_at (made_net seed trips) 1 row (point (10 + l)) ≡ 60
   dwell_is =
-      ap (λ rows. unwrap_or (value_at trip_dwell_key_eq trip_dwell_key_of (λ row. row.time) rows (record { version = 1; fid = row.fid; at = point (10 + l) })) (unwrap_or (group_dwell_on (made_net seed trips) 1 row.group (point (10 + l))) 0)) (no_dwells seed trips)
+      ap (λ rows. unwrap_or (value_at trip_dwell_key_eq trip_dwell_key_of (λ row. row.time) rows
+      (record { version = 1; fid = row.fid; at = point (10 + l) }))
+      (unwrap_or (group_dwell_on (made_net seed trips) 1 row.group (point (10 + l))) 0)) (no_dwells seed trips)
       ∙ ap (λ g. unwrap_or (group_dwell_on (made_net seed trips) 1 g (point (10 + l))) 0) made.group_is
-      ∙ ap (λ rows. unwrap_or (value_at group_dwell_key_eq group_dwell_key_of (λ row. row.time) rows (record { version = 1; group = 1; at = point (10 + l) })) 0) (dwells_are seed trips)
+      ∙ ap (λ rows. unwrap_or
+      (value_at group_dwell_key_eq group_dwell_key_of (λ row. row.time) rows (record { version = 1; group = 1; at = point (10 + l) })) 0)
+      (dwells_are seed trips)
       ∙ ap (λ o. unwrap_or o 0) course_is.dwell
 
-  timed_is : timed (made_net seed trips) 1 row ≡ ended row (point (start_of out l)) (point (end_of out l)) (2400 + 60 * l + (2400 + 60 * l) + 60)
+  timed_is : timed (made_net seed trips) 1 row ≡ ended row (point (start_of out l)) (point (end_of out l))
+      (2400 + 60 * l + (2400 + 60 * l) + 60)
   timed_is =
       ap (λ o. timed_in (made_net seed trips) 1 row o) area_is
       ∙ ap (λ ps. timed_on (run_time_of (made_net seed trips) 1 1 row.group) (dwell_at (made_net seed trips) 1 row) row ps) points_are
-      ∙ three (run_time_of (made_net seed trips) 1 1 row.group) (dwell_at (made_net seed trips) 1 row) row (point (start_of out l)) (point (10 + l)) (point (end_of out l)) (2400 + 60 * l) (2400 + 60 * l) 60
-      (run_is (point (start_of out l)) (point (10 + l)) (2400 + 60 * l) course_is.first) (run_is (point (10 + l)) (point (end_of out l)) (2400 + 60 * l) course_is.second) dwell_is
+      ∙ three (run_time_of (made_net seed trips) 1 1 row.group) (dwell_at (made_net seed trips) 1 row) row (point (start_of out l))
+      (point (10 + l)) (point (end_of out l)) (2400 + 60 * l) (2400 + 60 * l) 60
+      (run_is (point (start_of out l)) (point (10 + l)) (2400 + 60 * l) course_is.first)
+      (run_is (point (10 + l)) (point (end_of out l)) (2400 + 60 * l) course_is.second) dwell_is
 
   -- each row has its times
   pub row_timed : (t : Trip) × (timed (made_net seed trips) 1 row ≡ Ok t)
@@ -126,7 +150,8 @@ module _ (seed trips : ℕ) (row : TripRow) (made : IsMadeRow row) where
       let latest = made.latest in
       let high = made.high in
       let within : nat_le (row.start + seconds) 172800 ≡ true = le_test (row.start + seconds) 172800 (omega (arith, latest, high)) in
-      let ended_is : ended row from to seconds ≡ Ok (trip_over row from to seconds) = ap (λ b. if b then Ok (trip_over row from to seconds) else Err PastEnd) within in
+      let ended_is : ended row from to seconds ≡ Ok (trip_over row from to seconds) =
+      ap (λ b. if b then Ok (trip_over row from to seconds) else Err PastEnd) within in
       (trip_over row from to seconds, timed_is ∙ ended_is)
 
   terminal : (b : Bool) → IsTerminal (cond b l (l + 1))

@@ -24,22 +24,29 @@ row fid start line out = Number 1 ∷ Number fid ∷ Number start ∷ Number lin
 
 -- how it is read
 abbrev read_row : ℕ → ℕ → ℕ → ℕ → ℕ → Bool → ℕ → TripRow
-read_row seed trips fid start line out place = trip_row (cells schema.trips (trip_table seed trips) (fields_of (row fid start line out))) place
+read_row seed trips fid start line out place =
+    trip_row (cells schema.trips (trip_table seed trips) (fields_of (row fid start line out))) place
 
 below : (n m : ℕ) → 0 < m → n % m < m
 below n m some = omega (arith, some)
 
-start_is : (seed trips fid start line : ℕ) (out : Bool) (place : ℕ) → nat_le start 172800 ≡ true → (read_row seed trips fid start line out place).start ≡ start
-start_is seed trips fid start line out place few = let F : Option ReadCell → ℕ = λ c. number_of (unwrap_or c read.Nothing) in ap F (read_number 172800 start few)
+start_is : (seed trips fid start line : ℕ) (out : Bool) (place : ℕ) → nat_le start 172800 ≡ true →
+    (read_row seed trips fid start line out place).start ≡ start
+start_is seed trips fid start line out place few = let F : Option ReadCell → ℕ = λ c. number_of (unwrap_or c read.Nothing) in
+    ap F (read_number 172800 start few)
 
-line_is : (seed trips fid start line : ℕ) (out : Bool) (place : ℕ) → nat_le line 4294967295 ≡ true → (read_row seed trips fid start line out place).line ≡ line
-line_is seed trips fid start line out place few = let F : Option ReadCell → ℕ = λ c. number_of (unwrap_or c read.Nothing) in ap F (read_number 4294967295 line few)
+line_is : (seed trips fid start line : ℕ) (out : Bool) (place : ℕ) → nat_le line 4294967295 ≡ true →
+    (read_row seed trips fid start line out place).line ≡ line
+line_is seed trips fid start line out place few = let F : Option ReadCell → ℕ = λ c. number_of (unwrap_or c read.Nothing) in
+    ap F (read_number 4294967295 line few)
 
-variant_is : (seed trips fid start line : ℕ) (out : Bool) (place : ℕ) → (read_row seed trips fid start line out place).variant ≡ variant_name out
+variant_is : (seed trips fid start line : ℕ) (out : Bool) (place : ℕ) →
+    (read_row seed trips fid start line out place).variant ≡ variant_name out
 variant_is seed trips fid start line true place = refl
 variant_is seed trips fid start line false place = refl
 
-row_made : (seed trips fid start line : ℕ) (out : Bool) (place : ℕ) → 1 ≤ line → line ≤ 7 → 18000 ≤ start → start < 75600 → IsMadeRow (read_row seed trips fid start line out place)
+row_made : (seed trips fid start line : ℕ) (out : Bool) (place : ℕ) → 1 ≤ line → line ≤ 7 → 18000 ≤ start → start < 75600 →
+    IsMadeRow (read_row seed trips fid start line out place)
 row_made seed trips fid start line out place low high from to =
     let few : nat_le start 172800 ≡ true = grind (arith, nat_tests) in
     let few_lines : nat_le line 4294967295 ≡ true = grind (arith, nat_tests) in
@@ -56,7 +63,8 @@ row_made seed trips fid start line out place low high from to =
       latest = omega (arith, start_same, to);
     }
 
-rows_made : (seed trips n fid s place : ℕ) → All IsMadeRow (typed trip_row place (map (cells schema.trips (trip_table seed trips)) (rows_of (trip_rows n fid s))))
+rows_made : (seed trips n fid s place : ℕ) →
+    All IsMadeRow (typed trip_row place (map (cells schema.trips (trip_table seed trips)) (rows_of (trip_rows n fid s))))
 rows_made seed trips zero fid s place = All-nil IsMadeRow
 rows_made seed trips (suc n) fid s place =
     let a = next_state s in
@@ -66,10 +74,12 @@ rows_made seed trips (suc n) fid s place =
     let start : drawn c 960 < 960 = below (c / 2 ^ 33) 960 (omega arith) in
     All-cons IsMadeRow (read_row seed trips fid (18000 + 60 * drawn c 960) (1 + drawn a 7) (drawn b 2 == 0) place)
     (typed trip_row (place + 1) (map (cells schema.trips (trip_table seed trips)) (rows_of (trip_rows n (fid + 1) c))))
-    (row_made seed trips fid (18000 + 60 * drawn c 960) (1 + drawn a 7) (drawn b 2 == 0) place (omega arith) (omega (arith, line)) (omega arith) (omega (arith, start)))
+    (row_made seed trips fid (18000 + 60 * drawn c 960) (1 + drawn a 7) (drawn b 2 == 0) place (omega arith) (omega (arith, line))
+    (omega arith) (omega (arith, start)))
     (rows_made seed trips n (fid + 1) c (place + 1))
 
-rows_count : (seed trips n fid s place : ℕ) → length (typed trip_row place (map (cells schema.trips (trip_table seed trips)) (rows_of (trip_rows n fid s)))) ≡ n
+rows_count : (seed trips n fid s place : ℕ) →
+    length (typed trip_row place (map (cells schema.trips (trip_table seed trips)) (rows_of (trip_rows n fid s)))) ≡ n
 rows_count seed trips zero fid s place = refl
 rows_count seed trips (suc n) fid s place = ap suc (rows_count seed trips n (fid + 1) (next_state (next_state (next_state s))) (place + 1))
 

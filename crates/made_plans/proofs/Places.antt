@@ -7,7 +7,8 @@ use Rattle.std.proofs.lemmas.Option.{get_or_from_slice_get, slice_get_within}
 pub some_same : {A : Type 0} (x y : A) → Some x ≡ Some y → x ≡ y
 some_same {A = A} x y e = let f : Option A → A = λ o. unwrap_or o x in ap f e
 
-pub and_then_some : {A B : Type 0} (f : A → Option B) (o : Option A) (y : B) → option_and_then f o ≡ Some y → (x : A) × (o ≡ Some x) × (f x ≡ Some y)
+pub and_then_some : {A B : Type 0} (f : A → Option B) (o : Option A) (y : B) → option_and_then f o ≡ Some y →
+    (x : A) × (o ≡ Some x) × (f x ≡ Some y)
 and_then_some f None y e = absurd (cc)
 and_then_some f (Some x) y e = (x, refl, e)
 
@@ -22,7 +23,8 @@ pub all_there : {A : Type 0} (P : A → Type 0) (xs : List A) (i : ℕ) (x : A) 
 all_there P xs i x all is = subst P (get_or_from_slice_get xs i x x is) (all i x (slice_get_within xs i x is))
 
 -- the first of mapped elements
-pub first_mapped : {A : Type 0} (f : A → ℕ) (xs : List A) (x : A) → slice_get xs 0 ≡ Some x → (0 < length (map f xs)) × (slice_index (map f xs) 0 ≡ f x)
+pub first_mapped : {A : Type 0} (f : A → ℕ) (xs : List A) (x : A) → slice_get xs 0 ≡ Some x →
+    (0 < length (map f xs)) × (slice_index (map f xs) 0 ≡ f x)
 first_mapped f [] x is = absurd (cc)
 first_mapped f (y ∷ ys) x is = (omega arith, ap f (some_same y x is))
 

@@ -28,25 +28,31 @@ some_plan : (p : Problem) → HasListedColumns p → HasRoomForEach p → HasNon
 some_plan p listed room none = let (columns, plan) = has_plan p listed room in none columns plan
 
 -- each side has a plan
-both_sides : (facts : DayFacts) (asked : Asked) (side : Side) → HasRoomForTrips facts → HasRoomForPieces facts → HasNoneOf facts asked side → ⊥
-both_sides facts asked Vehicles trips pieces none = some_plan (blocks_of facts false) (blocks_listed (record { day = facts; counts = false })) trips none
+both_sides : (facts : DayFacts) (asked : Asked) (side : Side) → HasRoomForTrips facts → HasRoomForPieces facts →
+    HasNoneOf facts asked side → ⊥
+both_sides facts asked Vehicles trips pieces none =
+    some_plan (blocks_of facts false) (blocks_listed (record { day = facts; counts = false })) trips none
 both_sides facts asked Drivers trips pieces (blocks, are, none) =
-    some_plan (duties_over facts blocks.columns false) (duties_listed (record { pieces = pieces_of_plan facts blocks.columns; params = facts.params; counts = false }))
+    some_plan (duties_over facts blocks.columns false)
+    (duties_listed (record { pieces = pieces_of_plan facts blocks.columns; params = facts.params; counts = false }))
     (pieces blocks.columns are.plan) none
 
 -- nothing is left of a side
-none_left : (facts : DayFacts) (asked : Asked) (side : Side) (item : ℕ) (name : ItemName) (partial : List Column) → HasRoomForTrips facts → HasRoomForPieces facts →
+none_left : (facts : DayFacts) (asked : Asked) (side : Side) (item : ℕ) (name : ItemName) (partial : List Column) →
+    HasRoomForTrips facts → HasRoomForPieces facts →
     IsLeftItem facts asked side item name partial → ⊥
 none_left facts asked Vehicles item name partial trips pieces left = left.0.no_room trips
 none_left facts asked Drivers item name partial trips pieces left = left.is_left.no_room (pieces left.blocks.columns left.blocks_are.plan)
 
 refused : (facts : DayFacts) → HasRoomForTrips facts → HasRoomForPieces facts → IsRefusedForMemory facts
 refused facts trips pieces asked (faults.NoPlan side bound places) cause = absurd (both_sides facts asked side trips pieces cause.1)
-refused facts trips pieces asked (faults.NotPlaced side item name partial) cause = absurd (none_left facts asked side item name partial.columns trips pieces cause.1)
+refused facts trips pieces asked (faults.NotPlaced side item name partial) cause =
+    absurd (none_left facts asked side item name partial.columns trips pieces cause.1)
 refused facts trips pieces asked faults.Memory cause = refl
 
 pub roomy_refused : (facts : DayFacts) → IsRoomy facts → IsRefusedForMemory facts
-roomy_refused facts is = refused facts (room_for_trips facts is.pool is.group is.way is.roomy) (room_for_pieces facts is.pool is.group is.way is.roomy)
+roomy_refused facts is =
+    refused facts (room_for_trips facts is.pool is.group is.way is.roomy) (room_for_pieces facts is.pool is.group is.way is.roomy)
 
 pub made_refused : (seed trips day : ℕ) (facts : DayFacts) → trips ≤ 3000 → IsMadeDay seed trips day facts → IsRefusedForMemory facts
 made_refused seed trips day facts few made = roomy_refused facts (made_roomy seed trips day facts few made)

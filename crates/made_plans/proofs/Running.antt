@@ -27,7 +27,8 @@ module _ (day : DayFacts) (pool : Pool) (group : Group) (way : ℕ) where
   Running p = IsRunning day group way p
 
   -- how long a leg that is no cut is driven
-  driven : (l : Leg) → IsSound day pool group way l → is_cut day pool l ≡ false → (l.end.0 -ℤ l.begin.0) ≡ pos (cond (is_stand l.kind) 0 (duration l))
+  driven : (l : Leg) → IsSound day pool group way l → is_cut day pool l ≡ false →
+      (l.end.0 -ℤ l.begin.0) ≡ pos (cond (is_stand l.kind) 0 (duration l))
   driven l sound uncut = by (is_stand l.kind) refl
     where
       by : (b : Bool) → is_stand l.kind ≡ b → (l.end.0 -ℤ l.begin.0) ≡ pos (cond b 0 (duration l))
@@ -37,7 +38,8 @@ module _ (day : DayFacts) (pool : Pool) (group : Group) (way : ℕ) where
   begun_running : (block index : ℕ) (l : Leg) → IsSound day pool group way l → is_cut day pool l ≡ false → Running (begun block index l)
   begun_running block index l sound uncut = record { from = sound.from; to = sound.to; lasts = driven l sound uncut }
 
-  continued_running : (p : Piece) (l : Leg) → Running p → p.end.0 ≡ l.begin.0 → IsSound day pool group way l → is_cut day pool l ≡ false → Running (continued p l)
+  continued_running : (p : Piece) (l : Leg) → Running p → p.end.0 ≡ l.begin.0 → IsSound day pool group way l →
+      is_cut day pool l ≡ false → Running (continued p l)
   continued_running p l running meets sound uncut =
       let before = running.lasts in
       let more = driven l sound uncut in
@@ -50,37 +52,46 @@ module _ (day : DayFacts) (pool : Pool) (group : Group) (way : ℕ) where
   ended_running None at is = All-nil Running
   ended_running (Some p) at is = All-cons Running p [] is.0 (All-nil Running)
 
-  grown_running : (block index : ℕ) (held : Option Piece) (at : ℤ) (l : Leg) → Held at held → at ≡ l.begin.0 → IsSound day pool group way l → is_cut day pool l ≡ false → Held l.end.0 (Some (grown block index held l))
+  grown_running : (block index : ℕ) (held : Option Piece) (at : ℤ) (l : Leg) → Held at held → at ≡ l.begin.0 →
+      IsSound day pool group way l → is_cut day pool l ≡ false → Held l.end.0 (Some (grown block index held l))
   grown_running block index None at l is meets sound uncut = (begun_running block index l sound uncut, refl)
   grown_running block index (Some p) at l is meets sound uncut = (continued_running p l is.0 (is.1 ∙ meets) sound uncut, refl)
 
-  cut_running : (block index : ℕ) (held : Option Piece) (from to : ℤ) (legs : List Leg) → AreWhole day pool group way from to legs → Held from held →
+  cut_running : (block index : ℕ) (held : Option Piece) (from to : ℤ) (legs : List Leg) →
+      AreWhole day pool group way from to legs → Held from held →
       All Running (cut_on day pool block index held legs)
   cut_running block index held from to [] whole is = ended_running held from is
   cut_running block index held from to (l ∷ ls) whole is =
       by (is_cut day pool l) refl (cut_running block (next_index index held) None l.end.0 to ls whole.2 tt)
-      (λ uncut. cut_running block index (Some (grown block index held l)) l.end.0 to ls whole.2 (grown_running block index held from l is whole.0 whole.1 uncut))
+      (λ uncut. cut_running block index (Some (grown block index held l)) l.end.0 to ls whole.2
+      (grown_running block index held from l is whole.0 whole.1 uncut))
     where
       by : (b : Bool) → is_cut day pool l ≡ b → All Running (cut_on day pool block (next_index index held) None ls) →
           (is_cut day pool l ≡ false → All Running (cut_on day pool block index (Some (grown block index held l)) ls)) →
-          All Running (cond b (ended held ++ cut_on day pool block (next_index index held) None ls) (cut_on day pool block index (Some (grown block index held l)) ls))
+          All Running (cond b (ended held ++ cut_on day pool block (next_index index held) None ls)
+          (cut_on day pool block index (Some (grown block index held l)) ls))
       by true cut after on =
           All-append Running (ended held) (cut_on day pool block (next_index index held) None ls) (ended_running held from is) after
       by false uncut after on = on uncut
 
-  pub pieces_running : (block : ℕ) (from to : ℤ) (legs : List Leg) → AreWhole day pool group way from to legs → All Running (pieces_from block 1 (parts day pool legs))
+  pub pieces_running : (block : ℕ) (from to : ℤ) (legs : List Leg) → AreWhole day pool group way from to legs →
+      All Running (pieces_from block 1 (parts day pool legs))
   pieces_running block from to legs whole =
-      let P : List Piece → Type 0 = λ ps. All Running ps in subst P (cut_whole day pool block legs) (cut_running block 1 None from to legs whole tt)
+      let P : List Piece → Type 0 =
+      λ ps. All Running ps in subst P (cut_whole day pool block legs) (cut_running block 1 None from to legs whole tt)
 
 -- a piece that may be driven
 abbrev pub IsShort : Piece → Type 0
 IsShort p = p.driving ≤ longest_driving
 
 -- the number of a block changes nothing of the driving of its pieces
-pub pieces_short : (one other index at : ℕ) (ps : List (List Leg)) → list_all may_be_driven (pieces_from one index ps) ≡ true → All IsShort (pieces_from other at ps)
+pub pieces_short : (one other index at : ℕ) (ps : List (List Leg)) → list_all may_be_driven (pieces_from one index ps) ≡ true →
+    All IsShort (pieces_from other at ps)
 pieces_short one other index at [] all = All-nil IsShort
 pieces_short one other index at ([] ∷ rest) all = pieces_short one other index at rest all
 pieces_short one other index at ((l ∷ ls) ∷ rest) all =
-    let (test, others) = and_both (nat_le (driving_seconds (l ∷ ls)) longest_driving) (list_all may_be_driven (pieces_from one (index + 1) rest)) all in
+    let (test, others) = and_both (nat_le (driving_seconds (l ∷ ls)) longest_driving)
+    (list_all may_be_driven (pieces_from one (index + 1) rest)) all in
     let low : driving_seconds (l ∷ ls) ≤ longest_driving = grind (arith, nat_tests) in
-    All-cons IsShort (piece_of other at l ls) (pieces_from other (at + 1) rest) low (pieces_short one other (index + 1) (at + 1) rest others)
+    All-cons IsShort (piece_of other at l ls) (pieces_from other (at + 1) rest) low
+    (pieces_short one other (index + 1) (at + 1) rest others)

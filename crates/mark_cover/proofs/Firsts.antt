@@ -20,7 +20,8 @@ or-true : (a b : Bool) → b ≡ true → (a || b) ≡ true
 or-true true b h = refl
 or-true false b h = h
 
-pub any-get : {L : Type 0} (p : L → Bool) (xs : List L) → list_any p xs ≡ true → (k : ℕ) × (a : L) × (slice_get xs k ≡ Some a) × (p a ≡ true)
+pub any-get : {L : Type 0} (p : L → Bool) (xs : List L) → list_any p xs ≡ true →
+    (k : ℕ) × (a : L) × (slice_get xs k ≡ Some a) × (p a ≡ true)
 any-get p [] h = absurd (cc)
 any-get {L = L} p (x ∷ xs) h =
     elim (p x) as (λ t. p x ≡ t → (t || list_any p xs) ≡ true → (k : ℕ) × (a : L) × (slice_get (x ∷ xs) k ≡ Some a) × (p a ≡ true)) [
@@ -50,11 +51,13 @@ not-false : (t : Bool) → not t ≡ false → t ≡ true
 not-false true h = refl
 not-false false h = absurd (cc)
 
-unmet-some : {L : Type 0} (m : Marking L) (marks : List L) (o : Option L) → is_unmet m marks o ≡ true → (b : L) × (o ≡ Some b) × (IsMet m marks b → ⊥)
+unmet-some : {L : Type 0} (m : Marking L) (marks : List L) (o : Option L) → is_unmet m marks o ≡ true →
+    (b : L) × (o ≡ Some b) × (IsMet m marks b → ⊥)
 unmet-some m marks None h = absurd (cc)
 unmet-some m marks (Some b) h = let missing = not-true (is_met m marks b) h in (b, refl, (λ met. let is = met-onto m marks b met in cc))
 
-unmet-none : {L : Type 0} (m : Marking L) (marks : List L) (o : Option L) (b : L) → is_unmet m marks o ≡ false → o ≡ Some b → IsMet m marks b
+unmet-none : {L : Type 0} (m : Marking L) (marks : List L) (o : Option L) (b : L) → is_unmet m marks o ≡ false →
+    o ≡ Some b → IsMet m marks b
 unmet-none m marks None b h e = absurd (cc)
 unmet-none {L = L} m marks (Some a) b h e =
     let same = some-same a b e in
@@ -62,7 +65,8 @@ unmet-none {L = L} m marks (Some a) b h e =
     subst P same (met-from m marks a (not-false (is_met m marks a) h))
 
 -- an open list that is not met fails the test
-unmet-test : {L : Type 0} (m : Marking L) (marks : List L) (o : Option L) (b : L) → o ≡ Some b → (IsMet m marks b → ⊥) → is_unmet m marks o ≡ false → ⊥
+unmet-test : {L : Type 0} (m : Marking L) (marks : List L) (o : Option L) (b : L) → o ≡ Some b → (IsMet m marks b → ⊥) →
+    is_unmet m marks o ≡ false → ⊥
 unmet-test m marks o b e unmet h = unmet (unmet-none m marks o b h e)
 
 less-from : (u v : ℤ) → int_lt u v ≡ true → u <ℤ v
@@ -85,11 +89,13 @@ below-none price (Some u) v h e k =
 pub low-from : {L : Type 0} (m : Marking L) (class_prices : List ℤ) (a : L) → is_low m class_prices a ≡ true → ClosesBelow m class_prices a
 low-from m class_prices a h = below-some (number_at class_prices (m.class_of a)) (m.close a) h
 
-pub low-not : {L : Type 0} (m : Marking L) (class_prices : List ℤ) (a : L) → is_low m class_prices a ≡ false → ClosesBelow m class_prices a → ⊥
+pub low-not : {L : Type 0} (m : Marking L) (class_prices : List ℤ) (a : L) → is_low m class_prices a ≡ false →
+    ClosesBelow m class_prices a → ⊥
 low-not m class_prices a h below = below-none (number_at class_prices (m.class_of a)) (m.close a) below.0 h below.1 below.2
 
 -- marks with a gap are no cover
-pub gap-no-cover : {L : Type 0} (m : Marking L) (marks : List L) (class_prices : List ℤ) (gap : Gap) → IsGap m marks class_prices gap → IsMarkCover m marks class_prices → ⊥
+pub gap-no-cover : {L : Type 0} (m : Marking L) (marks : List L) (class_prices : List ℤ) (gap : Gap) → IsGap m marks class_prices gap →
+    IsMarkCover m marks class_prices → ⊥
 gap-no-cover m marks class_prices (First class item) is cover = is.3 (cover.starts class item is.1 is.0 is.2)
 gap-no-cover m marks class_prices (Next place item) is cover = is.4 (cover.steps is.0 is.2 item (place, is.1) is.3)
 gap-no-cover m marks class_prices (Close place) is cover = cover.closes is.0 (place, is.1) is.2
@@ -100,7 +106,8 @@ three-ways a b = grind arith
 two-ways : (a b : ℕ) → (a ≤ b) ⊎ (b < a)
 two-ways a b = grind arith
 
-pub start-first : {L : Type 0} (m : Marking L) (marks : List L) (class_prices : List ℤ) (gap : Gap) → IsPlaced m → IsFirstStart m marks (Some gap) → IsFirstGap m marks class_prices gap
+pub start-first : {L : Type 0} (m : Marking L) (marks : List L) (class_prices : List ℤ) (gap : Gap) → IsPlaced m →
+    IsFirstStart m marks (Some gap) → IsFirstGap m marks class_prices gap
 start-first {L = L} m marks class_prices (First class item) placed found =
     let (below, unmet, items, classes) = found in
     let (b, is, missing) = unmet-some m marks (m.start class item) unmet in
@@ -129,17 +136,20 @@ start-first {L = L} m marks class_prices (First class item) placed found =
 start-first m marks class_prices (Next place item) placed found = absurd found
 start-first m marks class_prices (Close place) placed found = absurd found
 
-no-start : {L : Type 0} (m : Marking L) (marks : List L) (class_prices : List ℤ) → IsPlaced m → IsFirstStart m marks None → (class item : ℕ) → IsGap m marks class_prices (First class item) → ⊥
+no-start : {L : Type 0} (m : Marking L) (marks : List L) (class_prices : List ℤ) → IsPlaced m → IsFirstStart m marks None →
+    (class item : ℕ) → IsGap m marks class_prices (First class item) → ⊥
 no-start m marks class_prices placed none class item is =
     let there = (placed.starts class item is.1 is.2).0 in
     unmet-test m marks (m.start class item) is.1 is.2 is.3 (none class item is.0 there)
 
-no-step : {L : Type 0} (m : Marking L) (marks : List L) (class_prices : List ℤ) → IsPlaced m → IsFirstStep m marks None → (place item : ℕ) → IsGap m marks class_prices (Next place item) → ⊥
+no-step : {L : Type 0} (m : Marking L) (marks : List L) (class_prices : List ℤ) → IsPlaced m → IsFirstStep m marks None → (place item : ℕ) →
+    IsGap m marks class_prices (Next place item) → ⊥
 no-step m marks class_prices placed none place item is =
     let there = (placed.steps is.0 is.2 item is.3).1 in
     unmet-test m marks (m.extend is.0 item) is.2 is.3 is.4 (none place is.0 is.1 item there)
 
-pub step-first : {L : Type 0} (m : Marking L) (marks : List L) (class_prices : List ℤ) (gap : Gap) → IsPlaced m → IsFirstStart m marks None → IsFirstStep m marks (Some gap) →
+pub step-first : {L : Type 0} (m : Marking L) (marks : List L) (class_prices : List ℤ) (gap : Gap) → IsPlaced m →
+    IsFirstStart m marks None → IsFirstStep m marks (Some gap) →
     IsFirstGap m marks class_prices gap
 step-first m marks class_prices (First class item) placed none found = absurd found
 step-first m marks class_prices (Close place) placed none found = absurd found
@@ -172,7 +182,8 @@ step-first {L = L} m marks class_prices (Next place item) placed none found =
           ];
     }
 
-closing-first : {L : Type 0} (m : Marking L) (marks : List L) (class_prices : List ℤ) (gap : Gap) → IsPlaced m → IsFirstStart m marks None → IsFirstStep m marks None →
+closing-first : {L : Type 0} (m : Marking L) (marks : List L) (class_prices : List ℤ) (gap : Gap) → IsPlaced m → IsFirstStart m marks None →
+    IsFirstStep m marks None →
     IsFirstClosing m marks class_prices (Some gap) → IsFirstGap m marks class_prices gap
 closing-first m marks class_prices (First class item) placed none steps found = absurd found
 closing-first m marks class_prices (Next place item) placed none steps found = absurd found
@@ -192,7 +203,8 @@ closing-first {L = L} m marks class_prices (Close place) placed none steps found
           ];
     }
 
-closing-cover : {L : Type 0} (m : Marking L) (marks : List L) (class_prices : List ℤ) → IsPlaced m → IsFirstStart m marks None → IsFirstStep m marks None →
+closing-cover : {L : Type 0} (m : Marking L) (marks : List L) (class_prices : List ℤ) → IsPlaced m → IsFirstStart m marks None →
+    IsFirstStep m marks None →
     IsFirstClosing m marks class_prices None → IsMarkCover m marks class_prices
 closing-cover m marks class_prices placed none steps low = record {
   starts = λ class item b there e. unmet-none m marks (m.start class item) b (none class item there (placed.starts class item b e).0) e;
@@ -200,7 +212,8 @@ closing-cover m marks class_prices placed none steps low = record {
   closes = λ a stands below. low-not m class_prices a (low stands.0 a stands.1) below;
 }
 
-module _ {L : Type 0} (m : Marking L) (marks : List L) (class_prices : List ℤ) (r : Option Gap) (placed : IsPlaced m) (none : IsFirstStart m marks None) (steps : IsFirstStep m marks None) (found : IsFirstClosing m marks class_prices r) where
+module _ {L : Type 0} (m : Marking L) (marks : List L) (class_prices : List ℤ) (r : Option Gap) (placed : IsPlaced m)
+    (none : IsFirstStart m marks None) (steps : IsFirstStep m marks None) (found : IsFirstClosing m marks class_prices r) where
   pub closing-some : IfSome r (λ gap. IsFirstGap m marks class_prices gap)
   closing-some = elim r as (λ o. IsFirstClosing m marks class_prices o → IfSome o (λ gap. IsFirstGap m marks class_prices gap)) [
     | None ↦ λ f. tt
@@ -216,7 +229,8 @@ module _ {L : Type 0} (m : Marking L) (marks : List L) (class_prices : List ℤ)
   pub closing-onto : IsMarkCover m marks class_prices → r ≡ None
   closing-onto cover = elim r as (λ o. IsFirstClosing m marks class_prices o → o ≡ None) [
     | None ↦ λ f. refl
-    | Some gap ↦ λ f. absurd (gap-no-cover m marks class_prices gap (closing-first m marks class_prices gap placed none steps f).is_gap cover)
+    | Some gap ↦ λ f. absurd
+        (gap-no-cover m marks class_prices gap (closing-first m marks class_prices gap placed none steps f).is_gap cover)
   ] found
 
 last-or : (k n : ℕ) → k < n + 1 → (k < n) ⊎ (k ≡ n)
@@ -234,7 +248,8 @@ more {L = L} P marks place a at here before k b below has =
     ]
 
 -- the items up to its last one extend no mark
-pub past-last : {L : Type 0} (m : Marking L) (marks : List L) (a : L) (k : ℕ) → IsPlaced m → k ≤ m.last a → is_unmet m marks (m.extend a k) ≡ false
+pub past-last : {L : Type 0} (m : Marking L) (marks : List L) (a : L) (k : ℕ) → IsPlaced m → k ≤ m.last a →
+    is_unmet m marks (m.extend a k) ≡ false
 past-last m marks a k placed order =
     elim (m.extend a k) as (λ o. m.extend a k ≡ o → is_unmet m marks o ≡ false) [
       | None ↦ λ is. refl
@@ -242,7 +257,8 @@ past-last m marks a k placed order =
     ] refl
 
 -- one place more, where the mark is not as good
-pub between-more : {L : Type 0} (m : Marking L) (marks : List L) (low place : ℕ) (b a : L) → slice_get marks place ≡ Some a → m.good a b ≡ false →
+pub between-more : {L : Type 0} (m : Marking L) (marks : List L) (low place : ℕ) (b a : L) →
+    slice_get marks place ≡ Some a → m.good a b ≡ false →
     AreUnmetBetween m marks low place b → AreUnmetBetween m marks low (place + 1) b
 between-more {L = L} m marks low place b a at here before k x from below has =
     elim (last-or k place below) [
@@ -254,13 +270,16 @@ between-more {L = L} m marks low place b a at here before k x from below has =
     ]
 
 -- an open list that ends with an item of a class is met among all marks, where it is among those of the class and item
-pub cell-passes : {L : Type 0} (m : Marking L) (cell marks : List L) (class item : ℕ) (o : Option L) → ((b : L) → o ≡ Some b → (m.class_of b ≡ class) × (m.last b ≡ item)) →
-    ((b : L) → m.class_of b ≡ class → m.last b ≡ item → is_met m cell b ≡ is_met m marks b) → is_unmet m cell o ≡ false → is_unmet m marks o ≡ false
+pub cell-passes : {L : Type 0} (m : Marking L) (cell marks : List L) (class item : ℕ) (o : Option L) →
+    ((b : L) → o ≡ Some b → (m.class_of b ≡ class) × (m.last b ≡ item)) →
+    ((b : L) → m.class_of b ≡ class → m.last b ≡ item → is_met m cell b ≡ is_met m marks b) → is_unmet m cell o ≡ false →
+    is_unmet m marks o ≡ false
 cell-passes m cell marks class item None ends same h = refl
 cell-passes m cell marks class item (Some b) ends same h = let (c, l) = ends b refl in ap not (sym (same b c l)) ∙ h
 
 -- one place more, whose mark's extension by an item is met
-pub places-more : {L : Type 0} (m : Marking L) (marks : List L) (item low place : ℕ) (a : L) → slice_get marks place ≡ Some a → is_unmet m marks (m.extend a item) ≡ false →
+pub places-more : {L : Type 0} (m : Marking L) (marks : List L) (item low place : ℕ) (a : L) → slice_get marks place ≡ Some a →
+    is_unmet m marks (m.extend a item) ≡ false →
     ((k : ℕ) (x : L) → low ≤ k → k < place → slice_get marks k ≡ Some x → is_unmet m marks (m.extend x item) ≡ false) →
     (k : ℕ) (x : L) → low ≤ k → k < place + 1 → slice_get marks k ≡ Some x → is_unmet m marks (m.extend x item) ≡ false
 places-more {L = L} m marks item low place a at here before k x from below has =
@@ -275,7 +294,8 @@ places-more {L = L} m marks item low place a at here before k x from below has =
 -- the extensions by an item of all marks of a class are met, where those of its marks with an earlier last item are
 pub met-by : {L : Type 0} (m : Marking L) (marks : List L) (class item low end : ℕ) → IsPlaced m →
     ((k : ℕ) (a : L) → slice_get marks k ≡ Some a → m.class_of a ≡ class → m.last a < item → (low ≤ k) × (k < end)) →
-    ((k : ℕ) (a : L) → low ≤ k → k < end → slice_get marks k ≡ Some a → is_unmet m marks (m.extend a item) ≡ false) → AreMetBy m marks class item
+    ((k : ℕ) (a : L) → low ≤ k → k < end → slice_get marks k ≡ Some a → is_unmet m marks (m.extend a item) ≡ false) →
+    AreMetBy m marks class item
 met-by m marks class item low end placed sources met = λ k a at same.
     elim (two-ways item (m.last a)) as (λ _. is_unmet m marks (m.extend a item) ≡ false) [
       | inl order ↦ past-last m marks a item placed order
@@ -283,7 +303,8 @@ met-by m marks class item low end placed sources met = λ k a at same.
     ]
 
 -- one item more, whose extensions are met
-pub items-more : {L : Type 0} (m : Marking L) (marks : List L) (class item : ℕ) → AreMetBy m marks class item → ((j : ℕ) → j < item → AreMetBy m marks class j) →
+pub items-more : {L : Type 0} (m : Marking L) (marks : List L) (class item : ℕ) → AreMetBy m marks class item →
+    ((j : ℕ) → j < item → AreMetBy m marks class j) →
     (j : ℕ) → j < item + 1 → AreMetBy m marks class j
 items-more m marks class item here before j below =
     elim (last-or j item below) as (λ _. AreMetBy m marks class j) [

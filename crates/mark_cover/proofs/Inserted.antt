@@ -81,7 +81,8 @@ not-onto true h = absurd (cc)
 not-onto false h = refl
 
 -- no mark is at least as good, where none of them is by its place
-pub not-met : {L : Type 0} (m : Marking L) (marks : List L) (b : L) → ((k : ℕ) (a : L) → slice_get marks k ≡ Some a → m.good a b ≡ false) → is_met m marks b ≡ false
+pub not-met : {L : Type 0} (m : Marking L) (marks : List L) (b : L) → ((k : ℕ) (a : L) → slice_get marks k ≡ Some a → m.good a b ≡ false) →
+    is_met m marks b ≡ false
 not-met m marks b none =
     elim (is_met m marks b) as (λ t. is_met m marks b ≡ t → t ≡ false) [
       | true ↦ λ is. let (k, a, at, passes) = any-get (λ x. m.good x b) marks is in let no = none k a at in absurd (cc)
@@ -89,7 +90,8 @@ not-met m marks b none =
     ] refl
 
 -- no mark is at least as good, where none is from a place on and none before it
-pub all-unmet : {L : Type 0} (m : Marking L) (marks : List L) (b : L) (near end : ℕ) → AreUnmetBetween m marks 0 end b → AreUnmetBetween m marks near (length marks) b →
+pub all-unmet : {L : Type 0} (m : Marking L) (marks : List L) (b : L) (near end : ℕ) → AreUnmetBetween m marks 0 end b →
+    AreUnmetBetween m marks near (length marks) b →
     (near ≤ length marks → end ≡ near) → (length marks ≤ near → end ≡ length marks) → is_met m marks b ≡ false
 all-unmet m marks b near end before from place past =
     not-met m marks b (λ k a at.
@@ -106,7 +108,8 @@ all-unmet m marks b near end before from place past =
     either-way a b = grind arith
 
 -- a mark that is put last, where none was at least as good, and those that it is at least as good as are taken out
-pub pushed : {L : Type 0} (m : Marking L) (marks : List L) (a : L) → IsOrdered m → is_met m marks a ≡ false → AreInserted m (a ∷ []) marks (filter (stays m a) marks ++ a ∷ [])
+pub pushed : {L : Type 0} (m : Marking L) (marks : List L) (a : L) → IsOrdered m → is_met m marks a ≡ false →
+    AreInserted m (a ∷ []) marks (filter (stays m a) marks ++ a ∷ [])
 pushed {L = L} m marks a ordered best = record {
   only = λ b stands. elim (stands-either (filter (stays m a) marks) (a ∷ []) b stands) [
     | inl left ↦ inl (filtered (stays m a) marks b left.0 left.1).0
@@ -120,7 +123,12 @@ pushed {L = L} m marks a ordered best = record {
       let (x, stands, good) = met in
       elim (m.good a x) as (λ t. m.good a x ≡ t → IsMet m (filter (stays m a) marks ++ a ∷ []) c) [
         | true ↦ λ beats. (a, stands-right (filter (stays m a) marks) (a ∷ []) a (0, refl), (ordered.kept 0).through a x c beats good)
-        | false ↦ λ stay. (x, stands-left (filter (stays m a) marks) (a ∷ []) x (kept (stays m a) marks x stands.0 stands.1 (not-onto (m.good a x) stay)), good)
+        | false ↦ λ stay. (
+          x,
+          stands-left (filter (stays m a) marks) (a ∷ []) x
+              (kept (stays m a) marks x stands.0 stands.1 (not-onto (m.good a x) stay)),
+          good,
+        )
       ] refl;
   alone = λ alone x y first second good.
       elim (stands-either (filter (stays m a) marks) (a ∷ []) x first) [
@@ -174,7 +182,8 @@ none-inserted m marks = record {
 }
 
 -- some candidates are put in after others
-pub more-inserted : {L : Type 0} (m : Marking L) (first second old now new : List L) → AreInserted m first old now → AreInserted m second now new → AreInserted m (first ++ second) old new
+pub more-inserted : {L : Type 0} (m : Marking L) (first second old now new : List L) → AreInserted m first old now →
+    AreInserted m second now new → AreInserted m (first ++ second) old new
 more-inserted m first second old now new one two = record {
   only = λ b stands. elim (two.only b stands) [
     | inl before ↦ elim (one.only b before) [ inl there ↦ inl there | inr put ↦ inr (stands-left first second b put) ]
@@ -193,14 +202,16 @@ pub listed-onto : {L : Type 0} (o : Option L) (b : L) → o ≡ Some b → Stand
 listed-onto None b h = absurd (cc)
 listed-onto (Some a) b h = (0, h)
 
-pub nexts-only : {L : Type 0} (m : Marking L) (marks : List L) (item : ℕ) (b : L) → StandsIn (nexts m marks item) b → (a : L) × StandsIn marks a × (m.extend a item ≡ Some b)
+pub nexts-only : {L : Type 0} (m : Marking L) (marks : List L) (item : ℕ) (b : L) → StandsIn (nexts m marks item) b →
+    (a : L) × StandsIn marks a × (m.extend a item ≡ Some b)
 nexts-only m [] item b h = absurd (stands-none b h)
 nexts-only m (a ∷ rest) item b h = elim (stands-either (listed (m.extend a item)) (nexts m rest item) b h) [
   | inl left ↦ (a, (0, refl), listed-only (m.extend a item) b left)
   | inr right ↦ let (x, stands, is) = nexts-only m rest item b right in (x, (suc stands.0, stands.1), is)
 ]
 
-pub nexts-onto : {L : Type 0} (m : Marking L) (marks : List L) (item : ℕ) (a b : L) (k : ℕ) → slice_get marks k ≡ Some a → m.extend a item ≡ Some b → StandsIn (nexts m marks item) b
+pub nexts-onto : {L : Type 0} (m : Marking L) (marks : List L) (item : ℕ) (a b : L) (k : ℕ) → slice_get marks k ≡ Some a →
+    m.extend a item ≡ Some b → StandsIn (nexts m marks item) b
 nexts-onto m [] item a b k h is = absurd (get-none a k h)
 nexts-onto {L = L} m (x ∷ rest) item a b zero h is =
     let same = some-same x a h in

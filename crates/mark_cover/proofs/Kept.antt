@@ -9,7 +9,8 @@ use Rattle.mark_cover.specs.Levels.{AreAlone, AreBelow, AreInserted, AreOfClass,
 use Rattle.mark_cover.proofs.Inserted.{more-inserted, stands-left, stands-right, stands-either, stands-none, listed-only, listed-onto, nexts-only, nexts-onto}
 
 -- the label of a list with one item more
-after-item : {L : Type 0} (w : Labelling L) (o : Option L) (xs : List ℕ) (a b : L) (item : ℕ) → label_after w o xs ≡ Some a → w.extend a item ≡ Some b →
+after-item : {L : Type 0} (w : Labelling L) (o : Option L) (xs : List ℕ) (a b : L) (item : ℕ) → label_after w o xs ≡ Some a →
+    w.extend a item ≡ Some b →
     label_after w o (xs ++ item ∷ []) ≡ Some b
 after-item w None [] a b item e is = absurd (cc)
 after-item w None (x ∷ xs) a b item e is = absurd (cc)
@@ -19,7 +20,8 @@ after-item {L = L} w (Some c) [] a b item e is =
     ap (λ o. label_after w o []) (subst Q (sym same) is)
 after-item w (Some c) (x ∷ xs) a b item e is = after-item w (w.extend c x) xs a b item e is
 
-of-item : {L : Type 0} (w : Labelling L) (list : List ℕ) (a b : L) (item : ℕ) → label_of w list ≡ Some a → w.extend a item ≡ Some b → label_of w (list ++ item ∷ []) ≡ Some b
+of-item : {L : Type 0} (w : Labelling L) (list : List ℕ) (a b : L) (item : ℕ) → label_of w list ≡ Some a → w.extend a item ≡ Some b →
+    label_of w (list ++ item ∷ []) ≡ Some b
 of-item w [] a b item e is = absurd (cc)
 of-item w (x ∷ xs) a b item e is = after-item w (w.start x) xs a b item e is
 
@@ -42,7 +44,8 @@ pub record IsLevel {L : Type 0} (m : Marking L) (class n : ℕ) (marks new : Lis
   pub alone : AreAlone m new
 
 -- what a candidate is
-from-candidate : {L : Type 0} (m : Marking L) (class n : ℕ) (marks new : List L) (b : L) → AreInserted m (listed (m.start class n) ++ nexts m marks n) [] new → StandsIn new b →
+from-candidate : {L : Type 0} (m : Marking L) (class n : ℕ) (marks new : List L) (b : L) →
+    AreInserted m (listed (m.start class n) ++ nexts m marks n) [] new → StandsIn new b →
     (m.start class n ≡ Some b) ⊎ ((a : L) × StandsIn marks a × (m.extend a n ≡ Some b))
 from-candidate m class n marks new b inserted h = elim (inserted.only b h) [
   | inl none ↦ absurd (stands-none b none)
@@ -53,7 +56,8 @@ from-candidate m class n marks new b inserted h = elim (inserted.only b h) [
 ]
 
 -- what is made from the marks of the items before is a level
-pub level-is : {L : Type 0} (m : Marking L) (class n : ℕ) (marks new : List L) → IsPlaced m → class < m.classes → AreOfClass m class n marks →
+pub level-is : {L : Type 0} (m : Marking L) (class n : ℕ) (marks new : List L) → IsPlaced m → class < m.classes →
+    AreOfClass m class n marks →
     AreInserted m (listed (m.start class n) ++ nexts m marks n) [] new → IsLevel m class n marks new
 level-is {L = L} m class n marks new placed there old inserted = record {
   are_open = λ b h. elim (from-candidate m class n marks new b inserted h) [
@@ -72,16 +76,22 @@ level-is {L = L} m class n marks new placed there old inserted = record {
     | inr next ↦ (placed.steps next.0 b n next.2).3
   ];
   starts = λ b e. inserted.met b (stands-left (listed (m.start class n)) (nexts m marks n) b (listed-onto (m.start class n) b e));
-  steps = λ a b stands e. inserted.met b (stands-right (listed (m.start class n)) (nexts m marks n) b (nexts-onto m marks n a b stands.0 stands.1 e));
+  steps = λ a b stands e. inserted.met b
+      (stands-right (listed (m.start class n)) (nexts m marks n) b (nexts-onto m marks n a b stands.0 stands.1 e));
   alone = inserted.alone (λ a b first second good. absurd (stands-none a first));
 }
 
-pub class-step : {L : Type 0} (m : Marking L) (class n : ℕ) (marks new : List L) → IsOrdered m → IsPlaced m → AreOfClass m class n marks → IsLevel m class n marks new →
+pub class-step : {L : Type 0} (m : Marking L) (class n : ℕ) (marks new : List L) → IsOrdered m → IsPlaced m → AreOfClass m class n marks →
+    IsLevel m class n marks new →
     AreOfClass m class (n + 1) (marks ++ new)
 class-step {L = L} m class n marks new ordered placed old next = record {
   are_open = λ a h. elim (stands-either marks new a h) [ inl left ↦ old.are_open a left | inr right ↦ next.are_open a right ];
   in_class = λ a h. elim (stands-either marks new a h) [ inl left ↦ old.in_class a left | inr right ↦ next.in_class a right ];
-  lasts = λ a h. elim (stands-either marks new a h) [ inl left ↦ let below = old.lasts a left in omega arith | inr right ↦ let same = next.lasts a right in omega arith ];
+  lasts = λ a h. elim (stands-either marks new a h) [
+    | inl left ↦ let below = old.lasts a left in omega arith
+    | inr right ↦ let same =
+        next.lasts a right in omega arith
+  ];
   starts = λ item b below e. elim (below-next item n below) [
     | inl less ↦ met-left m marks new b (old.starts item b less e)
     | inr same ↦ let P : ℕ → Type 0 = λ k. m.start class k ≡ Some b in met-right m marks new b (next.starts b (subst P same e))
@@ -120,15 +130,21 @@ class-none m class = record {
   alone = λ a b first second good. absurd (stands-none a first);
 }
 
-pub below-step : {L : Type 0} (m : Marking L) (k : ℕ) (marks new : List L) → IsOrdered m → IsPlaced m → AreBelow m k marks → AreOfClass m k m.items new → AreBelow m (k + 1) (marks ++ new)
+pub below-step : {L : Type 0} (m : Marking L) (k : ℕ) (marks new : List L) → IsOrdered m → IsPlaced m → AreBelow m k marks →
+    AreOfClass m k m.items new → AreBelow m (k + 1) (marks ++ new)
 below-step {L = L} m k marks new ordered placed old next = record {
   are_open = λ a h. elim (stands-either marks new a h) [ inl left ↦ old.are_open a left | inr right ↦ next.are_open a right ];
-  classes = λ a h. elim (stands-either marks new a h) [ inl left ↦ let below = old.classes a left in omega arith | inr right ↦ let same = next.in_class a right in omega arith ];
+  classes = λ a h. elim (stands-either marks new a h) [
+    | inl left ↦ let below = old.classes a left in omega arith
+    | inr right ↦ let same =
+        next.in_class a right in omega arith
+  ];
   starts = λ class item b below e.
       let there = (placed.starts class item b e).0 in
       elim (below-next class k below) [
         | inl less ↦ met-left m marks new b (old.starts class item b less e)
-        | inr same ↦ let P : ℕ → Type 0 = λ j. m.start j item ≡ Some b in met-right m marks new b (next.starts item b there (subst P same e))
+        | inr same ↦ let P : ℕ → Type 0 = λ j. m.start j item ≡ Some b in
+            met-right m marks new b (next.starts item b there (subst P same e))
       ];
   steps = λ a b item h e.
       let there = (placed.steps a b item e).1 in
@@ -164,18 +180,22 @@ pub all-kept : {L : Type 0} (m : Marking L) (marks : List L) → AreBelow m m.cl
 all-kept m marks all = record { are_open = all.are_open; starts = all.starts; steps = all.steps; alone = all.alone }
 
 -- the marks of open lists are sound
-after-sound : {L : Type 0} (m : Marking L) (sound : L → Type 0) (class : ℕ) → AreSafe m sound → (o : Option L) (xs : List ℕ) (a : L) → ((b : L) → o ≡ Some b → sound b) →
+after-sound : {L : Type 0} (m : Marking L) (sound : L → Type 0) (class : ℕ) → AreSafe m sound → (o : Option L) (xs : List ℕ) (a : L) →
+    ((b : L) → o ≡ Some b → sound b) →
     label_after (of_class m class) o xs ≡ Some a → sound a
 after-sound m sound class safe None xs a known e = absurd (cc)
 after-sound m sound class safe (Some b) [] a known e = known a e
-after-sound m sound class safe (Some b) (x ∷ xs) a known e = after-sound m sound class safe (m.extend b x) xs a (λ c is. safe.steps b c x (known b refl) is) e
+after-sound m sound class safe (Some b) (x ∷ xs) a known e =
+    after-sound m sound class safe (m.extend b x) xs a (λ c is. safe.steps b c x (known b refl) is) e
 
-list-sound : {L : Type 0} (m : Marking L) (sound : L → Type 0) (class : ℕ) → AreSafe m sound → (list : List ℕ) (a : L) → label_of (of_class m class) list ≡ Some a → sound a
+list-sound : {L : Type 0} (m : Marking L) (sound : L → Type 0) (class : ℕ) → AreSafe m sound → (list : List ℕ) (a : L) →
+    label_of (of_class m class) list ≡ Some a → sound a
 list-sound m sound class safe [] a e = absurd (cc)
 list-sound m sound class safe (x ∷ xs) a e = after-sound m sound class safe (m.start class x) xs a (λ b is. safe.starts class x b is) e
 
 -- what a level is made from
-pub class-given : {L : Type 0} (m : Marking L) (sound : L → Type 0) (class n : ℕ) (marks : List L) → AreSafe m sound → class < m.classes → n ≤ m.items → AreOfClass m class n marks →
+pub class-given : {L : Type 0} (m : Marking L) (sound : L → Type 0) (class n : ℕ) (marks : List L) → AreSafe m sound → class < m.classes →
+    n ≤ m.items → AreOfClass m class n marks →
     AreGiven m sound marks
 class-given m sound class n marks safe there order all = record {
   are_sound = λ a h. let (k, below, list, has) = all.are_open a h in list-sound m sound k safe list a has;
@@ -195,12 +215,16 @@ nexts-more {L = L} m (x ∷ rest) item zero a h =
 nexts-more m (x ∷ rest) item (suc place) a h =
     let more = nexts-more m rest item place a h in
     let shifted : suc place + 1 ≡ suc (place + 1) = omega arith in
-    rw shifted (ap (λ l. listed (m.extend x item) ++ l) more ∙ sym (append_assoc (listed (m.extend x item)) (nexts m (take place rest) item) (listed (m.extend a item))))
+    rw shifted (ap (λ l. listed (m.extend x item) ++ l) more
+    ∙ sym (append_assoc (listed (m.extend x item)) (nexts m (take place rest) item) (listed (m.extend a item))))
 
 -- one step of the insertion of extensions
-pub insert-step : {L : Type 0} (m : Marking L) (init marks : List L) (item place : ℕ) (a : L) (o : Option L) (now new : List L) → slice_get marks place ≡ Some a → o ≡ m.extend a item →
-    AreInserted m (nexts m (take place marks) item) init now → AreInserted m (listed o) now new → AreInserted m (nexts m (take (place + 1) marks) item) init new
+pub insert-step : {L : Type 0} (m : Marking L) (init marks : List L) (item place : ℕ) (a : L) (o : Option L) (now new : List L) →
+    slice_get marks place ≡ Some a → o ≡ m.extend a item →
+    AreInserted m (nexts m (take place marks) item) init now → AreInserted m (listed o) now new →
+    AreInserted m (nexts m (take (place + 1) marks) item) init new
 insert-step {L = L} m init marks item place a o now new at is before after =
     let P : Option L → Type 0 = λ x. AreInserted m (listed x) now new in
     let Q : List L → Type 0 = λ l. AreInserted m l init new in
-    subst Q (sym (nexts-more m marks item place a at)) (more-inserted m (nexts m (take place marks) item) (listed (m.extend a item)) init now new before (subst P is after))
+    subst Q (sym (nexts-more m marks item place a at))
+    (more-inserted m (nexts m (take place marks) item) (listed (m.extend a item)) init now new before (subst P is after))

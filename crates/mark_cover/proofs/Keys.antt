@@ -26,14 +26,24 @@ late-through : (c1 i1 c2 i2 c3 i3 : ℕ) → is_before c2 i2 c1 i1 ≡ false →
 late-through c1 i1 c2 i2 c3 i3 h k =
     late-onto c3 i3 c1 i1 (elim (late-from c2 i2 c1 i1 h) [
       | inl less ↦ elim (late-from c3 i3 c2 i2 k) [ inl less2 ↦ inl (omega arith) | inr same ↦ let e = same.0 in inl (omega arith) ]
-      | inr same ↦ let e = same.0 in let o = same.1 in elim (late-from c3 i3 c2 i2 k) [ inl less2 ↦ inl (omega arith) | inr same2 ↦ let e2 = same2.0 in let o2 = same2.1 in inr (omega arith, omega arith) ]
+      | inr same ↦ let e = same.0 in let o = same.1 in
+          elim (late-from c3 i3 c2 i2 k) [
+            | inl less2 ↦ inl (omega arith)
+            | inr same2 ↦ let e2 = same2.0 in let o2 =
+                same2.1 in inr (omega arith, omega arith)
+          ]
     ])
 
 early-through : (c1 i1 c2 i2 c i : ℕ) → is_before c2 i2 c1 i1 ≡ false → is_before c2 i2 c i ≡ true → is_before c1 i1 c i ≡ true
 early-through c1 i1 c2 i2 c i h k =
     before-onto c1 i1 c i (elim (late-from c2 i2 c1 i1 h) [
       | inl less ↦ elim (before-from c2 i2 c i k) [ inl less2 ↦ inl (omega arith) | inr same ↦ let e = same.0 in inl (omega arith) ]
-      | inr same ↦ let e = same.0 in let o = same.1 in elim (before-from c2 i2 c i k) [ inl less2 ↦ inl (omega arith) | inr same2 ↦ let e2 = same2.0 in let o2 = same2.1 in inr (omega arith, omega arith) ]
+      | inr same ↦ let e = same.0 in let o = same.1 in
+          elim (before-from c2 i2 c i k) [
+            | inl less2 ↦ inl (omega arith)
+            | inr same2 ↦ let e2 = same2.0 in let o2 =
+                same2.1 in inr (omega arith, omega arith)
+          ]
     ])
 
 same-mark : {L : Type 0} (o : Option L) (a b : L) → o ≡ Some a → o ≡ Some b → a ≡ b
@@ -46,7 +56,8 @@ not-past : (k n : ℕ) → n ≤ k → (n < k) ⊎ (k ≡ n)
 not-past k n h = grind arith
 
 -- one step of the search for a place
-pub early-step : {L : Type 0} (m : Marking L) (marks : List L) (class item middle : ℕ) (a : L) → AreGrouped m marks → slice_get marks middle ≡ Some a →
+pub early-step : {L : Type 0} (m : Marking L) (marks : List L) (class item middle : ℕ) (a : L) → AreGrouped m marks →
+    slice_get marks middle ≡ Some a →
     stands_before m a class item ≡ true → AreEarly m marks class item (middle + 1)
 early-step {L = L} m marks class item middle a grouped at is = λ k b below has.
     elim (below-next k middle below) [
@@ -58,7 +69,8 @@ early-step {L = L} m marks class item middle a grouped at is = λ k b below has.
           subst Q e is
     ]
 
-pub late-step : {L : Type 0} (m : Marking L) (marks : List L) (class item middle : ℕ) (a : L) → AreGrouped m marks → slice_get marks middle ≡ Some a →
+pub late-step : {L : Type 0} (m : Marking L) (marks : List L) (class item middle : ℕ) (a : L) → AreGrouped m marks →
+    slice_get marks middle ≡ Some a →
     stands_before m a class item ≡ false → AreLate m marks class item middle
 late-step {L = L} m marks class item middle a grouped at is = λ k b above has.
     elim (not-past k middle above) [
@@ -94,7 +106,8 @@ step-grouped m marks steps = λ i j a b less at there.
     let same : j ≡ i + 1 + (j - (i + 1)) = omega arith in
     far-grouped m marks steps (j - (i + 1)) i a b at (subst P same there)
 
-pub step-more : {L : Type 0} (m : Marking L) (marks : List L) (place : ℕ) (a b : L) → 1 ≤ place → slice_get marks (place - 1) ≡ Some a → slice_get marks place ≡ Some b →
+pub step-more : {L : Type 0} (m : Marking L) (marks : List L) (place : ℕ) (a b : L) → 1 ≤ place → slice_get marks (place - 1) ≡ Some a →
+    slice_get marks place ≡ Some b →
     stands_before m b (m.class_of a) (m.last a) ≡ false → AreStepGrouped m marks place → AreStepGrouped m marks (place + 1)
 step-more {L = L} m marks place a b one at there is steps = λ k x y below has next.
     elim (below-next (k + 1) place below) [
@@ -137,25 +150,31 @@ split [] (suc n) = refl
 split (x ∷ xs) zero = refl
 split (x ∷ xs) (suc n) = ap (λ l. x ∷ l) (split xs n)
 
-three-parts : (all front rest middle tail : Bool) → all ≡ (front || rest) → front ≡ false → rest ≡ (middle || tail) → tail ≡ false → middle ≡ all
+three-parts : (all front rest middle tail : Bool) → all ≡ (front || rest) → front ≡ false → rest ≡ (middle || tail) →
+    tail ≡ false → middle ≡ all
 three-parts all front rest true tail h1 h2 h3 h4 = grind arith
 three-parts all front rest false tail h1 h2 h3 h4 = grind arith
 
 -- of a list the middle tells whether an element passes, where none does before and behind it
 pub middle-any : {L : Type 0} (p : L → Bool) (xs : List L) (low high : ℕ) → low ≤ high →
-    ((k : ℕ) (a : L) → k < low → slice_get xs k ≡ Some a → p a ≡ false) → ((k : ℕ) (a : L) → high ≤ k → slice_get xs k ≡ Some a → p a ≡ false) →
+    ((k : ℕ) (a : L) → k < low → slice_get xs k ≡ Some a → p a ≡ false) →
+    ((k : ℕ) (a : L) → high ≤ k → slice_get xs k ≡ Some a → p a ≡ false) →
     list_any p (take (high - low) (drop low xs)) ≡ list_any p xs
 middle-any {L = L} p xs low high order before behind =
-    let front : list_any p (take low xs) ≡ false = none-pass p (take low xs) (λ k a h. let (below, at) = get-take xs low k a h in before k a below at) in
+    let front : list_any p (take low xs) ≡ false =
+    none-pass p (take low xs) (λ k a h. let (below, at) = get-take xs low k a h in before k a below at) in
     let tail : list_any p (drop (high - low) (drop low xs)) ≡ false =
     none-pass p (drop (high - low) (drop low xs)) (λ k a h.
     let e1 = get-drop (drop low xs) (high - low) k in
     let e2 = get-drop xs low (high - low + k) in
     behind (low + (high - low + k)) a (omega arith) (sym e2 ∙ (sym e1 ∙ h))) in
-    let whole : list_any p xs ≡ (list_any p (take low xs) || list_any p (drop low xs)) = ap (list_any p) (split xs low) ∙ list_any-append p (take low xs) (drop low xs) in
+    let whole : list_any p xs ≡ (list_any p (take low xs) || list_any p (drop low xs)) =
+    ap (list_any p) (split xs low) ∙ list_any-append p (take low xs) (drop low xs) in
     let rest : list_any p (drop low xs) ≡ (list_any p (take (high - low) (drop low xs)) || list_any p (drop (high - low) (drop low xs))) =
-    ap (list_any p) (split (drop low xs) (high - low)) ∙ list_any-append p (take (high - low) (drop low xs)) (drop (high - low) (drop low xs)) in
-    three-parts (list_any p xs) (list_any p (take low xs)) (list_any p (drop low xs)) (list_any p (take (high - low) (drop low xs))) (list_any p (drop (high - low) (drop low xs))) whole front rest tail
+    ap (list_any p) (split (drop low xs) (high - low))
+    ∙ list_any-append p (take (high - low) (drop low xs)) (drop (high - low) (drop low xs)) in
+    three-parts (list_any p xs) (list_any p (take low xs)) (list_any p (drop low xs)) (list_any p (take (high - low) (drop low xs)))
+    (list_any p (drop (high - low) (drop low xs))) whole front rest tail
 
 -- a mark before a class and item, or one that is not before the next item, is not at least as good as one that ends with it
 pub early-differs : {L : Type 0} (m : Marking L) → IsOrdered m → (a b : L) (class item : ℕ) → m.class_of b ≡ class → m.last b ≡ item →
@@ -166,7 +185,11 @@ early-differs m ordered a b class item of_class last is =
           let same = ordered.grouped a b good in
           let e1 = same.0 in
           let e2 = same.1 in
-          elim (before-from (m.class_of a) (m.last a) class item is) [ inl less ↦ absurd (omega arith) | inr equal ↦ let less = equal.1 in absurd (omega arith) ]
+          elim (before-from (m.class_of a) (m.last a) class item is) [
+            | inl less ↦ absurd (omega arith)
+            | inr equal ↦ let less =
+                equal.1 in absurd (omega arith)
+          ]
       | false ↦ λ good. refl
     ] refl
 
@@ -178,20 +201,27 @@ late-differs m ordered a b class item of_class last is =
           let same = ordered.grouped a b good in
           let e1 = same.0 in
           let e2 = same.1 in
-          elim (late-from (m.class_of a) (m.last a) class (item + 1) is) [ inl less ↦ absurd (omega arith) | inr equal ↦ let less = equal.1 in absurd (omega arith) ]
+          elim (late-from (m.class_of a) (m.last a) class (item + 1) is) [
+            | inl less ↦ absurd (omega arith)
+            | inr equal ↦ let less =
+                equal.1 in absurd (omega arith)
+          ]
       | false ↦ λ good. refl
     ] refl
 
 -- the group of a class and item
-pub group-any : {L : Type 0} (m : Marking L) (marks : List L) (class item low high : ℕ) → IsOrdered m → low ≤ high → AreEarly m marks class item low → AreLate m marks class (item + 1) high →
-    (b : L) → m.class_of b ≡ class → m.last b ≡ item → list_any (λ a. m.good a b) (take (high - low) (drop low marks)) ≡ list_any (λ a. m.good a b) marks
+pub group-any : {L : Type 0} (m : Marking L) (marks : List L) (class item low high : ℕ) → IsOrdered m → low ≤ high →
+    AreEarly m marks class item low → AreLate m marks class (item + 1) high →
+    (b : L) → m.class_of b ≡ class → m.last b ≡ item →
+    list_any (λ a. m.good a b) (take (high - low) (drop low marks)) ≡ list_any (λ a. m.good a b) marks
 group-any m marks class item low high ordered order early late b of_class last =
     middle-any (λ a. m.good a b) marks low high order
     (λ k a below at. early-differs m ordered a b class item of_class last (early k a below at))
     (λ k a above at. late-differs m ordered a b class item of_class last (late k a above at))
 
 -- an empty one
-pub no-group : {L : Type 0} (m : Marking L) (marks : List L) (class item low high : ℕ) → IsOrdered m → high ≤ low → AreEarly m marks class item low → AreLate m marks class (item + 1) high →
+pub no-group : {L : Type 0} (m : Marking L) (marks : List L) (class item low high : ℕ) → IsOrdered m → high ≤ low →
+    AreEarly m marks class item low → AreLate m marks class (item + 1) high →
     (b : L) → m.class_of b ≡ class → m.last b ≡ item → list_any (λ a. m.good a b) marks ≡ false
 no-group {L = L} m marks class item low high ordered order early late b of_class last =
     none-pass (λ a. m.good a b) marks (λ k a at.
@@ -201,7 +231,8 @@ no-group {L = L} m marks class item low high ordered order early late b of_class
     ])
 
 -- the marks of a class with an earlier last item stand between these places
-pub sources-between : {L : Type 0} (m : Marking L) (marks : List L) (class item from end : ℕ) → AreEarly m marks class 0 from → AreLate m marks class item end →
+pub sources-between : {L : Type 0} (m : Marking L) (marks : List L) (class item from end : ℕ) → AreEarly m marks class 0 from →
+    AreLate m marks class item end →
     (k : ℕ) (a : L) → slice_get marks k ≡ Some a → m.class_of a ≡ class → m.last a < item → (from ≤ k) × (k < end)
 sources-between m marks class item from end early late k a at same less = (
   elim (either-way from k) as (λ _. from ≤ k) [
@@ -224,7 +255,8 @@ sources-between m marks class item from end early late k a at same less = (
     either-way a b = grind arith
 
 -- and those between these places are of the class
-pub between-class : {L : Type 0} (m : Marking L) (marks : List L) (class item from end : ℕ) → AreLate m marks class 0 from → AreEarly m marks class item end →
+pub between-class : {L : Type 0} (m : Marking L) (marks : List L) (class item from end : ℕ) → AreLate m marks class 0 from →
+    AreEarly m marks class item end →
     (k : ℕ) (a : L) → slice_get marks k ≡ Some a → from ≤ k → k < end → m.class_of a ≡ class
 between-class m marks class item from end late early k a at low high =
     elim (late-from (m.class_of a) (m.last a) class 0 (late k a low at)) as (λ _. m.class_of a ≡ class) [

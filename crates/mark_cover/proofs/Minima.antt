@@ -13,7 +13,8 @@ use Rattle.mark_cover.specs.Minimal.{IsOpenMark, AreKept, KeptAreMinimal}
 abbrev Stands : {L : Type 0} → List L → L → Type 0
 Stands marks a = StandsIn marks a
 
-kept-cover : {L : Type 0} (m : Marking L) (marks : List L) (class : ℕ) → class < m.classes → AreKept m marks → IsCover (of_class m class) (GoodAs m.good) (Stands marks)
+kept-cover : {L : Type 0} (m : Marking L) (marks : List L) (class : ℕ) → class < m.classes → AreKept m marks →
+    IsCover (of_class m class) (GoodAs m.good) (Stands marks)
 kept-cover m marks class there kept = record {
   starts = λ item b e. let (a, stands, good) = kept.starts class item b there e in (a, stands, good);
   steps = λ a b item stands e. let (c, stands2, good) = kept.steps a b item stands e in (c, stands2, good);
@@ -23,7 +24,8 @@ kept-cover m marks class there kept = record {
 pub open-met : {L : Type 0} (m : Marking L) (marks : List L) → IsOrdered m → AreKept m marks → (b : L) → IsOpenMark m b → IsMet m marks b
 open-met m marks ordered kept b is_open =
     let (class, there, list, has) = is_open in
-    let (a, stands, good) = covers (of_class m class) (GoodAs m.good) (Stands marks) (ordered.kept class) (kept-cover m marks class there kept) list b has in
+    let (a, stands, good) =
+    covers (of_class m class) (GoodAs m.good) (Stands marks) (ordered.kept class) (kept-cover m marks class there kept) list b has in
     (a, stands, good)
 
 pub kept-minimal : {L : Type 0} (m : Marking L) (order : L → L → Ordering) → IsOrdered m → KeptAreMinimal m order

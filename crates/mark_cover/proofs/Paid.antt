@@ -16,7 +16,8 @@ abbrev KeptIn : {L : Type 0} → Marking L → List L → ℕ → L → Type 0
 KeptIn m marks class a = StandsIn marks a × (m.class_of a ≡ class)
 
 -- the marks of a class cover the lists of that class
-class-cover : {L : Type 0} (m : Marking L) (marks : List L) (class_prices : List ℤ) (class : ℕ) → IsOrdered m → IsPlaced m → class < m.classes →
+class-cover : {L : Type 0} (m : Marking L) (marks : List L) (class_prices : List ℤ) (class : ℕ) → IsOrdered m →
+    IsPlaced m → class < m.classes →
     IsMarkCover m marks class_prices → IsCover (of_class m class) (GoodAs m.good) (KeptIn m marks class)
 class-cover m marks class_prices class ordered placed there cover = record {
   starts = λ item b e.
@@ -33,21 +34,25 @@ not-below : (u v : ℤ) → ((u <ℤ v) → ⊥) → v ≤ℤ u
 not-below u v h = grind (arith, ints)
 
 -- under a cover no list of a class has a value below minus the class price, whatever the class prices are
-pub cover-at-least : {L : Type 0} (m : Marking L) (p : Problem) (prices : List Price) (marks : List L) (class_prices : List ℤ) → IsOrdered m → IsPlaced m → AreMarksOf m p prices →
-    IsMarkCover m marks class_prices → (class : ℕ) → class < length p.caps → IsAtMostAll p prices class (neg_ℤ (number_at class_prices class))
+pub cover-at-least : {L : Type 0} (m : Marking L) (p : Problem) (prices : List Price) (marks : List L) (class_prices : List ℤ) →
+    IsOrdered m → IsPlaced m → AreMarksOf m p prices →
+    IsMarkCover m marks class_prices → (class : ℕ) → class < length p.caps →
+    IsAtMostAll p prices class (neg_ℤ (number_at class_prices class))
 cover-at-least {L = L} m p prices marks class_prices ordered placed marks_of cover class below = λ list worth e.
     let same = marks_of.classes in
     let there : class < m.classes = omega arith in
     let tied = marks_of.tied class below in
     let (b, has, closed) = tied.onto list worth e in
-    let (a, kept, good) = covers (of_class m class) (GoodAs m.good) (KeptIn m marks class) (ordered.kept class) (class-cover m marks class_prices class ordered placed there cover) list b has in
+    let (a, kept, good) = covers (of_class m class) (GoodAs m.good) (KeptIn m marks class) (ordered.kept class)
+    (class-cover m marks class_prices class ordered placed there cover) list b has in
     let (u, closes, below_value) = ordered.closes a b (value_of prices worth list) good closed in
     let refuted : (u <ℤ neg_ℤ (number_at class_prices (m.class_of a))) → ⊥ = λ low. cover.closes a kept.0 (u, closes, low) in
     let P : ℕ → Type 0 = λ k. neg_ℤ (number_at class_prices k) ≤ℤ u in
     let least = subst P kept.1 (not-below u (neg_ℤ (number_at class_prices (m.class_of a))) refuted) in
     omega (arith, ints, least, below_value)
 
-pub cover-is-paid : {L : Type 0} (m : Marking L) (p : Problem) (prices : List Price) → IsOrdered m → IsPlaced m → AreMarksOf m p prices → CoverIsPaid m p prices
+pub cover-is-paid : {L : Type 0} (m : Marking L) (p : Problem) (prices : List Price) → IsOrdered m → IsPlaced m →
+    AreMarksOf m p prices → CoverIsPaid m p prices
 cover-is-paid {L = L} m p prices ordered placed marks_of marks class_prices charged cover = record {
   charged = λ class below. let same = marks_of.classes in charged class (omega arith);
   covered = λ class list worth below e.

@@ -31,7 +31,8 @@ pub record IsOrdered {L : Type 0} (m : Marking L) : Type 0 where
 -- Lists have items of the problem, and a mark knows its list's class and last item; a later item is put behind it.
 pub record IsPlaced {L : Type 0} (m : Marking L) : Type 0 where
   pub starts : (class item : ℕ) (b : L) → m.start class item ≡ Some b → (item < m.items) × (m.class_of b ≡ class) × (m.last b ≡ item)
-  pub steps : (a b : L) (item : ℕ) → m.extend a item ≡ Some b → (m.last a < item) × (item < m.items) × (m.class_of b ≡ m.class_of a) × (m.last b ≡ item)
+  pub steps : (a b : L) (item : ℕ) → m.extend a item ≡ Some b →
+      (m.last a < item) × (item < m.items) × (m.class_of b ≡ m.class_of a) × (m.last b ≡ item)
 
 -- The marks are those of a problem under prices: a list has a worth in a class exactly where it has a mark of the class that closes, and
 -- it closes with a thousand times its worth less the prices of its items.

@@ -35,7 +35,8 @@ IsApart {L} m = (a b : L) → m.good a b ≡ true → m.good b a ≡ true → a 
 -- such marks, put in rising order, are exactly the minimal ones
 abbrev pub KeptAreMinimal : {L : Type 0} → Marking L → (L → L → Ordering) → Type 0
 KeptAreMinimal {L} m order =
-    (kept marks : List L) → IsApart m → AreKept m kept → IsPermutation kept marks → AllPairs (λ (a b : L). order a b ≡ Less) marks → AreMinimal m order marks
+    (kept marks : List L) → IsApart m → AreKept m kept → IsPermutation kept marks → AllPairs (λ (a b : L). order a b ≡ Less) marks →
+    AreMinimal m order marks
 
 -- the marks of open lists are sound
 pub record AreSafe {L : Type 0} (m : Marking L) (sound : L → Type 0) : Type 0 where

@@ -12,7 +12,8 @@ stands_before m a class item = is_before (m.class_of a) (m.last a) class item
 
 -- no mark stands before an earlier one, by class and last item
 abbrev pub AreGrouped : {L : Type 0} → Marking L → List L → Type 0
-AreGrouped {L} m marks = (i j : ℕ) (a b : L) → i < j → slice_get marks i ≡ Some a → slice_get marks j ≡ Some b → stands_before m b (m.class_of a) (m.last a) ≡ false
+AreGrouped {L} m marks = (i j : ℕ) (a b : L) → i < j → slice_get marks i ≡ Some a → slice_get marks j ≡ Some b →
+    stands_before m b (m.class_of a) (m.last a) ≡ false
 
 -- the marks at places below a bound stand before a class and item
 abbrev pub AreEarly : {L : Type 0} → Marking L → List L → ℕ → ℕ → ℕ → Type 0
@@ -24,4 +25,5 @@ AreLate {L} m marks class item bound = (k : ℕ) (a : L) → bound ≤ k → sli
 
 -- of neighbours below a bound, the later one does not stand before the earlier one
 abbrev pub AreStepGrouped : {L : Type 0} → Marking L → List L → ℕ → Type 0
-AreStepGrouped {L} m marks bound = (k : ℕ) (a b : L) → k + 1 < bound → slice_get marks k ≡ Some a → slice_get marks (k + 1) ≡ Some b → stands_before m b (m.class_of a) (m.last a) ≡ false
+AreStepGrouped {L} m marks bound = (k : ℕ) (a b : L) → k + 1 < bound → slice_get marks k ≡ Some a → slice_get marks (k + 1) ≡ Some b →
+    stands_before m b (m.class_of a) (m.last a) ≡ false

@@ -33,17 +33,20 @@ IsFirstWhere bound test (Some k) = (k < bound) × (test k ≡ true) × ((j : ℕ
 abbrev pub IsFirstStart : {L : Type 0} → Marking L → List L → Option Gap → Type 0
 IsFirstStart {L} m marks None = (class item : ℕ) → class < m.classes → item < m.items → is_unmet m marks (m.start class item) ≡ false
 IsFirstStart {L} m marks (Some (First class item)) =
-    (class < m.classes) × (is_unmet m marks (m.start class item) ≡ true) × ((j : ℕ) → j < item → is_unmet m marks (m.start class j) ≡ false) ×
+    (class < m.classes) × (is_unmet m marks (m.start class item) ≡ true)
+    × ((j : ℕ) → j < item → is_unmet m marks (m.start class j) ≡ false) ×
     ((k j : ℕ) → k < class → j < m.items → is_unmet m marks (m.start k j) ≡ false)
 IsFirstStart {L} m marks (Some (Next place item)) = ⊥
 IsFirstStart {L} m marks (Some (Close place)) = ⊥
 
 -- the first extension of a mark that is not met
 abbrev pub IsFirstStep : {L : Type 0} → Marking L → List L → Option Gap → Type 0
-IsFirstStep {L} m marks None = (k : ℕ) (a : L) → slice_get marks k ≡ Some a → (j : ℕ) → j < m.items → is_unmet m marks (m.extend a j) ≡ false
+IsFirstStep {L} m marks None =
+    (k : ℕ) (a : L) → slice_get marks k ≡ Some a → (j : ℕ) → j < m.items → is_unmet m marks (m.extend a j) ≡ false
 IsFirstStep {L} m marks (Some (First class item)) = ⊥
 IsFirstStep {L} m marks (Some (Next place item)) =
-    ((a : L) × (slice_get marks place ≡ Some a) × (is_unmet m marks (m.extend a item) ≡ true) × ((j : ℕ) → j < item → is_unmet m marks (m.extend a j) ≡ false)) ×
+    ((a : L) × (slice_get marks place ≡ Some a) × (is_unmet m marks (m.extend a item) ≡ true)
+    × ((j : ℕ) → j < item → is_unmet m marks (m.extend a j) ≡ false)) ×
     ((k : ℕ) (b : L) → k < place → slice_get marks k ≡ Some b → (j : ℕ) → j < m.items → is_unmet m marks (m.extend b j) ≡ false)
 IsFirstStep {L} m marks (Some (Close place)) = ⊥
 
@@ -62,7 +65,8 @@ AreThere {L} m marks = (k : ℕ) (a : L) → slice_get marks k ≡ Some a → (m
 
 -- the extensions of the marks at places below a bound are met
 abbrev pub AreMetBelow : {L : Type 0} → Marking L → List L → ℕ → Type 0
-AreMetBelow {L} m marks bound = (k : ℕ) (b : L) → k < bound → slice_get marks k ≡ Some b → (j : ℕ) → j < m.items → is_unmet m marks (m.extend b j) ≡ false
+AreMetBelow {L} m marks bound =
+    (k : ℕ) (b : L) → k < bound → slice_get marks k ≡ Some b → (j : ℕ) → j < m.items → is_unmet m marks (m.extend b j) ≡ false
 
 -- the marks at places below a bound do not close too low
 abbrev pub AreHighBelow : {L : Type 0} → Marking L → List L → List ℤ → ℕ → Type 0
@@ -70,7 +74,8 @@ AreHighBelow {L} m marks class_prices bound = (k : ℕ) (b : L) → k < bound �
 
 -- the extensions by an item of all marks of a class are met
 abbrev pub AreMetBy : {L : Type 0} → Marking L → List L → ℕ → ℕ → Type 0
-AreMetBy {L} m marks class item = (k : ℕ) (a : L) → slice_get marks k ≡ Some a → m.class_of a ≡ class → is_unmet m marks (m.extend a item) ≡ false
+AreMetBy {L} m marks class item =
+    (k : ℕ) (a : L) → slice_get marks k ≡ Some a → m.class_of a ≡ class → is_unmet m marks (m.extend a item) ≡ false
 
 -- no mark from a place to another one is at least as good
 abbrev pub AreUnmetBetween : {L : Type 0} → Marking L → List L → ℕ → ℕ → L → Type 0

@@ -20,26 +20,30 @@ plain_heads (name ∷ columns) plain =
     and_from (is_plain_column (number_head name)) (list_all is_plain_column (map number_head columns))
     (and_from (is_plain_name name) true both.0 refl) (plain_heads columns both.1)
 
-plain_fields : (columns : List (List ℕ)) (row : List (Option ℕ)) → list_all (λ (pair : Head × Field). is_plain_field pair.0 pair.1) (zip (map number_head columns) (number_row row)) ≡ true
+plain_fields : (columns : List (List ℕ)) (row : List (Option ℕ)) →
+    list_all (λ (pair : Head × Field). is_plain_field pair.0 pair.1) (zip (map number_head columns) (number_row row)) ≡ true
 plain_fields [] row = refl
 plain_fields (name ∷ columns) [] = refl
 plain_fields (name ∷ columns) (None ∷ row) = plain_fields columns row
 plain_fields (name ∷ columns) (Some number ∷ row) = plain_fields columns row
 
-plain_row : (columns : List (List ℕ)) (row : List (Option ℕ)) → length row ≡ length columns → is_plain_row (map number_head columns) (number_row row) ≡ true
+plain_row : (columns : List (List ℕ)) (row : List (Option ℕ)) → length row ≡ length columns →
+    is_plain_row (map number_head columns) (number_row row) ≡ true
 plain_row columns row full =
     and_from (length (map number_head columns) == length (number_row row)) _
     (same_lengths _ _ (length-map columns number_head ∙ sym full ∙ sym (length-map row number_field)))
     (plain_fields columns row)
 
-plain_rows : (columns : List (List ℕ)) (rows : List (List (Option ℕ))) → AreFull columns rows → list_all (is_plain_row (map number_head columns)) (number_rows rows) ≡ true
+plain_rows : (columns : List (List ℕ)) (rows : List (List (Option ℕ))) → AreFull columns rows →
+    list_all (is_plain_row (map number_head columns)) (number_rows rows) ≡ true
 plain_rows columns [] full = refl
 plain_rows columns (row ∷ rows) full =
     and_from (is_plain_row (map number_head columns) (number_row row)) _
     (plain_row columns row (All-head (λ row. length row ≡ length columns) row rows full))
     (plain_rows columns rows (All-tail (λ row. length row ≡ length columns) row rows full))
 
-pub few_heads : (columns : List (List ℕ)) → (not (length columns == 0) && (nat_le (length columns) 200 && list_all is_plain_name columns)) ≡ true → are_plain_columns (map number_head columns) ≡ true
+pub few_heads : (columns : List (List ℕ)) → (not (length columns == 0) && (nat_le (length columns) 200 && list_all is_plain_name columns))
+    ≡ true → are_plain_columns (map number_head columns) ≡ true
 few_heads columns plain =
     let some = and_parts (not (length columns == 0)) _ plain in
     let few = and_parts (nat_le (length columns) 200) _ some.1 in
@@ -55,5 +59,6 @@ plain_table name columns = λ rows names full.
     (and_from (are_plain_columns (map number_head columns)) _ (few_heads columns both.1) (plain_rows columns rows full))
 
 -- rows of items that each have as many numbers as there are columns are full
-pub full_rows : {A : Type 0} (columns : List (List ℕ)) (numbers_of : A → List (Option ℕ)) → ((item : A) → length (numbers_of item) ≡ length columns) → (items : List A) → AreFull columns (map numbers_of items)
+pub full_rows : {A : Type 0} (columns : List (List ℕ)) (numbers_of : A → List (Option ℕ)) →
+    ((item : A) → length (numbers_of item) ≡ length columns) → (items : List A) → AreFull columns (map numbers_of items)
 full_rows columns numbers_of width items = All-map (λ row. length row ≡ length columns) numbers_of items (λ k d within. width _)

@@ -11,19 +11,22 @@ use Rattle.number_tables.specs.Numbers.{number_head}
 use Rattle.number_tables.specs.Signed.{AreSignedFull, PlainSigned, signed_field, signed_row, signed_rows}
 use Rattle.number_tables.proofs.PlainLemmas.{few_heads, same_lengths}
 
-plain_fields : (columns : List (List ℕ)) (row : List (Option ℤ)) → list_all (λ (pair : Head × Field). is_plain_field pair.0 pair.1) (zip (map number_head columns) (signed_row row)) ≡ true
+plain_fields : (columns : List (List ℕ)) (row : List (Option ℤ)) →
+    list_all (λ (pair : Head × Field). is_plain_field pair.0 pair.1) (zip (map number_head columns) (signed_row row)) ≡ true
 plain_fields [] row = refl
 plain_fields (name ∷ columns) [] = refl
 plain_fields (name ∷ columns) (None ∷ row) = plain_fields columns row
 plain_fields (name ∷ columns) (Some number ∷ row) = plain_fields columns row
 
-plain_row : (columns : List (List ℕ)) (row : List (Option ℤ)) → length row ≡ length columns → is_plain_row (map number_head columns) (signed_row row) ≡ true
+plain_row : (columns : List (List ℕ)) (row : List (Option ℤ)) → length row ≡ length columns →
+    is_plain_row (map number_head columns) (signed_row row) ≡ true
 plain_row columns row full =
     and_from (length (map number_head columns) == length (signed_row row)) _
     (same_lengths _ _ (length-map columns number_head ∙ sym full ∙ sym (length-map row signed_field)))
     (plain_fields columns row)
 
-plain_rows : (columns : List (List ℕ)) (rows : List (List (Option ℤ))) → AreSignedFull columns rows → list_all (is_plain_row (map number_head columns)) (signed_rows rows) ≡ true
+plain_rows : (columns : List (List ℕ)) (rows : List (List (Option ℤ))) → AreSignedFull columns rows →
+    list_all (is_plain_row (map number_head columns)) (signed_rows rows) ≡ true
 plain_rows columns [] full = refl
 plain_rows columns (row ∷ rows) full =
     and_from (is_plain_row (map number_head columns) (signed_row row)) _

@@ -56,4 +56,5 @@ AreFull columns rows = All (λ row. length row ≡ length columns) rows
 -- Under plain names full rows make a plain table.
 abbrev pub PlainNumbers : List ℕ → List (List ℕ) → Type 0
 PlainNumbers name columns =
-    (rows : List (List (Option ℕ))) → IsTrue (are_plain_names name columns) → AreFull columns rows → IsTrue (is_plain_table (number_table name columns rows))
+    (rows : List (List (Option ℕ))) → IsTrue (are_plain_names name columns) → AreFull columns rows →
+    IsTrue (is_plain_table (number_table name columns rows))

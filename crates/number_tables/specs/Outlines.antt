@@ -1,4 +1,5 @@
--- Tables of whole numbers as they are read and written: their outlines, the numbers of their rows, and the first place where a table is wrong.
+-- Tables of whole numbers as they are read and written: their outlines, the numbers of their rows, and the first place where a table is
+-- wrong.
 use Rattle.std.specs.Prelude.{ℕ, ℤ, pos, negsuc, zero, suc, ◌+◌, ◌||◌, not, Bool, true, false, nat_lt, nat_le, nat_eq, List, [], ◌∷◌, ◌++◌, length, map, filter, Option, Some, None, option_and_then, is_none, if◌then◌else◌}
 use Rattle.std.specs.Option.{option_map}
 use Rattle.std.specs.List.{list_any, filter_map}
@@ -43,7 +44,8 @@ lacks_column columns (Some table) = list_any (λ name. is_none (place_of name ta
 
 -- a table is missing, stands twice or lacks a column
 abbrev pub whole_faults : Outline → List Table → List Place
-whole_faults o tables = when (not (nat_eq (length (filter (has_name o.name) tables)) 1) || lacks_column o.columns (named o tables)) (place o.name 0)
+whole_faults o tables =
+    when (not (nat_eq (length (filter (has_name o.name) tables)) 1) || lacks_column o.columns (named o tables)) (place o.name 0)
 
 -- the rows, counted on from this one, that say nothing
 abbrev pub entry_faults : {A : Type 0} → List ℕ → ℕ → List (Option A) → List Place

@@ -28,4 +28,5 @@ AreSignedFull columns rows = All (λ row. length row ≡ length columns) rows
 -- Under plain names full rows make a plain table.
 abbrev pub PlainSigned : List ℕ → List (List ℕ) → Type 0
 PlainSigned name columns =
-    (rows : List (List (Option ℤ))) → IsTrue (are_plain_names name columns) → AreSignedFull columns rows → IsTrue (is_plain_table (signed_table name columns rows))
+    (rows : List (List (Option ℤ))) → IsTrue (are_plain_names name columns) → AreSignedFull columns rows →
+    IsTrue (is_plain_table (signed_table name columns rows))

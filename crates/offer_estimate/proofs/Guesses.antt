@@ -31,7 +31,8 @@ raised-from low high (e ∷ es) above all =
     All-cons (IsLess high) e es (omega (arith, ints)) (raised-from low high es above (All-tail (IsNoMore low) e es all))
 
 -- one more guess, which is greater
-pub first-new : (es : List Estimate) (old new : Estimate) → old.bound <ℤ new.bound → IsFirstGreatest es old → IsFirstGreatest (es ++ new ∷ []) new
+pub first-new : (es : List Estimate) (old new : Estimate) → old.bound <ℤ new.bound → IsFirstGreatest es old →
+    IsFirstGreatest (es ++ new ∷ []) new
 first-new es old new above is =
     let less : All (IsLess new.bound) (is.before ++ old ∷ is.after) =
     All-append (IsLess new.bound) is.before (old ∷ is.after) (raised old.bound new.bound is.before above is.less)
@@ -40,26 +41,32 @@ first-new es old new above is =
     record { before = es; after = []; all = refl; less = subst P (sym is.all) less; no_more = All-nil (IsNoMore new.bound) }
 
 -- one more guess, which is not
-pub first-old : (es : List Estimate) (old new : Estimate) → new.bound ≤ℤ old.bound → IsFirstGreatest es old → IsFirstGreatest (es ++ new ∷ []) old
+pub first-old : (es : List Estimate) (old new : Estimate) → new.bound ≤ℤ old.bound → IsFirstGreatest es old →
+    IsFirstGreatest (es ++ new ∷ []) old
 first-old es old new below is = record {
   before = is.before;
   after = is.after ++ new ∷ [];
   all = ap (λ (l : List Estimate). l ++ new ∷ []) is.all ∙ append_assoc is.before (old ∷ is.after) (new ∷ []);
   less = is.less;
-  no_more = All-append (IsNoMore old.bound) is.after (new ∷ []) is.no_more (All-cons (IsNoMore old.bound) new [] below (All-nil (IsNoMore old.bound)));
+  no_more = All-append (IsNoMore old.bound) is.after (new ∷ []) is.no_more
+      (All-cons (IsNoMore old.bound) new [] below (All-nil (IsNoMore old.bound)));
 }
 
 -- one more guess: the new one where it is greater, else the old one
-pub first-better : (es : List Estimate) (old new best : Estimate) → (old.bound <ℤ new.bound → best ≡ new) → (new.bound ≤ℤ old.bound → best ≡ old) →
+pub first-better : (es : List Estimate) (old new best : Estimate) → (old.bound <ℤ new.bound → best ≡ new) →
+    (new.bound ≤ℤ old.bound → best ≡ old) →
     IsFirstGreatest es old → IsFirstGreatest (es ++ new ∷ []) best
 first-better es old new best greater no_greater is = go (int_lt old.bound new.bound) refl
   where
     go : (b : Bool) → int_lt old.bound new.bound ≡ b → IsFirstGreatest (es ++ new ∷ []) best
-    go true e = let above : old.bound <ℤ new.bound = grind (arith, ints) in let P : Estimate → Type 0 = λ x. IsFirstGreatest (es ++ new ∷ []) x in subst P (sym (greater above)) (first-new es old new above is)
-    go false e = let below : new.bound ≤ℤ old.bound = grind (arith, ints) in let P : Estimate → Type 0 = λ x. IsFirstGreatest (es ++ new ∷ []) x in subst P (sym (no_greater below)) (first-old es old new below is)
+    go true e = let above : old.bound <ℤ new.bound = grind (arith, ints) in let P : Estimate →
+        Type 0 = λ x. IsFirstGreatest (es ++ new ∷ []) x in subst P (sym (greater above)) (first-new es old new above is)
+    go false e = let below : new.bound ≤ℤ old.bound = grind (arith, ints) in let P : Estimate →
+        Type 0 = λ x. IsFirstGreatest (es ++ new ∷ []) x in subst P (sym (no_greater below)) (first-old es old new below is)
 
 pub guesses-some : (sum : ℤ) (least worths : List ℤ) (caps : List ℕ) (k : ℕ) → int_lt (number_at least k) (pos 0) ≡ true →
-    guesses sum least worths caps (k + 1) ≡ guesses sum least worths caps k ++ guess_at sum least worths caps (proposed (number_at least k) (number_at worths k)) ∷ []
+    guesses sum least worths caps (k + 1) ≡ guesses sum least worths caps k
+    ++ guess_at sum least worths caps (proposed (number_at least k) (number_at worths k)) ∷ []
 guesses-some sum least worths caps k test = rw (add-one, test) refl
 
 pub guesses-none : (sum : ℤ) (least worths : List ℤ) (caps : List ℕ) (k : ℕ) → int_lt (number_at least k) (pos 0) ≡ false →
@@ -67,10 +74,12 @@ pub guesses-none : (sum : ℤ) (least worths : List ℤ) (caps : List ℕ) (k : 
 guesses-none sum least worths caps k test = rw (add-one, test) refl
 
 pub leasts-more : (part whole : ℤ) (least worths : List ℤ) (caps : List ℕ) (k : ℕ) →
-    scaled_leasts part whole least worths caps (k + 1) ≡ scaled_leasts part whole least worths caps k +ℤ (pos (slice_index caps k) *ℤ scaled_least part whole (number_at least k) (number_at worths k))
+    scaled_leasts part whole least worths caps (k + 1) ≡ scaled_leasts part whole least worths caps k
+    +ℤ (pos (slice_index caps k) *ℤ scaled_least part whole (number_at least k) (number_at worths k))
 leasts-more part whole least worths caps k = rw add-one refl
 
-pub sum-more : (guess loss new base before after t : ℤ) → guess ≡ base +ℤ before → after ≡ before +ℤ t → loss ≡ t → new ≡ guess +ℤ loss → new ≡ base +ℤ after
+pub sum-more : (guess loss new base before after t : ℤ) → guess ≡ base +ℤ before → after ≡ before +ℤ t → loss ≡ t →
+    new ≡ guess +ℤ loss → new ≡ base +ℤ after
 sum-more guess loss new base before after t so_far more is sum = omega (arith, ints)
 
 -- a number below 0 is the least of 0 and itself, and 0 that of 0 and any other

@@ -16,7 +16,8 @@ scaled_least part whole least worth = int_min (pos 0) (int_div ((part *ℤ least
 abbrev pub scaled_leasts : ℤ → ℤ → List ℤ → List ℤ → List ℕ → ℕ → ℤ
 scaled_leasts part whole least worths caps zero = pos 0
 scaled_leasts part whole least worths caps (suc k) =
-    scaled_leasts part whole least worths caps k +ℤ (pos (slice_index caps k) *ℤ scaled_least part whole (number_at least k) (number_at worths k))
+    scaled_leasts part whole least worths caps k
+    +ℤ (pos (slice_index caps k) *ℤ scaled_least part whole (number_at least k) (number_at worths k))
 
 -- the guess of the bound of prices with this sum, when they are scaled: the scaled sum, and what all classes take off it
 abbrev pub estimate_of : ℤ → List ℤ → List ℤ → List ℕ → ℤ → ℤ → ℤ

@@ -21,7 +21,8 @@ use Rattle.one_answer.proofs.Verdicts.{not-times, not-unlawful, one-times, one-u
 abbrev AfterBlocks : DayFacts → PlanText → OldPlan → Type 0
 AfterBlocks day text a =
     ((item : ℕ) × (times : ℕ) × (piece : Piece) × (slice_get (old_pieces day text) item ≡ Some piece) ×
-    IsFirstTimes (length (old_pieces day text)) (old_duties day text) item times × (a ≡ Bad (reasons.PieceTimes piece.block piece.index times))) ⊎
+    IsFirstTimes (length (old_pieces day text)) (old_duties day text) item times
+    × (a ≡ Bad (reasons.PieceTimes piece.block piece.index times))) ⊎
     (HasPiecesOnce day text × (a ≡ Good text))
 
 -- the trips are passed
@@ -45,7 +46,8 @@ InSteps day plan a =
 in-steps : (day : DayFacts) (plan : List Table) (a : OldPlan) → IsOldAnswer day plan a → InSteps day plan a
 in-steps day plan (Good text) (said, good) = inr (text, said, inr (good.trips, inr (good.blocks, inr (good.pieces, refl))))
 in-steps day plan (Bad (reasons.PlanForm table row)) is = inl (table, row, is, refl)
-in-steps day plan (Bad (reasons.TripTimes fid times)) (text, said, (item, at, first)) = inr (text, said, inl (item, times, fid, at, first, refl))
+in-steps day plan (Bad (reasons.TripTimes fid times)) (text, said, (item, at, first)) =
+    inr (text, said, inl (item, times, fid, at, first, refl))
 in-steps day plan (Bad (reasons.BlockUnlawful block)) (text, said, (trips, (spot, block_is, first))) =
     inr (text, said, inr (trips, inl (spot, first, cc)))
 in-steps day plan (Bad (reasons.PieceTimes block index times)) (text, said, (trips, blocks, (item, piece, at, block_is, index_is, first))) =

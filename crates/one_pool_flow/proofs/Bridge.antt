@@ -64,26 +64,39 @@ both_cond false x rest = sym (none_right x)
 
 -- a step of a path, and one of a block
 last_plain : {L : Type 0} → (a b : Bool) (l : Option L) (cost : L → ℕ) (rest : Option ℕ) →
-    both (given a (option_map cost l)) (given b rest) ≡ given (a && b) (option_and_then (λ x. option_and_then (λ r. Some (cost x + r)) rest) l)
+    both (given a (option_map cost l)) (given b rest)
+    ≡ given (a && b) (option_and_then (λ x. option_and_then (λ r. Some (cost x + r)) rest) l)
 last_plain false b l cost rest = refl
 last_plain true false l cost rest = none_right (option_map cost l)
 last_plain true true None cost rest = refl
 last_plain true true (Some x) cost rest = map_then (λ (r : ℕ). cost x + r) rest
 
-step_plain : {L : Type 0} → (here later admitted k : Bool) (l : Option L) (cost : L → ℕ) (rest : Option ℕ) (found : Option (List Trip)) (all : List Trip → Bool) (more : List Trip → Option ℕ) →
+step_plain : {L : Type 0} →
+    (here later admitted k : Bool) (l : Option L) (cost : L → ℕ) (rest : Option ℕ) (found : Option (List Trip)) (all : List Trip → Bool)
+    (more : List Trip → Option ℕ) →
     cond k rest None ≡ given later (option_and_then (λ (ts : List Trip). given (all ts) (more ts)) found) →
-    cond k (both (given here (given admitted (option_map cost l))) rest) None ≡ given (here && later) (option_and_then (λ (ts : List Trip). given (admitted && all ts) (option_and_then (λ x. option_and_then (λ r. Some (cost x + r)) (more ts)) l)) found)
+    cond k (both (given here (given admitted (option_map cost l))) rest) None
+    ≡ given (here && later)
+    (option_and_then (λ (ts : List Trip). given (admitted && all ts)
+    (option_and_then (λ x. option_and_then (λ r. Some (cost x + r)) (more ts)) l)) found)
 step_plain here later admitted k l cost rest found all more e =
-    both_cond k (given here (given admitted (option_map cost l))) rest ∙ (ap (both (given here (given admitted (option_map cost l)))) e ∙ go here later found)
+    both_cond k (given here (given admitted (option_map cost l))) rest
+    ∙ (ap (both (given here (given admitted (option_map cost l)))) e ∙ go here later found)
   where
-    go : (here later : Bool) (found : Option (List Trip)) → both (given here (given admitted (option_map cost l))) (given later (option_and_then (λ (ts : List Trip). given (all ts) (more ts)) found)) ≡
-        given (here && later) (option_and_then (λ (ts : List Trip). given (admitted && all ts) (option_and_then (λ x. option_and_then (λ r. Some (cost x + r)) (more ts)) l)) found)
+    go : (here later : Bool) (found : Option (List Trip)) →
+        both (given here (given admitted (option_map cost l)))
+        (given later (option_and_then (λ (ts : List Trip). given (all ts) (more ts)) found)) ≡
+        given (here && later) (option_and_then
+        (λ (ts : List Trip). given (admitted && all ts) (option_and_then (λ x. option_and_then (λ r. Some (cost x + r)) (more ts)) l))
+        found)
     go false later found = refl
     go true false found = none_right (given admitted (option_map cost l))
     go true true None = none_right (given admitted (option_map cost l))
     go true true (Some ts) = last_plain admitted (all ts) l cost (more ts)
 
-then_some : (f : List Trip → Option ℕ) (trip : Trip) (found : Option (List Trip)) → option_and_then f (option_and_then (λ (ts : List Trip). Some (trip ∷ ts)) found) ≡ option_and_then (λ (ts : List Trip). f (trip ∷ ts)) found
+then_some : (f : List Trip → Option ℕ) (trip : Trip) (found : Option (List Trip)) →
+    option_and_then f (option_and_then (λ (ts : List Trip). Some (trip ∷ ts)) found)
+    ≡ option_and_then (λ (ts : List Trip). f (trip ∷ ts)) found
 then_some f trip None = refl
 then_some f trip (Some ts) = refl
 
@@ -93,19 +106,28 @@ rest_of day pool trip ts = given (all_admitted day pool ts) (cost_from day pool 
 
 -- what a path costs from a trip on
 rest_is : (day : DayFacts) (pool : Pool) (t : ℕ) (trip : Trip) → slice_get day.trips t ≡ Some trip → (us : List ℕ) →
-    cond (all_below (length day.trips) us) (rest_cost (net_of day pool) t us) None ≡ given (rises (t ∷ us)) (option_and_then (λ (ts : List Trip). given (all_admitted day pool ts) (cost_from day pool trip ts)) (trips_at day.trips us))
+    cond (all_below (length day.trips) us) (rest_cost (net_of day pool) t us) None
+    ≡ given (rises (t ∷ us))
+    (option_and_then (λ (ts : List Trip). given (all_admitted day pool ts) (cost_from day pool trip ts)) (trips_at day.trips us))
 rest_is day pool t trip at [] =
-    arc_end day pool t (get_in day.trips t trip at) ∙ (ap (λ (o : Option Trip). option_and_then (λ (x : Trip). option_map (λ (inward : ℕ). pool.dead_rate * inward) (pull_in day pool x)) o) at ∙ map_then (λ (inward : ℕ). pool.dead_rate * inward) (pull_in day pool trip))
+    arc_end day pool t (get_in day.trips t trip at)
+    ∙ (ap (λ (o : Option Trip). option_and_then (λ (x : Trip). option_map (λ (inward : ℕ). pool.dead_rate * inward) (pull_in day pool x))
+    o) at ∙ map_then (λ (inward : ℕ). pool.dead_rate * inward) (pull_in day pool trip))
 rest_is day pool t trip at (u ∷ us) = go (slice_get day.trips u) refl (λ next found. rest_is day pool u next found us)
   where
     go : (o : Option Trip) → slice_get day.trips u ≡ o →
-        ((next : Trip) → slice_get day.trips u ≡ Some next → cond (all_below (length day.trips) us) (rest_cost (net_of day pool) u us) None ≡ given (rises (u ∷ us)) (option_and_then (rest_of day pool next) (trips_at day.trips us))) →
-        cond (all_below (length day.trips) (u ∷ us)) (rest_cost (net_of day pool) t (u ∷ us)) None ≡ given (rises (t ∷ u ∷ us)) (option_and_then (rest_of day pool trip) (trips_at day.trips (u ∷ us)))
+        ((next : Trip) → slice_get day.trips u ≡ Some next → cond (all_below (length day.trips) us) (rest_cost (net_of day pool) u us) None
+        ≡ given (rises (u ∷ us)) (option_and_then (rest_of day pool next) (trips_at day.trips us))) →
+        cond (all_below (length day.trips) (u ∷ us)) (rest_cost (net_of day pool) t (u ∷ us)) None
+        ≡ given (rises (t ∷ u ∷ us)) (option_and_then (rest_of day pool trip) (trips_at day.trips (u ∷ us)))
     go None none later =
         let past = get_past day.trips u none in
         let test : nat_lt u (length day.trips) ≡ false = grind (arith, nat_tests) in
-        let left : cond (all_below (length day.trips) (u ∷ us)) (rest_cost (net_of day pool) t (u ∷ us)) None ≡ None = ap (λ (b : Bool). cond (b && all_below (length day.trips) us) (rest_cost (net_of day pool) t (u ∷ us)) None) test in
-        let right : option_and_then (rest_of day pool trip) (trips_at day.trips (u ∷ us)) ≡ None = ap (λ (o : Option Trip). option_and_then (rest_of day pool trip) (option_and_then (λ (x : Trip). option_and_then (λ (ts : List Trip). Some (x ∷ ts)) (trips_at day.trips us)) o)) none in
+        let left : cond (all_below (length day.trips) (u ∷ us)) (rest_cost (net_of day pool) t (u ∷ us)) None ≡ None =
+        ap (λ (b : Bool). cond (b && all_below (length day.trips) us) (rest_cost (net_of day pool) t (u ∷ us)) None) test in
+        let right : option_and_then (rest_of day pool trip) (trips_at day.trips (u ∷ us)) ≡ None =
+        ap (λ (o : Option Trip). option_and_then (rest_of day pool trip)
+        (option_and_then (λ (x : Trip). option_and_then (λ (ts : List Trip). Some (x ∷ ts)) (trips_at day.trips us)) o)) none in
         left ∙ sym (ap (given (rises (t ∷ u ∷ us))) right ∙ given_none (rises (t ∷ u ∷ us)))
     go (Some next) found later =
         let t_in = get_in day.trips t trip at in
@@ -113,25 +135,43 @@ rest_is day pool t trip at (u ∷ us) = go (slice_get day.trips u) refl (λ next
         let test : nat_lt u (length day.trips) ≡ true = grind (arith, nat_tests) in
         let rest = rest_cost (net_of day pool) u us in
         let k = all_below (length day.trips) us in
-        let arc : arc_of day pool t u ≡ given (nat_lt t u) (given (admits day next.line pool.typ) (option_map (λ (l : Link). link_cost pool next l) (link day pool trip next))) =
+        let arc : arc_of day pool t u
+        ≡ given (nat_lt t u) (given (admits day next.line pool.typ)
+        (option_map (λ (l : Link). link_cost pool next l) (link day pool trip next))) =
         arc_link day pool t u t_in u_in ∙ rw (at, found) refl in
-        let left : cond (all_below (length day.trips) (u ∷ us)) (rest_cost (net_of day pool) t (u ∷ us)) None ≡ cond k (both (given (nat_lt t u) (given (admits day next.line pool.typ) (option_map (λ (l : Link). link_cost pool next l) (link day pool trip next)))) rest) None =
-        ap (λ (b : Bool). cond (b && k) (both (arc_of day pool t u) rest) None) test ∙ ap (λ (o : Option ℕ). cond k (both o rest) None) arc in
-        let middle = step_plain (nat_lt t u) (rises (u ∷ us)) (admits day next.line pool.typ) k (link day pool trip next) (λ (l : Link). link_cost pool next l) rest (trips_at day.trips us) (all_admitted day pool) (cost_from day pool next) (later next found) in
-        let right : option_and_then (rest_of day pool trip) (trips_at day.trips (u ∷ us)) ≡ option_and_then (λ (ts : List Trip). (rest_of day pool trip) (next ∷ ts)) (trips_at day.trips us) =
-        ap (λ (o : Option Trip). option_and_then (rest_of day pool trip) (option_and_then (λ (x : Trip). option_and_then (λ (ts : List Trip). Some (x ∷ ts)) (trips_at day.trips us)) o)) found ∙ then_some (rest_of day pool trip) next (trips_at day.trips us) in
+        let left : cond (all_below (length day.trips) (u ∷ us)) (rest_cost (net_of day pool) t (u ∷ us)) None
+        ≡ cond k (both (given (nat_lt t u)
+        (given (admits day next.line pool.typ) (option_map (λ (l : Link). link_cost pool next l) (link day pool trip next)))) rest) None =
+        ap (λ (b : Bool). cond (b && k) (both (arc_of day pool t u) rest) None) test
+        ∙ ap (λ (o : Option ℕ). cond k (both o rest) None) arc in
+        let middle = step_plain (nat_lt t u) (rises (u ∷ us)) (admits day next.line pool.typ) k (link day pool trip next)
+        (λ (l : Link). link_cost pool next l) rest (trips_at day.trips us) (all_admitted day pool)
+        (cost_from day pool next) (later next found) in
+        let right : option_and_then (rest_of day pool trip) (trips_at day.trips (u ∷ us))
+        ≡ option_and_then (λ (ts : List Trip). (rest_of day pool trip) (next ∷ ts)) (trips_at day.trips us) =
+        ap (λ (o : Option Trip). option_and_then (rest_of day pool trip)
+        (option_and_then (λ (x : Trip). option_and_then (λ (ts : List Trip). Some (x ∷ ts)) (trips_at day.trips us)) o)) found
+        ∙ then_some (rest_of day pool trip) next (trips_at day.trips us) in
         left ∙ (middle ∙ sym (ap (given (rises (t ∷ u ∷ us))) right))
 
-path_from : (day : DayFacts) (pool : Pool) (list : List ℕ) → given (rises list) (option_and_then (λ (ts : List Trip). block_cost day pool ts) (trips_at day.trips list)) ≡ nets.path_cost (net_of day pool) list
+path_from : (day : DayFacts) (pool : Pool) (list : List ℕ) →
+    given (rises list) (option_and_then (λ (ts : List Trip). block_cost day pool ts) (trips_at day.trips list))
+    ≡ nets.path_cost (net_of day pool) list
 path_from day pool [] = refl
 path_from day pool (t ∷ us) = sym (go (slice_get day.trips t) refl)
   where
-    go : (o : Option Trip) → slice_get day.trips t ≡ o → nets.path_cost (net_of day pool) (t ∷ us) ≡ given (rises (t ∷ us)) (option_and_then (block_cost day pool) (trips_at day.trips (t ∷ us)))
+    go : (o : Option Trip) → slice_get day.trips t ≡ o →
+        nets.path_cost (net_of day pool) (t ∷ us)
+        ≡ given (rises (t ∷ us)) (option_and_then (block_cost day pool) (trips_at day.trips (t ∷ us)))
     go None none =
         let past = get_past day.trips t none in
         let test : nat_lt t (length day.trips) ≡ false = grind (arith, nat_tests) in
-        let left : nets.path_cost (net_of day pool) (t ∷ us) ≡ None = ap (λ (b : Bool). cond (b && all_below (length day.trips) us) (both (arc_of day pool (length day.trips) t) (rest_cost (net_of day pool) t us)) None) test in
-        let right : option_and_then (block_cost day pool) (trips_at day.trips (t ∷ us)) ≡ None = ap (λ (o : Option Trip). option_and_then (block_cost day pool) (option_and_then (λ (x : Trip). option_and_then (λ (ts : List Trip). Some (x ∷ ts)) (trips_at day.trips us)) o)) none in
+        let left : nets.path_cost (net_of day pool) (t ∷ us) ≡ None =
+        ap (λ (b : Bool). cond (b && all_below (length day.trips) us)
+        (both (arc_of day pool (length day.trips) t) (rest_cost (net_of day pool) t us)) None) test in
+        let right : option_and_then (block_cost day pool) (trips_at day.trips (t ∷ us)) ≡ None =
+        ap (λ (o : Option Trip). option_and_then (block_cost day pool)
+        (option_and_then (λ (x : Trip). option_and_then (λ (ts : List Trip). Some (x ∷ ts)) (trips_at day.trips us)) o)) none in
         left ∙ sym (ap (given (rises (t ∷ us))) right ∙ given_none (rises (t ∷ us)))
     go (Some trip) found =
         let t_in = get_in day.trips t trip found in
@@ -139,43 +179,61 @@ path_from day pool (t ∷ us) = sym (go (slice_get day.trips t) refl)
         let rest = rest_cost (net_of day pool) t us in
         let k = all_below (length day.trips) us in
         let leaving : ℕ → ℕ = λ out. pool.fixed + pool.dead_rate * out in
-        let arc : arc_of day pool (length day.trips) t ≡ given (admits day trip.line pool.typ) (option_map leaving (pull_out day pool trip)) = arc_start day pool t t_in ∙ rw found refl in
-        let left : nets.path_cost (net_of day pool) (t ∷ us) ≡ cond k (both (given true (given (admits day trip.line pool.typ) (option_map leaving (pull_out day pool trip)))) rest) None =
-        ap (λ (b : Bool). cond (b && k) (both (arc_of day pool (length day.trips) t) rest) None) test ∙ ap (λ (o : Option ℕ). cond k (both o rest) None) arc in
-        let middle = step_plain true (rises (t ∷ us)) (admits day trip.line pool.typ) k (pull_out day pool trip) leaving rest (trips_at day.trips us) (all_admitted day pool) (cost_from day pool trip) (rest_is day pool t trip found us) in
-        let right : option_and_then (block_cost day pool) (trips_at day.trips (t ∷ us)) ≡ option_and_then (λ (ts : List Trip). (block_cost day pool) (trip ∷ ts)) (trips_at day.trips us) =
-        ap (λ (o : Option Trip). option_and_then (block_cost day pool) (option_and_then (λ (x : Trip). option_and_then (λ (ts : List Trip). Some (x ∷ ts)) (trips_at day.trips us)) o)) found ∙ then_some (block_cost day pool) trip (trips_at day.trips us) in
+        let arc : arc_of day pool (length day.trips) t
+        ≡ given (admits day trip.line pool.typ) (option_map leaving (pull_out day pool trip)) = arc_start day pool t t_in ∙ rw found refl in
+        let left : nets.path_cost (net_of day pool) (t ∷ us)
+        ≡ cond k (both (given true (given (admits day trip.line pool.typ) (option_map leaving (pull_out day pool trip)))) rest) None =
+        ap (λ (b : Bool). cond (b && k) (both (arc_of day pool (length day.trips) t) rest) None) test
+        ∙ ap (λ (o : Option ℕ). cond k (both o rest) None) arc in
+        let middle = step_plain true (rises (t ∷ us)) (admits day trip.line pool.typ) k (pull_out day pool trip) leaving rest
+        (trips_at day.trips us) (all_admitted day pool) (cost_from day pool trip) (rest_is day pool t trip found us) in
+        let right : option_and_then (block_cost day pool) (trips_at day.trips (t ∷ us))
+        ≡ option_and_then (λ (ts : List Trip). (block_cost day pool) (trip ∷ ts)) (trips_at day.trips us) =
+        ap (λ (o : Option Trip). option_and_then (block_cost day pool)
+        (option_and_then (λ (x : Trip). option_and_then (λ (ts : List Trip). Some (x ∷ ts)) (trips_at day.trips us)) o)) found
+        ∙ then_some (block_cost day pool) trip (trips_at day.trips us) in
         left ∙ (middle ∙ sym (ap (given (rises (t ∷ us))) right))
 
-pub path_net : (day : DayFacts) (pool : Pool) → day.params.pools ≡ pool ∷ [] → (list : List ℕ) → path_cost day 0 list ≡ nets.path_cost (net_of day pool) list
+pub path_net : (day : DayFacts) (pool : Pool) → day.params.pools ≡ pool ∷ [] → (list : List ℕ) →
+    path_cost day 0 list ≡ nets.path_cost (net_of day pool) list
 path_net day pool one list =
-    let P : List Pool → Type 0 = λ pools. given (rises list) (option_and_then (λ (q : Pool). option_and_then (λ (ts : List Trip). block_cost day q ts) (trips_at day.trips list)) (slice_get pools 0)) ≡
+    let P : List Pool → Type 0 =
+    λ pools. given (rises list)
+    (option_and_then (λ (q : Pool). option_and_then (λ (ts : List Trip). block_cost day q ts) (trips_at day.trips list))
+    (slice_get pools 0)) ≡
     given (rises list) (option_and_then (λ (ts : List Trip). block_cost day pool ts) (trips_at day.trips list)) in
     subst P (sym one) refl ∙ path_from day pool list
 
 -- the columns are the same
-columns_same : (day : DayFacts) (pool : Pool) → day.params.pools ≡ pool ∷ [] → (lists : List (List ℕ)) → columns_of day lists ≡ nets.columns_of (net_of day pool) lists
+columns_same : (day : DayFacts) (pool : Pool) → day.params.pools ≡ pool ∷ [] → (lists : List (List ℕ)) →
+    columns_of day lists ≡ nets.columns_of (net_of day pool) lists
 columns_same day pool one [] = refl
 columns_same day pool one (list ∷ lists) =
-    let column : path_column day list ≡ nets.path_column (net_of day pool) list = ap (λ (o : Option ℕ). record { class = 0; worth = unwrap_or o 0; items = list }) (path_net day pool one list) in
+    let column : path_column day list ≡ nets.path_column (net_of day pool) list =
+    ap (λ (o : Option ℕ). record { class = 0; worth = unwrap_or o 0; items = list }) (path_net day pool one list) in
     let rest = columns_same day pool one lists in
     cc
 
-columns_to : (day : DayFacts) (pool : Pool) → day.params.pools ≡ pool ∷ [] → (lists : List (List ℕ)) → AreColumns (paths_of day) (columns_of day lists) → AreColumns (nets.paths (net_of day pool)) (nets.columns_of (net_of day pool) lists)
+columns_to : (day : DayFacts) (pool : Pool) → day.params.pools ≡ pool ∷ [] → (lists : List (List ℕ)) →
+    AreColumns (paths_of day) (columns_of day lists) → AreColumns (nets.paths (net_of day pool)) (nets.columns_of (net_of day pool) lists)
 columns_to day pool one [] are = tt
 columns_to day pool one (list ∷ lists) are =
     let same = path_net day pool one list in
     let worth : nets.path_cost (net_of day pool) list ≡ Some (unwrap_or (path_cost day 0 list) 0) = sym same ∙ are.0.1 in
-    let number : unwrap_or (path_cost day 0 list) 0 ≡ unwrap_or (nets.path_cost (net_of day pool) list) 0 = ap (λ (o : Option ℕ). unwrap_or o 0) same in
+    let number : unwrap_or (path_cost day 0 list) 0 ≡ unwrap_or (nets.path_cost (net_of day pool) list) 0 =
+    ap (λ (o : Option ℕ). unwrap_or o 0) same in
     ((omega arith, worth ∙ ap Some number), columns_to day pool one lists are.1)
 
-columns_back : (day : DayFacts) (pool : Pool) → day.params.pools ≡ pool ∷ [] → (lists : List (List ℕ)) → AreColumns (nets.paths (net_of day pool)) (nets.columns_of (net_of day pool) lists) → AreColumns (paths_of day) (columns_of day lists)
+columns_back : (day : DayFacts) (pool : Pool) → day.params.pools ≡ pool ∷ [] → (lists : List (List ℕ)) →
+    AreColumns (nets.paths (net_of day pool)) (nets.columns_of (net_of day pool) lists) → AreColumns (paths_of day) (columns_of day lists)
 columns_back day pool one [] are = tt
 columns_back day pool one (list ∷ lists) are =
     let same = path_net day pool one list in
     let worth : path_cost day 0 list ≡ Some (unwrap_or (nets.path_cost (net_of day pool) list) 0) = same ∙ are.0.1 in
-    let number : unwrap_or (nets.path_cost (net_of day pool) list) 0 ≡ unwrap_or (path_cost day 0 list) 0 = ap (λ (o : Option ℕ). unwrap_or o 0) (sym same) in
-    let class : 0 < length (paths_of day).caps = (let P : List Pool → Type 0 = λ pools. 0 < length (map (λ (q : Pool). q.cap) pools) in subst P (sym one) (omega arith)) in
+    let number : unwrap_or (nets.path_cost (net_of day pool) list) 0 ≡ unwrap_or (path_cost day 0 list) 0 =
+    ap (λ (o : Option ℕ). unwrap_or o 0) (sym same) in
+    let class : 0 < length (paths_of day).caps =
+    (let P : List Pool → Type 0 = λ pools. 0 < length (map (λ (q : Pool). q.cap) pools) in subst P (sym one) (omega arith)) in
     ((class, worth ∙ ap Some number), columns_back day pool one lists are.1)
 
 pub plans_are_covers : (day : DayFacts) (pool : Pool) → PlansAreCovers day pool

@@ -21,7 +21,8 @@ use Rattle.one_pool_flow.specs.Paths.{IsFlowPlan, IsPathPlan, path_cost, paths_o
 use Rattle.one_pool_flow.proofs.Bridge.{path_net, plans_are_covers}
 
 -- the first cover of least cost is the flow plan
-pub flow_plan : (day : DayFacts) (pool : Pool) → day.params.pools ≡ pool ∷ [] → (lists : List (List ℕ)) → IsFirstLeastCover (net_of day pool) lists → IsFlowPlan day lists
+pub flow_plan : (day : DayFacts) (pool : Pool) → day.params.pools ≡ pool ∷ [] → (lists : List (List ℕ)) →
+    IsFirstLeastCover (net_of day pool) lists → IsFlowPlan day lists
 flow_plan day pool one lists is =
     let here = plans_are_covers day pool one lists in
     let cost_here = here.2 in
@@ -38,21 +39,25 @@ flow_plan day pool one lists is =
       ordered = is.ordered;
     }
 
-pub no_plan : (day : DayFacts) (pool : Pool) → day.params.pools ≡ pool ∷ [] → ((lists : List (List ℕ)) → IsCover (net_of day pool) lists → ⊥) → (lists : List (List ℕ)) → IsPathPlan day lists → ⊥
+pub no_plan : (day : DayFacts) (pool : Pool) → day.params.pools ≡ pool ∷ [] →
+    ((lists : List (List ℕ)) → IsCover (net_of day pool) lists → ⊥) → (lists : List (List ℕ)) → IsPathPlan day lists → ⊥
 no_plan day pool one none lists plan = none lists ((plans_are_covers day pool one lists).0 plan)
 
 caps_one : (day : DayFacts) (pool : Pool) → day.params.pools ≡ pool ∷ [] → (paths_of day).caps ≡ pool.cap ∷ []
 caps_one day pool one = ap (λ (pools : List Pool). map (λ (q : Pool). q.cap) pools) one
 
 -- the prices are paid over all paths of the day, and their bound is the plan's cost
-pub flow_bound : (day : DayFacts) (pool : Pool) → day.params.pools ≡ pool ∷ [] → (lists : List (List ℕ)) (p : Potentials) (prices : List Price) (class_price : ℤ) → IsCover (net_of day pool) lists → AreGreatest (net_of day pool) lists p →
+pub flow_bound : (day : DayFacts) (pool : Pool) → day.params.pools ≡ pool ∷ [] →
+    (lists : List (List ℕ)) (p : Potentials) (prices : List Price) (class_price : ℤ) → IsCover (net_of day pool) lists →
+    AreGreatest (net_of day pool) lists p →
     ArePricesOf (net_of day pool) p prices class_price → AreFlowBound day lists prices class_price
 flow_bound day pool one lists p prices class_price cover greatest prices_are =
     let net = net_of day pool in
     let rising = day_rising day pool in
     let caps = caps_one day pool one in
     let numbers = greatest.numbers in
-    let paid : IsPaid (nets.paths net) prices (class_price ∷ []) = feasible_is_paid net rising p numbers.feasible prices class_price prices_are in
+    let paid : IsPaid (nets.paths net) prices (class_price ∷ []) =
+    feasible_is_paid net rising p numbers.feasible prices class_price prices_are in
     let bound = slack_is_bound net rising p numbers.feasible prices class_price prices_are lists cover numbers.slack in
     record {
       paid = record {
@@ -62,26 +67,30 @@ flow_bound day pool one lists p prices class_price cover greatest prices_are =
       bound = ap (bound_of prices (class_price ∷ [])) caps ∙ (bound ∙ sym (plans_are_covers day pool one lists).2);
     }
   where
-    covered : IsPaid (nets.paths (net_of day pool)) prices (class_price ∷ []) → (class : ℕ) (list : List ℕ) (worth : ℕ) → class < 1 → path_cost day class list ≡ Some worth →
+    covered : IsPaid (nets.paths (net_of day pool)) prices (class_price ∷ []) → (class : ℕ) (list : List ℕ) (worth : ℕ) → class < 1 →
+        path_cost day class list ≡ Some worth →
         price_of prices list ≤ℤ (pos (1000 * worth) +ℤ number_at (class_price ∷ []) class)
     covered paid zero list worth below has = paid.covered 0 list worth (omega arith) (sym (path_net day pool one list) ∙ has)
     covered paid (suc class) list worth below has = absurd (omega arith)
 
-all_within : (most : ℕ) (prices : List Price) → ((t : ℕ) → t < length prices → (neg_ℤ (pos most) ≤ℤ price_at prices t) × (price_at prices t ≤ℤ pos most)) → AllWithin most prices
+all_within : (most : ℕ) (prices : List Price) →
+    ((t : ℕ) → t < length prices → (neg_ℤ (pos most) ≤ℤ price_at prices t) × (price_at prices t ≤ℤ pos most)) → AllWithin most prices
 all_within most [] each = tt
 all_within most (x ∷ xs) each =
     let first = each 0 (omega arith) in
     (first.0, first.1, all_within most xs (λ t below. each (suc t) (omega (arith, below))))
 
 -- a thousand times how far potentials are apart
-thousand_low : (a b : ℕ) (z : ℤ) → a ≤ 1500000000000 → z ≡ pos 1000 *ℤ ((pos 0 -ℤ pos a) -ℤ (pos 0 -ℤ pos b)) → neg_ℤ (pos 3000000000000000) ≤ℤ z
+thousand_low : (a b : ℕ) (z : ℤ) → a ≤ 1500000000000 → z ≡ pos 1000 *ℤ ((pos 0 -ℤ pos a) -ℤ (pos 0 -ℤ pos b)) →
+    neg_ℤ (pos 3000000000000000) ≤ℤ z
 thousand_low a b z a_low is = omega (arith, ints)
 
 thousand_high : (a b : ℕ) (z : ℤ) → b ≤ 1500000000000 → z ≡ pos 1000 *ℤ ((pos 0 -ℤ pos a) -ℤ (pos 0 -ℤ pos b)) → z ≤ℤ pos 3000000000000000
 thousand_high a b z b_low is = omega (arith, ints)
 
 -- prices of potentials that are not far below 0 are not large
-pub flow_moderate : (day : DayFacts) (pool : Pool) (lists : List (List ℕ)) (falls : Falls) (prices : List Price) (class_price : ℤ) → AreGreatest (net_of day pool) lists (potentials_of falls) → AreLow falls 1500000000000 →
+pub flow_moderate : (day : DayFacts) (pool : Pool) (lists : List (List ℕ)) (falls : Falls) (prices : List Price) (class_price : ℤ) →
+    AreGreatest (net_of day pool) lists (potentials_of falls) → AreLow falls 1500000000000 →
     ArePricesOf (net_of day pool) (potentials_of falls) prices class_price → AreModerate day prices class_price
 flow_moderate day pool lists falls prices class_price greatest low are =
     let n = length day.trips in
@@ -89,8 +98,10 @@ flow_moderate day pool lists falls prices class_price greatest low are =
       count = are.count;
       within = all_within 3000000000000000 prices (λ t below.
           let inside : t < n = omega (arith, below, are.count) in
-          let price = are.each t inside in
-          (thousand_low (get_or falls.heads.items t 0) (get_or falls.tails.items t 0) (price_at prices t) (low t).1 price, thousand_high (get_or falls.heads.items t 0) (get_or falls.tails.items t 0) (price_at prices t) (low t).0 price));
+          let price = are.each t inside in (
+            thousand_low (get_or falls.heads.items t 0) (get_or falls.tails.items t 0) (price_at prices t) (low t).1 price,
+            thousand_high (get_or falls.heads.items t 0) (get_or falls.tails.items t 0) (price_at prices t) (low t).0 price,
+          ));
       charged =
           let stays = greatest.numbers.feasible n n 0 (omega arith) (omega arith) (day_rising day pool).stays in
           let price = are.of_class in

@@ -18,7 +18,8 @@ use Rattle.one_pool_flow.specs.Paths.{columns_of, path_cost, paths_of}
 some_same : {A : Type 0} (x y : A) → Some x ≡ Some y → x ≡ y
 some_same {A = A} x y e = let f : Option A → A = λ o. unwrap_or o x in ap f e
 
-and_then_some : {A B : Type 0} (f : A → Option B) (o : Option A) (y : B) → option_and_then f o ≡ Some y → (x : A) × (o ≡ Some x) × (f x ≡ Some y)
+and_then_some : {A B : Type 0} (f : A → Option B) (o : Option A) (y : B) → option_and_then f o ≡ Some y →
+    (x : A) × (o ≡ Some x) × (f x ≡ Some y)
 and_then_some f None y e = absurd (cc)
 and_then_some f (Some x) y e = (x, refl, e)
 
@@ -42,11 +43,13 @@ rises_rise (x ∷ y ∷ rest) e =
 trips_below : (trips : List Trip) (list : List ℕ) (found : List Trip) → trips_at trips list ≡ Some found → AllBelow (length trips) list
 trips_below trips [] found e = tt
 trips_below trips (k ∷ ks) found e =
-    let first = and_then_some (λ (t : Trip). option_and_then (λ (ts : List Trip). Some (t ∷ ts)) (trips_at trips ks)) (slice_get trips k) found e in
+    let first = and_then_some (λ (t : Trip). option_and_then (λ (ts : List Trip). Some (t ∷ ts)) (trips_at trips ks))
+    (slice_get trips k) found e in
     let rest = and_then_some (λ (ts : List Trip). Some (first.0 ∷ ts)) (trips_at trips ks) found first.2 in
     (slice_get_within trips k first.0 first.1, trips_below trips ks rest.0 rest.1)
 
-none_of_none : (day : DayFacts) (pool : Pool) (list : List ℕ) (found : List Trip) (cost : ℕ) → trips_at day.trips list ≡ Some found → block_cost day pool found ≡ Some cost → list ≢ []
+none_of_none : (day : DayFacts) (pool : Pool) (list : List ℕ) (found : List Trip) (cost : ℕ) → trips_at day.trips list ≡ Some found →
+    block_cost day pool found ≡ Some cost → list ≢ []
 none_of_none day pool list found cost at is = λ e.
     let P : List ℕ → Type 0 = λ ks. trips_at day.trips ks ≡ Some found in
     let none : found ≡ [] = sym (some_same [] found (subst P e at)) in
@@ -55,7 +58,8 @@ none_of_none day pool list found cost at is = λ e.
     cc
 
 -- a list with a cost
-pub path_listed : (day : DayFacts) (class : ℕ) (list : List ℕ) (worth : ℕ) → path_cost day class list ≡ Some worth → (list ≢ []) × Rises list × AllBelow (length day.trips) list
+pub path_listed : (day : DayFacts) (class : ℕ) (list : List ℕ) (worth : ℕ) → path_cost day class list ≡ Some worth →
+    (list ≢ []) × Rises list × AllBelow (length day.trips) list
 path_listed day class list worth e =
     let of_trips : Pool → Option ℕ = λ pool. option_and_then (λ (ts : List Trip). block_cost day pool ts) (trips_at day.trips list) in
     let tested = given_some (rises list) (option_and_then of_trips (slice_get day.params.pools class)) worth e in
@@ -65,7 +69,8 @@ path_listed day class list worth e =
 
 -- the worth of a block, without its driving
 kept_inside : (driven : Bool) (f : List Trip → Option ℕ) (found : Option (List Trip)) (worth : ℕ) →
-    given driven (option_and_then (λ (ts : List Trip). option_and_then (λ (c : ℕ). Some (cond false 1 c)) (f ts)) found) ≡ Some worth → option_and_then f found ≡ Some worth
+    given driven (option_and_then (λ (ts : List Trip). option_and_then (λ (c : ℕ). Some (cond false 1 c)) (f ts)) found) ≡ Some worth →
+    option_and_then f found ≡ Some worth
 kept_inside false f found worth e = absurd (cc)
 kept_inside true f None worth e = e
 kept_inside true f (Some ts) worth e = go (f ts) e
@@ -74,17 +79,22 @@ kept_inside true f (Some ts) worth e = go (f ts) e
     go None e = e
     go (Some c) e = e
 
-kept_over : (b : Bool) (f g : Pool → Option ℕ) (o : Option Pool) (worth : ℕ) → ((q : Pool) → f q ≡ Some worth → g q ≡ Some worth) → given b (option_and_then f o) ≡ Some worth → given b (option_and_then g o) ≡ Some worth
+kept_over : (b : Bool) (f g : Pool → Option ℕ) (o : Option Pool) (worth : ℕ) → ((q : Pool) → f q ≡ Some worth → g q ≡ Some worth) →
+    given b (option_and_then f o) ≡ Some worth → given b (option_and_then g o) ≡ Some worth
 kept_over false f g o worth keep e = e
 kept_over true f g None worth keep e = e
 kept_over true f g (Some q) worth keep e = keep q e
 
 -- a block is a path that costs what the block is worth
-pub block_is_path : (day : DayFacts) (class : ℕ) (list : List ℕ) (worth : ℕ) → block_worth day false class list ≡ Some worth → path_cost day class list ≡ Some worth
+pub block_is_path : (day : DayFacts) (class : ℕ) (list : List ℕ) (worth : ℕ) → block_worth day false class list ≡ Some worth →
+    path_cost day class list ≡ Some worth
 block_is_path day class list worth e =
     kept_over (rises list)
-    (λ pool. given (can_be_driven day pool list) (option_and_then (λ (ts : List Trip). option_and_then (λ (c : ℕ). Some (cond false 1 c)) (block_cost day pool ts)) (trips_at day.trips list)))
-    (λ pool. option_and_then (λ (ts : List Trip). block_cost day pool ts) (trips_at day.trips list)) (slice_get day.params.pools class) worth
+    (λ pool. given (can_be_driven day pool list)
+    (option_and_then (λ (ts : List Trip). option_and_then (λ (c : ℕ). Some (cond false 1 c)) (block_cost day pool ts))
+    (trips_at day.trips list)))
+    (λ pool. option_and_then (λ (ts : List Trip). block_cost day pool ts) (trips_at day.trips list))
+    (slice_get day.params.pools class) worth
     (λ pool. kept_inside (can_be_driven day pool list) (λ (ts : List Trip). block_cost day pool ts) (trips_at day.trips list) worth) e
 
 is_there : (o : Option ℕ) → is_some o ≡ true → o ≡ Some (unwrap_or o 0)
@@ -92,12 +102,14 @@ is_there None e = absurd (cc)
 is_there (Some c) e = refl
 
 -- paths that are blocks are columns of both problems
-block_columns : (day : DayFacts) (lists : List (List ℕ)) → all_blocks day lists ≡ true → AreColumns (paths_of day) (columns_of day lists) → AreColumns (blocks_of day false) (columns_of day lists)
+block_columns : (day : DayFacts) (lists : List (List ℕ)) → all_blocks day lists ≡ true → AreColumns (paths_of day) (columns_of day lists) →
+    AreColumns (blocks_of day false) (columns_of day lists)
 block_columns day [] blocks are = tt
 block_columns day (list ∷ lists) blocks are =
     let parts = both_true (is_some (block_worth day false 0 list)) (all_blocks day lists) blocks in
     let there = is_there (block_worth day false 0 list) parts.0 in
-    let same : path_cost day 0 list ≡ block_worth day false 0 list = block_is_path day 0 list (unwrap_or (block_worth day false 0 list) 0) there ∙ sym there in
+    let same : path_cost day 0 list ≡ block_worth day false 0 list =
+    block_is_path day 0 list (unwrap_or (block_worth day false 0 list) 0) there ∙ sym there in
     ((are.0.0, sym same ∙ are.0.1), block_columns day lists parts.1 are.1)
 
 pub paths_are_blocks : (day : DayFacts) → PathsAreBlocks day

@@ -54,7 +54,8 @@ behind_some n s (x ∷ []) member = go (s == x) refl
     go false e = let counted : times s (x ∷ []) ≡ 0 = rw e refl in absurd (omega arith)
 behind_some n s (x ∷ y ∷ ys) member = go (s == x) refl (behind_some n s (y ∷ ys))
   where
-    go : (b : Bool) → (s == x) ≡ b → (1 ≤ times s (y ∷ ys) → (v : ℕ) × (behind n s (y ∷ ys) ≡ Some v)) → (v : ℕ) × (behind n s (x ∷ y ∷ ys) ≡ Some v)
+    go : (b : Bool) → (s == x) ≡ b → (1 ≤ times s (y ∷ ys) → (v : ℕ) × (behind n s (y ∷ ys) ≡ Some v)) →
+        (v : ℕ) × (behind n s (x ∷ y ∷ ys) ≡ Some v)
     go true e later = let test : (x == s) ≡ true = grind (arith, nat_tests) in (y, rw test refl)
     go false e later =
         let counted : times s (x ∷ y ∷ ys) ≡ times s (y ∷ ys) = rw e (omega arith) in
@@ -62,7 +63,8 @@ behind_some n s (x ∷ y ∷ ys) member = go (s == x) refl (behind_some n s (y �
         let test : (x == s) ≡ false = grind (arith, nat_tests) in
         (rest.0, rw test rest.1)
 
-next_same : (n x y : ℕ) (xs ys : List ℕ) → x ≡ y → ((s : ℕ) → 1 ≤ times s (x ∷ xs) → 1 ≤ times s (y ∷ ys) → behind n s (x ∷ xs) ≡ behind n s (y ∷ ys)) → next_of n xs ≡ next_of n ys
+next_same : (n x y : ℕ) (xs ys : List ℕ) → x ≡ y →
+    ((s : ℕ) → 1 ≤ times s (x ∷ xs) → 1 ≤ times s (y ∷ ys) → behind n s (x ∷ xs) ≡ behind n s (y ∷ ys)) → next_of n xs ≡ next_of n ys
 next_same n x y xs ys same equal =
     let test : (x == y) ≡ true = grind (arith, nat_tests) in
     let here : 1 ≤ times x (x ∷ xs) = omega (arith, times-here x xs) in
@@ -102,11 +104,13 @@ above_or_at x xs s rise member = go (s == x) refl
         omega arith
 
 -- no member is below the first number of lists that are in the order of their first numbers
-least_first : (n x : ℕ) (xs : List ℕ) (lists : List (List ℕ)) → AllListed n ((x ∷ xs) ∷ lists) → Rises (first_nodes ((x ∷ xs) ∷ lists)) → (s : ℕ) → 1 ≤ times s (joined ((x ∷ xs) ∷ lists)) → x ≤ s
+least_first : (n x : ℕ) (xs : List ℕ) (lists : List (List ℕ)) → AllListed n ((x ∷ xs) ∷ lists) → Rises (first_nodes ((x ∷ xs) ∷ lists)) →
+    (s : ℕ) → 1 ≤ times s (joined ((x ∷ xs) ∷ lists)) → x ≤ s
 least_first n x xs [] listed rise s member = above_or_at x xs s listed.0.1 (omega (arith, member, times-append s (x ∷ xs) []))
 least_first n x xs ([] ∷ lists) listed rise s member = absurd (listed.1.0.0 refl)
 least_first n x xs ((y ∷ ys) ∷ lists) listed rise s member =
-    let counted : times s (joined ((x ∷ xs) ∷ (y ∷ ys) ∷ lists)) ≡ times s (x ∷ xs) + times s (joined ((y ∷ ys) ∷ lists)) = times-append s (x ∷ xs) (joined ((y ∷ ys) ∷ lists)) in
+    let counted : times s (joined ((x ∷ xs) ∷ (y ∷ ys) ∷ lists)) ≡ times s (x ∷ xs) + times s (joined ((y ∷ ys) ∷ lists)) =
+    times-append s (x ∷ xs) (joined ((y ∷ ys) ∷ lists)) in
     elim (cases_lt 0 (times s (x ∷ xs))) [
       | inl inside ↦ above_or_at x xs s listed.0.1 (omega arith)
       | inr outside ↦
@@ -127,7 +131,8 @@ successor_later n s list lists none = ap (λ (o : Option ℕ). unwrap_or o (succ
 
 -- Lists that rise, in the order of their first numbers, none of which stands twice, are determined by which numbers stand in them and by
 -- what is behind each.
-same_lists : (n : ℕ) (ones others : List (List ℕ)) → AllListed n ones → AllListed n others → Rises (first_nodes ones) → Rises (first_nodes others) →
+same_lists : (n : ℕ) (ones others : List (List ℕ)) → AllListed n ones → AllListed n others → Rises (first_nodes ones) →
+    Rises (first_nodes others) →
     ((s : ℕ) → times s (joined ones) ≤ 1) → ((s : ℕ) → times s (joined ones) ≡ times s (joined others)) →
     ((s : ℕ) → 1 ≤ times s (joined ones) → successor n ones s ≡ successor n others s) → ones ≡ others
 same_lists n [] [] one_listed other_listed one_rise other_rise once same after = refl
@@ -147,13 +152,16 @@ same_lists n ((x ∷ xs) ∷ ones) ((y ∷ ys) ∷ others) one_listed other_list
     let rest : xs ≡ ys = rests first in
     let list : (x ∷ xs) ≡ (y ∷ ys) = cc in
     let counts : (s : ℕ) → times s (x ∷ xs) ≡ times s (y ∷ ys) = λ s. ap (times s) list in
-    let lists : ones ≡ others = same_lists n ones others one_listed.1 other_listed.1 (tail_rises x (first_nodes ones) one_rise) (tail_rises y (first_nodes others) other_rise)
+    let lists : ones ≡ others =
+    same_lists n ones others one_listed.1 other_listed.1 (tail_rises x (first_nodes ones) one_rise)
+    (tail_rises y (first_nodes others) other_rise)
     (λ s. omega (arith, once s, times-append s (x ∷ xs) (joined ones)))
     (λ s. omega (arith, same s, counts s, times-append s (x ∷ xs) (joined ones), times-append s (y ∷ ys) (joined others)))
     (λ s member.
     let gone : times s (x ∷ xs) ≡ 0 = omega (arith, once s, times-append s (x ∷ xs) (joined ones)) in
     let gone' : times s (y ∷ ys) ≡ 0 = omega (arith, counts s) in
-    sym (successor_later n s (x ∷ xs) ones gone) ∙ (after s (omega (arith, times-append s (x ∷ xs) (joined ones))) ∙ successor_later n s (y ∷ ys) others gone')) in
+    sym (successor_later n s (x ∷ xs) ones gone)
+    ∙ (after s (omega (arith, times-append s (x ∷ xs) (joined ones))) ∙ successor_later n s (y ∷ ys) others gone')) in
     cc
   where
     tail_rises : (x : ℕ) (rest : List ℕ) → Rises (x ∷ rest) → Rises rest
@@ -172,14 +180,16 @@ same_lists n ((x ∷ xs) ∷ ones) ((y ∷ ys) ∷ others) one_listed other_list
     rests first = same_rest n x y xs ys first one_listed.0.1 other_listed.0.1 one_listed.0.2.1 other_listed.0.2.1 (λ s here there.
         let mine = behind_some n s (x ∷ xs) here in
         let theirs = behind_some n s (y ∷ ys) there in
-        let v : mine.0 ≡ theirs.0 = sym (successor_first n s mine.0 (x ∷ xs) ones mine.1) ∙ (after s (omega (arith, times-append s (x ∷ xs) (joined ones))) ∙ successor_first n s theirs.0 (y ∷ ys) others theirs.1) in
+        let v : mine.0 ≡ theirs.0 = sym (successor_first n s mine.0 (x ∷ xs) ones mine.1)
+        ∙ (after s (omega (arith, times-append s (x ∷ xs) (joined ones))) ∙ successor_first n s theirs.0 (y ∷ ys) others theirs.1) in
         mine.1 ∙ (ap (λ (k : ℕ). Some k) v ∙ sym theirs.1))
 
 -- of two functions neither of which comes after the other, each value is the same
 agree : (n : ℕ) (f g : ℕ → ℕ) → IsNotAfter n f g → IsNotAfter n g f → (k s : ℕ) → s < k → s < n → f s ≡ g s
 agree n f g one other zero s below within = absurd (omega arith)
 agree n f g one other (suc k) s below within =
-    let before : (r : ℕ) → r < s → f r ≡ g r = λ r less. agree n f g one other k r (omega (arith, less, below)) (omega (arith, less, within)) in
+    let before : (r : ℕ) → r < s → f r ≡ g r =
+    λ r less. agree n f g one other k r (omega (arith, less, below)) (omega (arith, less, within)) in
     let low = one s within before in
     let high = other s within (λ r less. sym (before r less)) in
     omega arith
@@ -188,13 +198,15 @@ items_joined : (day : DayFacts) (lists : List (List ℕ)) → all_items (columns
 items_joined day [] = refl
 items_joined day (list ∷ lists) = ap (λ (rest : List ℕ). list ++ rest) (items_joined day lists)
 
-plan_listed : (day : DayFacts) (lists : List (List ℕ)) → AreColumns (paths_of day) (columns_of day lists) → AllListed (length day.trips) lists
+plan_listed : (day : DayFacts) (lists : List (List ℕ)) → AreColumns (paths_of day) (columns_of day lists) →
+    AllListed (length day.trips) lists
 plan_listed day [] are = tt
 plan_listed day (list ∷ lists) are = (path_listed day 0 list (path_column day list).worth are.0.1, plan_listed day lists are.1)
 
 below_joined : (n s : ℕ) (lists : List (List ℕ)) → AllListed n lists → n ≤ s → times s (joined lists) ≡ 0
 below_joined n s [] listed past = refl
-below_joined n s (list ∷ lists) listed past = omega (arith, times-append s list (joined lists), times-above n s list listed.0.2 past, below_joined n s lists listed.1 past)
+below_joined n s (list ∷ lists) listed past =
+    omega (arith, times-append s list (joined lists), times-above n s list listed.0.2 past, below_joined n s lists listed.1 past)
 
 once_joined : (day : DayFacts) (lists : List (List ℕ)) → IsPathPlan day lists → (s : ℕ) → s < length day.trips → times s (joined lists) ≡ 1
 once_joined day lists plan s within = sym (ap (times s) (items_joined day lists)) ∙ plan.once s within
@@ -210,7 +222,8 @@ flow_plan_is_one day one other is are = same_lists n one other one_listed other_
       | inr past ↦ omega (arith, below_joined n s one one_listed past, below_joined n s other other_listed past)
     ])
     (λ s member. elim (cases_lt s n) [
-      | inl within ↦ agree n (successor n one) (successor n other) (is.first other are.plan (sym costs)) (are.first one is.plan costs) (suc s) s (omega arith) within
+      | inl within ↦ agree n (successor n one) (successor n other) (is.first other are.plan (sym costs)) (are.first one is.plan costs)
+          (suc s) s (omega arith) within
       | inr past ↦ absurd (omega (arith, member, below_joined n s one one_listed past))
     ])
   where
@@ -230,7 +243,8 @@ abbrev first_pool : Pool → List Pool → Pool
 first_pool pool [] = pool
 first_pool pool (first ∷ rest) = first
 
-same_prices : (ones others : List Price) → length ones ≡ length others → ((t : ℕ) → t < length ones → price_at ones t ≡ price_at others t) → ones ≡ others
+same_prices : (ones others : List Price) → length ones ≡ length others →
+    ((t : ℕ) → t < length ones → price_at ones t ≡ price_at others t) → ones ≡ others
 same_prices [] [] count each = refl
 same_prices [] (y ∷ ys) count each = absurd (omega arith)
 same_prices (x ∷ xs) [] count each = absurd (omega arith)
@@ -242,18 +256,23 @@ same_prices (x ∷ xs) (y ∷ ys) count each =
     cc
 
 pub flow_prices_are_one : (day : DayFacts) → FlowPricesAreOne day
-flow_prices_are_one day lists prices others class_price other one_of other_of = go one_of.0 one_of.1 one_of.2 one_of.3 one_of.4 other_of.0 other_of.1 other_of.2 other_of.3 other_of.4
+flow_prices_are_one day lists prices others class_price other one_of other_of =
+    go one_of.0 one_of.1 one_of.2 one_of.3 one_of.4 other_of.0 other_of.1 other_of.2 other_of.3 other_of.4
   where
-    go : (pool : Pool) → day.params.pools ≡ pool ∷ [] → (p : Potentials) → AreGreatest (net_of day pool) lists p → ArePricesOf (net_of day pool) p prices class_price →
-        (pool' : Pool) → day.params.pools ≡ pool' ∷ [] → (q : Potentials) → AreGreatest (net_of day pool') lists q → ArePricesOf (net_of day pool') q others other →
+    go : (pool : Pool) → day.params.pools ≡ pool ∷ [] → (p : Potentials) → AreGreatest (net_of day pool) lists p →
+        ArePricesOf (net_of day pool) p prices class_price →
+        (pool' : Pool) → day.params.pools ≡ pool' ∷ [] → (q : Potentials) → AreGreatest (net_of day pool') lists q →
+        ArePricesOf (net_of day pool') q others other →
         (prices ≡ others) × (class_price ≡ other)
     go pool one p p_greatest p_prices pool' one' q q_greatest' q_prices' =
         let same : pool' ≡ pool = ap (first_pool pool) (sym one' ∙ one) in
         let q_greatest = subst (λ (r : Pool). AreGreatest (net_of day r) lists q) same q_greatest' in
         let q_prices = subst (λ (r : Pool). ArePricesOf (net_of day r) q others other) same q_prices' in
         let n = length day.trips in
-        let tails : (x : ℕ) → x ≤ n → p.tail x ≡ q.tail x = λ x within. omega (arith, ints, p_greatest.tails q q_greatest.numbers x within, q_greatest.tails p p_greatest.numbers x within) in
-        let heads : (v : ℕ) → v ≤ n → p.head v ≡ q.head v = λ v within. omega (arith, ints, p_greatest.heads q q_greatest.numbers v within, q_greatest.heads p p_greatest.numbers v within) in
+        let tails : (x : ℕ) → x ≤ n → p.tail x ≡ q.tail x =
+        λ x within. omega (arith, ints, p_greatest.tails q q_greatest.numbers x within, q_greatest.tails p p_greatest.numbers x within) in
+        let heads : (v : ℕ) → v ≤ n → p.head v ≡ q.head v =
+        λ v within. omega (arith, ints, p_greatest.heads q q_greatest.numbers v within, q_greatest.heads p p_greatest.numbers v within) in
         let count = p_prices.count in
         let other_count = q_prices.count in (
           same_prices prices others (count ∙ sym other_count) (λ t below.

@@ -16,7 +16,10 @@ use Rattle.one_pool_flow.specs.DayNets.{IsLaid, arc_of, dear_of, net_of}
 added_not : (day : DayFacts) (pool : Pool) (t u : ℕ) → nat_lt t u ≡ false → added day pool t u ≡ None
 added_not day pool t u test = go (slice_get day.trips t) (slice_get day.trips u)
   where
-    go : (a b : Option Trip) → option_and_then (λ (trip : Trip). option_and_then (λ (next : Trip). given (nat_lt t u) (given (admits day next.line pool.typ) (option_map (λ l. link_cost pool next l) (link day pool trip next)))) b) a ≡ None
+    go : (a b : Option Trip) →
+        option_and_then (λ (trip : Trip). option_and_then
+        (λ (next : Trip). given (nat_lt t u)
+        (given (admits day next.line pool.typ) (option_map (λ l. link_cost pool next l) (link day pool trip next)))) b) a ≡ None
     go None b = refl
     go (Some trip) None = refl
     go (Some trip) (Some next) = rw test refl
@@ -39,7 +42,8 @@ day_rising day pool = record { stays = stays; rises = rises }
           cc)
     ]
 
-pub day_cheap : (day : DayFacts) (pool : Pool) (n : ℕ) (rows : List (List (Option ℕ))) → n ≡ length day.trips → IsLaid day pool n (n + 1) rows → (n + 2) * dear_of pool ≤ 750000000000 → IsCheap (net_of day pool)
+pub day_cheap : (day : DayFacts) (pool : Pool) (n : ℕ) (rows : List (List (Option ℕ))) → n ≡ length day.trips →
+    IsLaid day pool n (n + 1) rows → (n + 2) * dear_of pool ≤ 750000000000 → IsCheap (net_of day pool)
 day_cheap day pool n rows count laid cheap = (
   dear_of pool,
   λ x v c x_in v_in e.

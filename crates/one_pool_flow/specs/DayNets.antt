@@ -24,7 +24,8 @@ net_of day pool = record { nodes = length day.trips; most = pool.cap; arc = arc_
 abbrev pub PlansAreCovers : DayFacts → Pool → Type 0
 PlansAreCovers day pool =
     day.params.pools ≡ pool ∷ [] → (lists : List (List ℕ)) →
-    (IsPathPlan day lists → IsCover (net_of day pool) lists) × (IsCover (net_of day pool) lists → IsPathPlan day lists) × (plan_cost day lists ≡ cover_cost (net_of day pool) lists)
+    (IsPathPlan day lists → IsCover (net_of day pool) lists) × (IsCover (net_of day pool) lists → IsPathPlan day lists)
+    × (plan_cost day lists ≡ cover_cost (net_of day pool) lists)
 
 -- what the arcs from a row to the columns below a limit cost, laid out
 pub record IsLaidRow (day : DayFacts) (pool : Pool) (n x limit : ℕ) (row : List (Option ℕ)) : Type 0 where

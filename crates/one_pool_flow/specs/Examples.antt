@@ -25,7 +25,8 @@ abbrev D : Point
 D = point 2 9
 
 abbrev trip : ℕ → Point → ℕ → Point → ℕ → Trip
-trip fid from begin to end = record { fid = fid; line = 1; from = from; begin = record { 0 = pos begin }; to = to; end = record { 0 = pos end } }
+trip fid from begin to end =
+    record { fid = fid; line = 1; from = from; begin = record { 0 = pos begin }; to = to; end = record { 0 = pos end } }
 
 abbrev pool_with : ℕ → ℕ → ℕ → Pool
 pool_with cap fixed stand_rate = record { number = 1; depot = D; typ = 1; cap = cap; fixed = fixed; dead_rate = 1; stand_rate = stand_rate }

@@ -16,12 +16,13 @@ use Rattle.one_pool_flow.specs.Paths.{IsFlowPlan, IsPathPlan, columns_of, paths_
 -- slackness). Each trip has two potentials, one as a link or a pull-out enters it and one as a link or a pull-in leaves it; the store and
 -- the end have one each. None is above 0. The potential where a link, the pull-out of an admitted trip or a pull-in ends is above the one
 -- where it begins by no more than that adds to the cost of a path, and the end's is not above the store's, as a vehicle that stays in the
--- store costs nothing. There is equality where the plan uses a link or a pull, or leaves a vehicle in the store. The greatest potentials are
--- unique. The price of a trip is a thousand times how far its first potential is above its second one, the class price a thousand times how
--- far the store's is above the end's. Where there is a plan, each trip is admitted, so a pull-in asks no admission.
+-- store costs nothing. There is equality where the plan uses a link or a pull, or leaves a vehicle in the store. The greatest potentials
+-- are unique. The price of a trip is a thousand times how far its first potential is above its second one, the class price a thousand
+-- times how far the store's is above the end's. Where there is a plan, each trip is admitted, so a pull-in asks no admission.
 abbrev pub AreFlowPrices : DayFacts → List (List ℕ) → List Price → ℤ → Type 0
 AreFlowPrices day lists prices class_price =
-    (pool : Pool) × (day.params.pools ≡ pool ∷ []) × (p : Potentials) × AreGreatest (net_of day pool) lists p × ArePricesOf (net_of day pool) p prices class_price
+    (pool : Pool) × (day.params.pools ≡ pool ∷ []) × (p : Potentials) × AreGreatest (net_of day pool) lists p
+    × ArePricesOf (net_of day pool) p prices class_price
 
 -- prices that are paid over all paths, and whose bound is the cost of a plan
 pub record AreFlowBound (day : DayFacts) (lists : List (List ℕ)) (prices : List Price) (class_price : ℤ) : Type 0 where
@@ -53,11 +54,13 @@ FlowPlanIsOne day = (one other : List (List ℕ)) → IsFlowPlan day one → IsF
 -- nor has a plan two lists of flow prices
 abbrev pub FlowPricesAreOne : DayFacts → Type 0
 FlowPricesAreOne day =
-    (lists : List (List ℕ)) (prices others : List Price) (class_price other : ℤ) → AreFlowPrices day lists prices class_price → AreFlowPrices day lists others other →
+    (lists : List (List ℕ)) (prices others : List Price) (class_price other : ℤ) → AreFlowPrices day lists prices class_price →
+    AreFlowPrices day lists others other →
     (prices ≡ others) × (class_price ≡ other)
 
 -- where each path of a plan is a block, the plan is one of blocks, and its prices prove that it costs least of these too
 abbrev pub PathsAreBlocks : DayFacts → Type 0
 PathsAreBlocks day =
-    (lists : List (List ℕ)) (prices : List Price) (class_price : ℤ) → IsPathPlan day lists → all_blocks day lists ≡ true → AreFlowBound day lists prices class_price →
+    (lists : List (List ℕ)) (prices : List Price) (class_price : ℤ) → IsPathPlan day lists → all_blocks day lists ≡ true →
+    AreFlowBound day lists prices class_price →
     AreBlockBound day lists prices class_price

@@ -60,7 +60,8 @@ abbrev store_part : ℕ → (ℕ → Bool) → (ℕ → ℕ) → ℕ → ℤ
 store_part n C from u = cond (from u == n) (one (C u)) (pos 0)
 
 -- a column of C is held by a row or by the store
-column_parts : (n : ℕ) (C : ℕ → Bool) (from : ℕ → ℕ) (u : ℕ) → (C u ≡ true → from u ≤ n) → one (C u) ≡ held n (λ v. one (C v)) from u +ℤ store_part n C from u
+column_parts : (n : ℕ) (C : ℕ → Bool) (from : ℕ → ℕ) (u : ℕ) → (C u ≡ true → from u ≤ n) →
+    one (C u) ≡ held n (λ v. one (C v)) from u +ℤ store_part n C from u
 column_parts n C from u is_held =
     elim (cases_lt (from u) n) [
       | inl below ↦
@@ -134,7 +135,8 @@ row_less n most to from spare room root fixed R C next firsts are closed other t
           let at_root : P root = omega (arith, ints) in
           rw is (subst P (sym same) at_root)
       | inr not ↦
-          let apart : t ≢ root = λ e. absurd (let bad : (t == root) ≡ true = grind (arith, nat_tests) in let two : true ≡ false = sym bad ∙ not in cc) in
+          let apart : t ≢ root = λ e. absurd (let bad : (t == root) ≡ true = grind (arith, nat_tests) in let two : true ≡ false =
+          sym bad ∙ not in cc) in
           let step : row_part n C (to t) ≤ℤ one (C (next t)) = elim (cases_lt t fixed) [
             | inl below ↦ let agree : next t ≡ to t = other.agree t below apart in rw agree (row_most n C (to t))
             | inr past ↦ elim (cases_lt n (to t)) [
@@ -175,11 +177,13 @@ blocked n most to from spare room root fixed R C next firsts are closed other =
     let f : ℕ → ℤ = λ v. one (C v) in
     let less : (sum_first (λ t. row_part n C (to t)) n +ℤ pos 1) ≤ℤ sum_first (λ t. f (next t)) n =
     sum_first-less _ _ root n closed.root_in (row_less n most to from spare room root fixed R C next firsts are closed other) in
-    let parts : sum_first (λ t. row_part n C (to t)) n ≡ sum_first (λ t. inside n f (to t)) n +ℤ sum_first (λ t. cond (to t == n) (one (C n)) (pos 0)) n = sum_first-plus _ _ n in
+    let parts : sum_first (λ t. row_part n C (to t)) n ≡ sum_first (λ t. inside n f (to t)) n
+    +ℤ sum_first (λ t. cond (to t == n) (one (C n)) (pos 0)) n = sum_first-plus _ _ n in
     let both_sides = matched n to from are.matched f in
     let columns : sum_first f n ≡ sum_first (λ u. held n f from u) n +ℤ sum_first (λ u. store_part n C from u) n =
     sum_first-same _ _ n (λ u within. column_parts n C from u (closed.held u within)) ∙ sum_first-plus _ _ n in
-    let store_high : sum_first (λ u. store_part n C from u) n ≤ℤ sum_first (λ u. one (from u == n)) n = sum_first-mono _ _ n (λ u within. store_part_high (from u == n) (C u)) in
+    let store_high : sum_first (λ u. store_part n C from u) n ≤ℤ sum_first (λ u. one (from u == n)) n =
+    sum_first-mono _ _ n (λ u within. store_part_high (from u == n) (C u)) in
     let all = other.all f in
     let low = sum_each-low C firsts in
     elim (either (R n)) [
@@ -188,7 +192,8 @@ blocked n most to from spare room root fixed R C next firsts are closed other =
           elim (either (C n)) [
             | inl end_in ↦
                 let full : room ≡ 0 = closed.end_full end_in in
-                let ends_same : sum_first (λ t. cond (to t == n) (one (C n)) (pos 0)) n ≡ sum_first (λ t. one (to t == n)) n = sum_first-same _ _ n (λ t within. end_one (to t == n) end_in) in
+                let ends_same : sum_first (λ t. cond (to t == n) (one (C n)) (pos 0)) n ≡ sum_first (λ t. one (to t == n)) n =
+                sum_first-same _ _ n (λ t within. end_one (to t == n) end_in) in
                 let e : one (C n) ≡ pos 1 = rw end_in refl in
                 let k : pos (length firsts) *ℤ one (C n) ≡ pos (length firsts) = rw end_in (omega (arith, ints)) in
                 let ends = are.ends in
@@ -197,7 +202,8 @@ blocked n most to from spare room root fixed R C next firsts are closed other =
             | inr end_out ↦
                 let e : one (C n) ≡ pos 0 = rw end_out refl in
                 let k : pos (length firsts) *ℤ one (C n) ≡ pos 0 = rw end_out (omega (arith, ints)) in
-                let none : sum_first (λ t. cond (to t == n) (one (C n)) (pos 0)) n ≡ pos 0 = sum_first-same _ _ n (λ t within. end_none (to t == n) end_out) ∙ sum_first-none n in
+                let none : sum_first (λ t. cond (to t == n) (one (C n)) (pos 0)) n ≡ pos 0 =
+                sum_first-same _ _ n (λ t within. end_none (to t == n) end_out) ∙ sum_first-none n in
                 let most_used : most ≤ length firsts = elim (cases_lt (length firsts) most) [
                   | inl fewer ↦ absurd (let bad : true ≡ false = sym (other.stays in_r fewer) ∙ end_out in cc)
                   | inr used ↦ used
@@ -206,7 +212,8 @@ blocked n most to from spare room root fixed R C next firsts are closed other =
                 absurd (omega (arith, ints))
           ]
       | inr out_r ↦
-          let store_none : sum_first (λ u. store_part n C from u) n ≡ pos 0 = sum_first-same _ _ n (λ u within. store_zero u within out_r) ∙ sum_first-none n in
+          let store_none : sum_first (λ u. store_part n C from u) n ≡ pos 0 =
+          sum_first-same _ _ n (λ u within. store_zero u within out_r) ∙ sum_first-none n in
           elim (either (C n)) [
             | inl end_in ↦
                 let full : room ≡ 0 = closed.end_full end_in in
@@ -214,7 +221,8 @@ blocked n most to from spare room root fixed R C next firsts are closed other =
                   | inl some ↦ absurd (let bad : true ≡ false = sym (closed.store_stays end_in some) ∙ out_r in cc)
                   | inr none ↦ omega arith
                 ] in
-                let ends_same : sum_first (λ t. cond (to t == n) (one (C n)) (pos 0)) n ≡ sum_first (λ t. one (to t == n)) n = sum_first-same _ _ n (λ t within. end_one (to t == n) end_in) in
+                let ends_same : sum_first (λ t. cond (to t == n) (one (C n)) (pos 0)) n ≡ sum_first (λ t. one (to t == n)) n =
+                sum_first-same _ _ n (λ t within. end_one (to t == n) end_in) in
                 let e : one (C n) ≡ pos 1 = rw end_in refl in
                 let k : pos (length firsts) *ℤ one (C n) ≡ pos (length firsts) = rw end_in (omega (arith, ints)) in
                 let ends = are.ends in
@@ -223,7 +231,8 @@ blocked n most to from spare room root fixed R C next firsts are closed other =
             | inr end_out ↦
                 let e : one (C n) ≡ pos 0 = rw end_out refl in
                 let k : pos (length firsts) *ℤ one (C n) ≡ pos 0 = rw end_out (omega (arith, ints)) in
-                let none : sum_first (λ t. cond (to t == n) (one (C n)) (pos 0)) n ≡ pos 0 = sum_first-same _ _ n (λ t within. end_none (to t == n) end_out) ∙ sum_first-none n in
+                let none : sum_first (λ t. cond (to t == n) (one (C n)) (pos 0)) n ≡ pos 0 =
+                sum_first-same _ _ n (λ t within. end_none (to t == n) end_out) ∙ sum_first-none n in
                 absurd (omega (arith, ints))
           ]
     ]

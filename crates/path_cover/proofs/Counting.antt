@@ -15,7 +15,8 @@ pub swap : (h : ℕ → ℕ → ℤ) (m n : ℕ) → sum_first (λ t. sum_first 
 swap h zero n = sym (sum_first-none n)
 swap h (suc m) n =
     let rest : sum_first (λ t. sum_first (λ u. h t u) n) m ≡ sum_first (λ u. sum_first (λ t. h t u) m) n = swap h m n in
-    let more : sum_first (λ u. sum_first (λ t. h t u) m +ℤ h m u) n ≡ sum_first (λ u. sum_first (λ t. h t u) m) n +ℤ sum_first (λ u. h m u) n = sum_first-plus _ _ n in
+    let more : sum_first (λ u. sum_first (λ t. h t u) m +ℤ h m u) n ≡ sum_first (λ u. sum_first (λ t. h t u) m) n
+    +ℤ sum_first (λ u. h m u) n = sum_first-plus _ _ n in
     omega (arith, ints)
 
 bool_same : (a b : Bool) → (a ≡ true → b ≡ true) → (b ≡ true → a ≡ true) → a ≡ b
@@ -42,19 +43,25 @@ held_is : (n : ℕ) (f : ℕ → ℤ) (from : ℕ → ℕ) (u : ℕ) → sum_fir
 held_is n f from u =
     elim (cases_lt (from u) n) [
       | inl below ↦ let test : nat_lt (from u) n ≡ true = grind (arith, nat_tests) in rw test (sum_first-one (λ t. f u) (from u) n below)
-      | inr past ↦ let test : nat_lt (from u) n ≡ false = grind (arith, nat_tests) in rw test (sum_first-past (λ t. f u) (from u) n (omega arith))
+      | inr past ↦ let test : nat_lt (from u) n ≡ false = grind (arith, nat_tests) in
+          rw test (sum_first-past (λ t. f u) (from u) n (omega arith))
     ]
 
 test_same : (n : ℕ) (to from : ℕ → ℕ) → AreMatched n to from → (t u : ℕ) → t < n → u < n → (u == to t) ≡ (t == from u)
 test_same n to from are t u t_in u_in = bool_same (u == to t) (t == from u)
-    (λ is. let same : u ≡ to t = grind (arith, nat_tests) in let e : from u ≡ t = are.onto t u t_in u_in (sym same) in grind (arith, nat_tests))
-    (λ is. let same : t ≡ from u = grind (arith, nat_tests) in let e : to t ≡ u = are.back t u t_in u_in (sym same) in grind (arith, nat_tests))
+    (λ is. let same : u ≡ to t = grind (arith, nat_tests) in let e : from u ≡ t =
+    are.onto t u t_in u_in (sym same) in grind (arith, nat_tests))
+    (λ is. let same : t ≡ from u = grind (arith, nat_tests) in let e : to t ≡ u =
+    are.back t u t_in u_in (sym same) in grind (arith, nat_tests))
 
 -- f over the columns of all rows is f over the columns that have rows
-pub matched : (n : ℕ) (to from : ℕ → ℕ) → AreMatched n to from → (f : ℕ → ℤ) → sum_first (λ t. inside n f (to t)) n ≡ sum_first (λ u. held n f from u) n
+pub matched : (n : ℕ) (to from : ℕ → ℕ) → AreMatched n to from → (f : ℕ → ℤ) →
+    sum_first (λ t. inside n f (to t)) n ≡ sum_first (λ u. held n f from u) n
 matched n to from are f =
-    let by_rows : sum_first (λ t. sum_first (λ u. pos (cond (u == to t) 1 0) *ℤ f u) n) n ≡ sum_first (λ t. inside n f (to t)) n = sum_first-same _ _ n (λ t within. inside_is n f (to t)) in
-    let swapped : sum_first (λ t. sum_first (λ u. pos (cond (u == to t) 1 0) *ℤ f u) n) n ≡ sum_first (λ u. sum_first (λ t. pos (cond (u == to t) 1 0) *ℤ f u) n) n = swap (λ t u. pos (cond (u == to t) 1 0) *ℤ f u) n n in
+    let by_rows : sum_first (λ t. sum_first (λ u. pos (cond (u == to t) 1 0) *ℤ f u) n) n ≡ sum_first (λ t. inside n f (to t)) n =
+    sum_first-same _ _ n (λ t within. inside_is n f (to t)) in
+    let swapped : sum_first (λ t. sum_first (λ u. pos (cond (u == to t) 1 0) *ℤ f u) n) n
+    ≡ sum_first (λ u. sum_first (λ t. pos (cond (u == to t) 1 0) *ℤ f u) n) n = swap (λ t u. pos (cond (u == to t) 1 0) *ℤ f u) n n in
     let by_columns : sum_first (λ u. sum_first (λ t. pos (cond (u == to t) 1 0) *ℤ f u) n) n ≡ sum_first (λ u. held n f from u) n =
     sum_first-same _ _ n (λ u within.
     let same : sum_first (λ t. pos (cond (u == to t) 1 0) *ℤ f u) n ≡ sum_first (λ t. pos (cond (t == from u) 1 0) *ℤ f u) n =
@@ -67,6 +74,7 @@ pub sum_first-less : (f g : ℕ → ℤ) (root n : ℕ) → root < n → ((i : �
     (sum_first f n +ℤ pos 1) ≤ℤ sum_first g n
 sum_first-less f g root n within less =
     let more = sum_first-mono (λ i. f i +ℤ (pos (cond (i == root) 1 0) *ℤ pos 1)) g n less in
-    let plus : sum_first (λ i. f i +ℤ (pos (cond (i == root) 1 0) *ℤ pos 1)) n ≡ sum_first f n +ℤ sum_first (λ i. pos (cond (i == root) 1 0) *ℤ pos 1) n = sum_first-plus _ _ n in
+    let plus : sum_first (λ i. f i +ℤ (pos (cond (i == root) 1 0) *ℤ pos 1)) n ≡ sum_first f n
+    +ℤ sum_first (λ i. pos (cond (i == root) 1 0) *ℤ pos 1) n = sum_first-plus _ _ n in
     let is : sum_first (λ i. pos (cond (i == root) 1 0) *ℤ pos 1) n ≡ pos 1 = sum_first-one (λ i. pos 1) root n within in
     omega (arith, ints)

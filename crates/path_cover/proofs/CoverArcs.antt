@@ -36,7 +36,8 @@ member_cases s x rest member = go (s == x) refl
     go false e = inr (let moved = rw e at member in omega arith)
 
 -- a member of a list that rises, and what is behind it
-behind_holds : (P : ℕ → ℕ → Type 0) (n other x : ℕ) (rest : List ℕ) (s : ℕ) → Rises (x ∷ rest) → HoldsFrom P n x rest → 1 ≤ times s (x ∷ rest) → P s (unwrap_or (behind n s (x ∷ rest)) other)
+behind_holds : (P : ℕ → ℕ → Type 0) (n other x : ℕ) (rest : List ℕ) (s : ℕ) → Rises (x ∷ rest) → HoldsFrom P n x rest →
+    1 ≤ times s (x ∷ rest) → P s (unwrap_or (behind n s (x ∷ rest)) other)
 behind_holds P n other x [] s rise holds member = elim (member_cases s x [] member) [
   | inl is ↦
       let Q : ℕ → Type 0 = λ y. P y (unwrap_or (cond (x == y) (Some n) None) other) in
@@ -55,10 +56,12 @@ behind_holds P n other x (y ∷ rest) s rise holds member = elim (member_cases s
       rw no (behind_holds P n other y rest s rise.1 holds.1 more)
 ]
 
-pub members_hold : (net : Net) → IsRising net → (P : ℕ → ℕ → Type 0) (lists : List (List ℕ)) → AreColumns (paths net) (columns_of net lists) → HoldsOnAll P net.nodes lists →
+pub members_hold : (net : Net) → IsRising net → (P : ℕ → ℕ → Type 0) (lists : List (List ℕ)) →
+    AreColumns (paths net) (columns_of net lists) → HoldsOnAll P net.nodes lists →
     (s : ℕ) → 1 ≤ times s (all_items (columns_of net lists)) → P s (successor net.nodes lists s)
 members_hold net rising P [] are holds s member = absurd (omega arith)
-members_hold net rising P ([] ∷ lists) are holds s member = absurd ((paths_listed net rising 0 [] (path_column net []).worth are.0.1).0 refl)
+members_hold net rising P ([] ∷ lists) are holds s member =
+    absurd ((paths_listed net rising 0 [] (path_column net []).worth are.0.1).0 refl)
 members_hold net rising P ((x ∷ rest) ∷ lists) are holds s member =
     let rise = (paths_listed net rising 0 (x ∷ rest) (path_column net (x ∷ rest)).worth are.0.1).1 in
     elim (cases_lt 0 (times s (x ∷ rest))) [
@@ -71,7 +74,8 @@ members_hold net rising P ((x ∷ rest) ∷ lists) are holds s member =
           subst Q (sym none) next
     ]
 
-pub firsts_hold : (net : Net) → IsRising net → (P : ℕ → ℕ → Type 0) (lists : List (List ℕ)) → AreColumns (paths net) (columns_of net lists) → HoldsOnAll P net.nodes lists →
+pub firsts_hold : (net : Net) → IsRising net → (P : ℕ → ℕ → Type 0) (lists : List (List ℕ)) →
+    AreColumns (paths net) (columns_of net lists) → HoldsOnAll P net.nodes lists →
     (u : ℕ) → 1 ≤ times u (first_nodes lists) → P net.nodes u
 firsts_hold net rising P [] are holds u member = absurd (omega arith)
 firsts_hold net rising P ([] ∷ lists) are holds u member = absurd ((paths_listed net rising 0 [] (path_column net []).worth are.0.1).0 refl)
@@ -80,19 +84,22 @@ firsts_hold net rising P ((x ∷ rest) ∷ lists) are holds u member = elim (mem
   | inr more ↦ firsts_hold net rising P lists are.1 holds.1 u more
 ]
 
-pub firsts_count : (net : Net) → IsRising net → (lists : List (List ℕ)) → AreColumns (paths net) (columns_of net lists) → length (first_nodes lists) ≡ length lists
+pub firsts_count : (net : Net) → IsRising net → (lists : List (List ℕ)) → AreColumns (paths net) (columns_of net lists) →
+    length (first_nodes lists) ≡ length lists
 firsts_count net rising [] are = refl
 firsts_count net rising ([] ∷ lists) are = absurd ((paths_listed net rising 0 [] (path_column net []).worth are.0.1).0 refl)
 firsts_count net rising ((x ∷ rest) ∷ lists) are = omega (arith, firsts_count net rising lists are.1)
 
 -- a node of a cover stands in it
-pub cover_member : (net : Net) (lists : List (List ℕ)) → IsCover net lists → (s : ℕ) → s < net.nodes → 1 ≤ times s (all_items (columns_of net lists))
+pub cover_member : (net : Net) (lists : List (List ℕ)) → IsCover net lists → (s : ℕ) → s < net.nodes →
+    1 ≤ times s (all_items (columns_of net lists))
 cover_member net lists cover s within = let one = cover.once s within in omega arith
 
 abbrev pub IsArc : Net → ℕ → ℕ → Type 0
 IsArc net x v = (c : ℕ) × (net.arc x v ≡ Some c) × (v ≤ net.nodes)
 
-rest_arcs : (net : Net) (t : ℕ) (ts : List ℕ) (y : ℕ) → AllBelow net.nodes ts → rest_cost net t ts ≡ Some y → HoldsFrom (IsArc net) net.nodes t ts
+rest_arcs : (net : Net) (t : ℕ) (ts : List ℕ) (y : ℕ) → AllBelow net.nodes ts → rest_cost net t ts ≡ Some y →
+    HoldsFrom (IsArc net) net.nodes t ts
 rest_arcs net t [] y below e = (y, e, omega arith)
 rest_arcs net t (u ∷ us) y below e =
     let parts = both_some (net.arc t u) (rest_cost net u us) y e in
@@ -110,23 +117,29 @@ lists_arcs : (net : Net) (lists : List (List ℕ)) → AreColumns (paths net) (c
 lists_arcs net [] are = tt
 lists_arcs net (list ∷ lists) are = (path_arcs net list (path_column net list).worth are.0.1, lists_arcs net lists are.1)
 
-rest_tight_arcs : (net : Net) (p : Potentials) (t : ℕ) (ts : List ℕ) (y : ℕ) → AllBelow net.nodes ts → rest_cost net t ts ≡ Some y → IsTightFrom net p t ts → HoldsFrom (IsTightArc net p) net.nodes t ts
+rest_tight_arcs : (net : Net) (p : Potentials) (t : ℕ) (ts : List ℕ) (y : ℕ) → AllBelow net.nodes ts → rest_cost net t ts ≡ Some y →
+    IsTightFrom net p t ts → HoldsFrom (IsTightArc net p) net.nodes t ts
 rest_tight_arcs net p t [] y below e tight = (y, e, tight, omega arith)
 rest_tight_arcs net p t (u ∷ us) y below e tight =
     let parts = both_some (net.arc t u) (rest_cost net u us) y e in
     let within : u < net.nodes = below.0 in
     ((parts.first, parts.first_is, tight.0, omega arith), rest_tight_arcs net p u us parts.second below.1 parts.second_is tight.1)
 
-path_tight_arcs : (net : Net) (p : Potentials) (list : List ℕ) (y : ℕ) → path_cost net list ≡ Some y → IsTightPath net p list → HoldsOn (IsTightArc net p) net.nodes list
+path_tight_arcs : (net : Net) (p : Potentials) (list : List ℕ) (y : ℕ) → path_cost net list ≡ Some y → IsTightPath net p list →
+    HoldsOn (IsTightArc net p) net.nodes list
 path_tight_arcs net p [] y e tight = tt
 path_tight_arcs net p (t ∷ ts) y e tight =
     let path = path_is net t ts y e in
-    let within : t < net.nodes = path.below.0 in
-    ((path.costs.first, path.costs.first_is, tight.0, omega arith), rest_tight_arcs net p t ts path.costs.second path.below.1 path.costs.second_is tight.1)
+    let within : t < net.nodes = path.below.0 in (
+      (path.costs.first, path.costs.first_is, tight.0, omega arith),
+      rest_tight_arcs net p t ts path.costs.second path.below.1 path.costs.second_is tight.1,
+    )
 
-pub lists_tight_arcs : (net : Net) (p : Potentials) (lists : List (List ℕ)) → AreColumns (paths net) (columns_of net lists) → AreTightPaths net p lists → HoldsOnAll (IsTightArc net p) net.nodes lists
+pub lists_tight_arcs : (net : Net) (p : Potentials) (lists : List (List ℕ)) → AreColumns (paths net) (columns_of net lists) →
+    AreTightPaths net p lists → HoldsOnAll (IsTightArc net p) net.nodes lists
 lists_tight_arcs net p [] are tight = tt
-lists_tight_arcs net p (list ∷ lists) are tight = (path_tight_arcs net p list (path_column net list).worth are.0.1 tight.0, lists_tight_arcs net p lists are.1 tight.1)
+lists_tight_arcs net p (list ∷ lists) are tight =
+    (path_tight_arcs net p list (path_column net list).worth are.0.1 tight.0, lists_tight_arcs net p lists are.1 tight.1)
 
 -- where the rows of R reach only columns of C, and all of these are held by other rows of R, there is no cover
 pub no_cover : (net : Net) → IsRising net → (to from : ℕ → ℕ) (spare room root : ℕ) (R C : ℕ → Bool) →
@@ -137,7 +150,8 @@ no_cover net rising to from spare room root R C are closed root_in reach lists c
     let arcs = lists_arcs net lists cover.worths in
     let count = firsts_count net rising lists cover.worths in
     let next : ℕ → ℕ = successor net.nodes lists in
-    let on : (s : ℕ) → s < net.nodes → IsArc net s (next s) = λ s within. members_hold net rising (IsArc net) lists cover.worths arcs s (cover_member net lists cover s within) in
+    let on : (s : ℕ) → s < net.nodes → IsArc net s (next s) =
+    λ s within. members_hold net rising (IsArc net) lists cover.worths arcs s (cover_member net lists cover s within) in
     let within_root = closed.root_in in
     blocked net.nodes net.most to from spare room root 0 R C next (first_nodes lists) are closed (record {
       few = omega (arith, few_paths net lists cover);
@@ -145,13 +159,15 @@ no_cover net rising to from spare room root R C are closed root_in reach lists c
       agree = λ t below apart. absurd (omega arith);
       leads = λ t within from_fixed in_r. reach t (next t) (omega arith) in_r (on t within);
       root_leads = reach root (next root) (omega arith) root_in (on root within_root);
-      store_leads = λ in_r u member. reach net.nodes u (omega arith) in_r (firsts_hold net rising (IsArc net) lists cover.worths arcs u member);
+      store_leads = λ in_r u member. reach net.nodes u (omega arith) in_r
+          (firsts_hold net rising (IsArc net) lists cover.worths arcs u member);
       stays = λ in_r fewer. reach net.nodes net.nodes (omega arith) in_r (0, rising.stays, omega arith);
     })
 
 -- Where the rows of R reach only columns of C over tight arcs, and the root, whose column is taken off, reaches only columns of C below
 -- that one, no other least cover that agrees with the matching on all rows before has an earlier column there.
-pub not_before : (net : Net) → IsRising net → (p : Potentials) → AreFeasible net p → (to from : ℕ → ℕ) (spare room root column : ℕ) (R C : ℕ → Bool) →
+pub not_before : (net : Net) → IsRising net → (p : Potentials) → AreFeasible net p →
+    (to from : ℕ → ℕ) (spare room root column : ℕ) (R C : ℕ → Bool) →
     IsHeld net.nodes net.most to from spare room → IsClosed net.nodes to from spare room root (suc root) R C →
     ((x v : ℕ) → x ≤ net.nodes → R x ≡ true → x ≢ root → IsTightArc net p x v → C v ≡ true) →
     ((v : ℕ) → v < column → IsTightArc net p root v → C v ≡ true) →
@@ -164,7 +180,8 @@ not_before net rising p feasible to from spare room root column R C are closed r
           let arcs = lists_tight_arcs net p lists cover.worths slack.paths in
           let count = firsts_count net rising lists cover.worths in
           let next : ℕ → ℕ = successor net.nodes lists in
-          let on : (s : ℕ) → s < net.nodes → IsTightArc net p s (next s) = λ s within. members_hold net rising (IsTightArc net p) lists cover.worths arcs s (cover_member net lists cover s within) in
+          let on : (s : ℕ) → s < net.nodes → IsTightArc net p s (next s) =
+          λ s within. members_hold net rising (IsTightArc net p) lists cover.worths arcs s (cover_member net lists cover s within) in
           let within_root = closed.root_in in
           blocked net.nodes net.most to from spare room root (suc root) R C next (first_nodes lists) are closed (record {
             few = omega (arith, few_paths net lists cover);
@@ -172,8 +189,10 @@ not_before net rising p feasible to from spare room root column R C are closed r
             agree = λ t below apart. agree t (omega arith);
             leads = λ t within from_fixed in_r. reach t (next t) (omega arith) in_r (λ e. omega arith) (on t within);
             root_leads = root_reach (next root) before (on root within_root);
-            store_leads = λ in_r u member. reach net.nodes u (omega arith) in_r (λ e. omega arith) (firsts_hold net rising (IsTightArc net p) lists cover.worths arcs u member);
-            stays = λ in_r fewer. reach net.nodes net.nodes (omega arith) in_r (λ e. omega arith) (0, rising.stays, tight_stay fewer, omega arith);
+            store_leads = λ in_r u member. reach net.nodes u (omega arith) in_r (λ e. omega arith)
+                (firsts_hold net rising (IsTightArc net p) lists cover.worths arcs u member);
+            stays = λ in_r fewer. reach net.nodes net.nodes (omega arith) in_r (λ e. omega arith)
+                (0, rising.stays, tight_stay fewer, omega arith);
           }))
     ]
   where

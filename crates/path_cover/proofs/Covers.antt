@@ -25,8 +25,10 @@ here_same a b c d there back = go (a == b) (c == d) refl refl
     go : (x y : Bool) → (a == b) ≡ x → (c == d) ≡ y → here a b ≡ here c d
     go true true e e' = rw (e, e') refl
     go false false e e' = rw (e, e') refl
-    go true false e e' = absurd (let same : a ≡ b = grind (arith, nat_tests) in let same' : c ≡ d = there same in let bad : (c == d) ≡ true = grind (arith, nat_tests) in let two : true ≡ false = sym bad ∙ e' in cc)
-    go false true e e' = absurd (let same' : c ≡ d = grind (arith, nat_tests) in let same : a ≡ b = back same' in let bad : (a == b) ≡ true = grind (arith, nat_tests) in let two : true ≡ false = sym bad ∙ e in cc)
+    go true false e e' = absurd (let same : a ≡ b = grind (arith, nat_tests) in let same' : c ≡ d =
+        there same in let bad : (c == d) ≡ true = grind (arith, nat_tests) in let two : true ≡ false = sym bad ∙ e' in cc)
+    go false true e e' = absurd (let same' : c ≡ d = grind (arith, nat_tests) in let same : a ≡ b =
+        back same' in let bad : (a == b) ≡ true = grind (arith, nat_tests) in let two : true ≡ false = sym bad ∙ e in cc)
 
 here_not : (a b : ℕ) → a ≢ b → here a b ≡ 0
 here_not a b apart = go (a == b) refl
@@ -36,7 +38,8 @@ here_not a b apart = go (a == b) refl
     go false e = rw e refl
 
 -- a node with a row before it stands in a path as often as that row, and once more where it is the first
-times_after : (n : ℕ) (to from : ℕ → ℕ) → AreMatched n to from → (s r : ℕ) → s < n → r < n → from s ≡ r → (t : ℕ) (ts : List ℕ) → t < n → FollowsFrom n to t ts →
+times_after : (n : ℕ) (to from : ℕ → ℕ) → AreMatched n to from → (s r : ℕ) → s < n → r < n → from s ≡ r → (t : ℕ) (ts : List ℕ) →
+    t < n → FollowsFrom n to t ts →
     times s (t ∷ ts) ≡ here s t + times r (t ∷ ts)
 times_after n to from are s r s_in r_in is t [] t_in follows =
     let onto : to r ≡ s = are.back r s r_in s_in is in
@@ -46,21 +49,25 @@ times_after n to from are s r s_in r_in is t [] t_in follows =
 times_after n to from are s r s_in r_in is t (u ∷ us) t_in follows =
     let rest = times_after n to from are s r s_in r_in is u us follows.0 follows.2 in
     let onto : to r ≡ s = are.back r s r_in s_in is in
-    let there : s ≡ u → r ≡ t = λ e. let P : ℕ → Type 0 = λ x. from x ≡ t in let q : from s ≡ t = subst P (sym e) (are.onto t u t_in follows.0 follows.1) in sym is ∙ q in
+    let there : s ≡ u → r ≡ t = λ e. let P : ℕ → Type 0 = λ x. from x ≡ t in
+    let q : from s ≡ t = subst P (sym e) (are.onto t u t_in follows.0 follows.1) in sym is ∙ q in
     let back : r ≡ t → s ≡ u = λ e. let P : ℕ → Type 0 = λ x. to x ≡ u in let q : to r ≡ u = subst P (sym e) follows.1 in sym onto ∙ q in
     let same : here s u ≡ here r t = here_same s u r t there back in
     omega arith
 
 -- one that comes from the store stands only at the front
-times_start : (n : ℕ) (to from : ℕ → ℕ) → AreMatched n to from → (s : ℕ) → s < n → from s ≡ n → (t : ℕ) (ts : List ℕ) → t < n → FollowsFrom n to t ts → times s (t ∷ ts) ≡ here s t
+times_start : (n : ℕ) (to from : ℕ → ℕ) → AreMatched n to from → (s : ℕ) → s < n → from s ≡ n → (t : ℕ) (ts : List ℕ) → t < n →
+    FollowsFrom n to t ts → times s (t ∷ ts) ≡ here s t
 times_start n to from are s s_in is t [] t_in follows = omega arith
 times_start n to from are s s_in is t (u ∷ us) t_in follows =
     let rest = times_start n to from are s s_in is u us follows.0 follows.2 in
-    let apart : s ≢ u = λ e. let P : ℕ → Type 0 = λ x. from x ≡ t in let q : from s ≡ t = subst P (sym e) (are.onto t u t_in follows.0 follows.1) in omega arith in
+    let apart : s ≢ u = λ e. let P : ℕ → Type 0 = λ x. from x ≡ t in
+    let q : from s ≡ t = subst P (sym e) (are.onto t u t_in follows.0 follows.1) in omega arith in
     let none : here s u ≡ 0 = here_not s u apart in
     omega arith
 
-lists_after : (net : Net) (to from : ℕ → ℕ) → AreMatched net.nodes to from → (s r : ℕ) → s < net.nodes → r < net.nodes → from s ≡ r → (lists : List (List ℕ)) → AllFollow net.nodes to lists →
+lists_after : (net : Net) (to from : ℕ → ℕ) → AreMatched net.nodes to from → (s r : ℕ) → s < net.nodes → r < net.nodes → from s ≡ r →
+    (lists : List (List ℕ)) → AllFollow net.nodes to lists →
     times s (all_items (columns_of net lists)) ≡ times s (first_nodes lists) + times r (all_items (columns_of net lists))
 lists_after net to from are s r s_in r_in is [] follow = refl
 lists_after net to from are s r s_in r_in is ([] ∷ lists) follow = absurd follow.0
@@ -71,7 +78,8 @@ lists_after net to from are s r s_in r_in is ((t ∷ ts) ∷ lists) follow =
     let apart' = times-append r (t ∷ ts) (all_items (columns_of net lists)) in
     omega arith
 
-lists_start : (net : Net) (to from : ℕ → ℕ) → AreMatched net.nodes to from → (s : ℕ) → s < net.nodes → from s ≡ net.nodes → (lists : List (List ℕ)) → AllFollow net.nodes to lists →
+lists_start : (net : Net) (to from : ℕ → ℕ) → AreMatched net.nodes to from → (s : ℕ) → s < net.nodes → from s ≡ net.nodes →
+    (lists : List (List ℕ)) → AllFollow net.nodes to lists →
     times s (all_items (columns_of net lists)) ≡ times s (first_nodes lists)
 lists_start net to from are s s_in is [] follow = refl
 lists_start net to from are s s_in is ([] ∷ lists) follow = absurd follow.0
@@ -82,7 +90,8 @@ lists_start net to from are s s_in is ((t ∷ ts) ∷ lists) follow =
     omega arith
 
 -- the nodes that come from the store
-pub starts_last : (n : ℕ) (from : ℕ → ℕ) (k s : ℕ) → times s (starts n from (suc k)) ≡ times s (starts n from k) + times s (cond (from k == n) (k ∷ []) [])
+pub starts_last : (n : ℕ) (from : ℕ → ℕ) (k s : ℕ) →
+    times s (starts n from (suc k)) ≡ times s (starts n from k) + times s (cond (from k == n) (k ∷ []) [])
 starts_last n from k s = times-append s (starts n from k) (cond (from k == n) (k ∷ []) [])
 
 times_starts-past : (n : ℕ) (from : ℕ → ℕ) (k s : ℕ) → k ≤ s → times s (starts n from k) ≡ 0
@@ -111,7 +120,8 @@ times_starts-in n from (suc k) s within is =
       | inr past ↦
           let same : s ≡ k = omega arith in
           let before = times_starts-past n from k s (omega arith) in
-          let test : (from k == n) ≡ true = (let P : ℕ → Type 0 = λ x. from x ≡ n in let is' : from k ≡ n = subst P same is in grind (arith, nat_tests)) in
+          let test : (from k == n) ≡ true =
+          (let P : ℕ → Type 0 = λ x. from x ≡ n in let is' : from k ≡ n = subst P same is in grind (arith, nat_tests)) in
           let itself : (s == k) ≡ true = grind (arith, nat_tests) in
           let one_more : times s (cond (from k == n) (k ∷ []) []) ≡ 1 = rw test (rw itself refl) in
           omega arith
@@ -140,7 +150,8 @@ pub starts_length : (n : ℕ) (from : ℕ → ℕ) (k : ℕ) → sum_first (λ u
 starts_length n from zero = refl
 starts_length n from (suc k) =
     let before = starts_length n from k in
-    let both_parts : length (starts n from (suc k)) ≡ length (starts n from k) + length (cond (from k == n) (k ∷ []) []) = length-append (starts n from k) (cond (from k == n) (k ∷ []) []) in
+    let both_parts : length (starts n from (suc k)) ≡ length (starts n from k) + length (cond (from k == n) (k ∷ []) []) =
+    length-append (starts n from k) (cond (from k == n) (k ∷ []) []) in
     let last : one (from k == n) ≡ pos (length (cond {A = List ℕ} (from k == n) (k ∷ []) [])) = go (from k == n) in
     omega (arith, ints)
   where
@@ -170,14 +181,17 @@ starts_rise n from (suc k) =
     same_list [] = refl
     same_list (x ∷ xs) = ap (λ (l : List ℕ). x ∷ l) (same_list xs)
 
-    go : (b : Bool) (xs : List ℕ) → Rises xs → AllBelow k xs → Rises (xs ++ cond b (k ∷ []) []) × AllBelow (suc k) (xs ++ cond b (k ∷ []) [])
+    go : (b : Bool) (xs : List ℕ) → Rises xs → AllBelow k xs →
+        Rises (xs ++ cond b (k ∷ []) []) × AllBelow (suc k) (xs ++ cond b (k ∷ []) [])
     go true xs rise below = longer xs rise below
-    go false xs rise below = let P : List ℕ → Type 0 = λ l. Rises l × AllBelow (suc k) l in subst P (sym (same_list xs)) (rise, wider xs below)
+    go false xs rise below =
+        let P : List ℕ → Type 0 = λ l. Rises l × AllBelow (suc k) l in subst P (sym (same_list xs)) (rise, wider xs below)
 
 both_there : (a b : Option ℕ) (c d : ℕ) → a ≡ Some c → b ≡ Some d → both a b ≡ Some (c + d)
 both_there a b c d e e' = rw (e, e') refl
 
-rest_there : (net : Net) (p : Potentials) (to from : ℕ → ℕ) (spare : ℕ) → IsTightMatching net p to from spare → (t : ℕ) (ts : List ℕ) → t < net.nodes → FollowsFrom net.nodes to t ts →
+rest_there : (net : Net) (p : Potentials) (to from : ℕ → ℕ) (spare : ℕ) → IsTightMatching net p to from spare → (t : ℕ) (ts : List ℕ) →
+    t < net.nodes → FollowsFrom net.nodes to t ts →
     (y : ℕ) × (rest_cost net t ts ≡ Some y) × (all_below net.nodes (t ∷ ts) ≡ true) × IsTightFrom net p t ts
 rest_there net p to from spare tight t [] t_in follows =
     let last = tight.rows t t_in (omega arith) in
@@ -195,7 +209,8 @@ rest_there net p to from spare tight t (u ∷ us) t_in follows =
     let below : all_below net.nodes (t ∷ u ∷ us) ≡ true = rw test rest.2 in
     (arc.0 + rest.0, both_there (net.arc t u) (rest_cost net u us) arc.0 rest.0 arc.1 rest.1, below, (arc.2, rest.3))
 
-lists_there : (net : Net) (p : Potentials) (to from : ℕ → ℕ) (spare : ℕ) → IsTightMatching net p to from spare → (lists : List (List ℕ)) → AllFollow net.nodes to lists →
+lists_there : (net : Net) (p : Potentials) (to from : ℕ → ℕ) (spare : ℕ) → IsTightMatching net p to from spare → (lists : List (List ℕ)) →
+    AllFollow net.nodes to lists →
     ((u : ℕ) → 1 ≤ times u (first_nodes lists) → from u ≡ net.nodes) →
     AreColumns (paths net) (columns_of net lists) × AreTightPaths net p lists × HoldsOnAll (λ s v. s < net.nodes → to s ≡ v) net.nodes lists
 lists_there net p to from spare tight [] follow firsts = (tt, tt, tt)
@@ -206,8 +221,10 @@ lists_there net p to from spare tight ((t ∷ ts) ∷ lists) follow firsts =
     let first = tight.store t t_in (firsts t (rw itself (omega arith))) in
     let rest = rest_there net p to from spare tight t ts t_in follow.0.1 in
     let others = lists_there net p to from spare tight lists follow.1 (λ u member. firsts u (omega arith)) in
-    let cost_is : path_cost net (t ∷ ts) ≡ Some (first.0 + rest.0) = rw rest.2 (both_there (net.arc net.nodes t) (rest_cost net t ts) first.0 rest.0 first.1 rest.1) in
-    let worth : path_cost net (t ∷ ts) ≡ Some (path_column net (t ∷ ts)).worth = cost_is ∙ ap (λ (o : Option ℕ). Some (unwrap_or o 0)) (sym cost_is) in
+    let cost_is : path_cost net (t ∷ ts) ≡ Some (first.0 + rest.0) =
+    rw rest.2 (both_there (net.arc net.nodes t) (rest_cost net t ts) first.0 rest.0 first.1 rest.1) in
+    let worth : path_cost net (t ∷ ts) ≡ Some (path_column net (t ∷ ts)).worth =
+    cost_is ∙ ap (λ (o : Option ℕ). Some (unwrap_or o 0)) (sym cost_is) in
     (((omega arith, worth), others.0), ((first.2, rest.3), others.1), (((λ bad. omega arith), follow_holds t ts follow.0.1), others.2))
   where
     follow_holds : (t : ℕ) (ts : List ℕ) → FollowsFrom net.nodes to t ts → HoldsFrom (λ s v. s < net.nodes → to s ≡ v) net.nodes t ts
@@ -215,8 +232,10 @@ lists_there net p to from spare tight ((t ∷ ts) ∷ lists) follow firsts =
     follow_holds t (u ∷ us) follows = ((λ within. follows.1), follow_holds u us follows.2)
 
 -- each node stands once in them
-once_each : (net : Net) → IsRising net → (p : Potentials) (to from : ℕ → ℕ) (spare : ℕ) → AreMatched net.nodes to from → IsTightMatching net p to from spare →
-    ((u : ℕ) → u < net.nodes → from u ≤ net.nodes) → (lists : List (List ℕ)) → AllFollow net.nodes to lists → first_nodes lists ≡ starts net.nodes from net.nodes →
+once_each : (net : Net) → IsRising net → (p : Potentials) (to from : ℕ → ℕ) (spare : ℕ) → AreMatched net.nodes to from →
+    IsTightMatching net p to from spare →
+    ((u : ℕ) → u < net.nodes → from u ≤ net.nodes) → (lists : List (List ℕ)) → AllFollow net.nodes to lists →
+    first_nodes lists ≡ starts net.nodes from net.nodes →
     (k s : ℕ) → s < k → s < net.nodes → times s (all_items (columns_of net lists)) ≡ 1
 once_each net rising p to from spare are tight full lists follow firsts zero s below within = absurd (omega arith)
 once_each net rising p to from spare are tight full lists follow firsts (suc k) s below within =
@@ -229,9 +248,11 @@ once_each net rising p to from spare are tight full lists follow firsts (suc k) 
           let arc' = subst P goes arc in
           let before : from s < s = rising.rises (from s) s arc'.0 row within arc'.1 in
           let r = from s in
-          let one_before : times r (all_items (columns_of net lists)) ≡ 1 = once_each net rising p to from spare are tight full lists follow firsts k r (omega arith) row in
+          let one_before : times r (all_items (columns_of net lists)) ≡ 1 =
+          once_each net rising p to from spare are tight full lists follow firsts k r (omega arith) row in
           let none = times_starts-out net.nodes from net.nodes s (λ e. omega arith) in
-          let after : times s (all_items (columns_of net lists)) ≡ times s (first_nodes lists) + times r (all_items (columns_of net lists)) = lists_after net to from are s r within row refl lists follow in
+          let after : times s (all_items (columns_of net lists)) ≡ times s (first_nodes lists)
+          + times r (all_items (columns_of net lists)) = lists_after net to from are s r within row refl lists follow in
           omega arith
       | inr past ↦
           let most = full s within in
@@ -246,18 +267,22 @@ from_starts n from k u member = go (from u == n) refl
   where
     go : (b : Bool) → (from u == n) ≡ b → from u ≡ n
     go true e = grind (arith, nat_tests)
-    go false e = absurd (let none = times_starts-out n from k u (λ same. let bad : (from u == n) ≡ true = grind (arith, nat_tests) in let two : true ≡ false = sym bad ∙ e in cc) in omega arith)
+    go false e = absurd (let none = times_starts-out n from k u (λ same. let bad : (from u == n) ≡ true =
+        grind (arith, nat_tests) in let two : true ≡ false = sym bad ∙ e in cc) in omega arith)
 
 pub follow_count : (n : ℕ) (to : ℕ → ℕ) (lists : List (List ℕ)) → AllFollow n to lists → length (first_nodes lists) ≡ length lists
 follow_count n to [] follow = refl
 follow_count n to ([] ∷ lists) follow = absurd follow.0
 follow_count n to ((t ∷ ts) ∷ lists) follow = omega (arith, follow_count n to lists follow.1)
 
-pub matching_covers : (net : Net) → IsRising net → (p : Potentials) (to from : ℕ → ℕ) (spare room : ℕ) → IsHeld net.nodes net.most to from spare room → IsTightMatching net p to from spare →
-    ((u : ℕ) → u < net.nodes → from u ≤ net.nodes) → (lists : List (List ℕ)) → AllFollow net.nodes to lists → first_nodes lists ≡ starts net.nodes from net.nodes →
+pub matching_covers : (net : Net) → IsRising net → (p : Potentials) (to from : ℕ → ℕ) (spare room : ℕ) →
+    IsHeld net.nodes net.most to from spare room → IsTightMatching net p to from spare →
+    ((u : ℕ) → u < net.nodes → from u ≤ net.nodes) → (lists : List (List ℕ)) → AllFollow net.nodes to lists →
+    first_nodes lists ≡ starts net.nodes from net.nodes →
     AreCoverOf net p to lists
 matching_covers net rising p to from spare room held tight full lists follow firsts =
-    let there = lists_there net p to from spare tight lists follow (λ u member. from_starts net.nodes from net.nodes u (let P : List ℕ → Type 0 = λ l. 1 ≤ times u l in subst P firsts member)) in
+    let there = lists_there net p to from spare tight lists follow
+    (λ u member. from_starts net.nodes from net.nodes u (let P : List ℕ → Type 0 = λ l. 1 ≤ times u l in subst P firsts member)) in
     let count : length lists ≡ length (starts net.nodes from net.nodes) = sym (follow_count net.nodes to lists follow) ∙ ap length firsts in
     let number = starts_length net.nodes from net.nodes in
     let store = held.starts in
@@ -269,10 +294,13 @@ matching_covers net rising p to from spare room held tight full lists follow fir
     record {
       cover = cover;
       slack = record { paths = there.1; stays = λ fewer. tight.stays (omega (arith, ints)) };
-      successors = λ t within. sym (members_hold net rising (λ s v. s < net.nodes → to s ≡ v) lists there.0 there.2 t (cover_member net lists cover t within) within);
+      successors = λ t within.
+          sym (members_hold net rising (λ s v. s < net.nodes → to s ≡ v) lists there.0 there.2 t
+          (cover_member net lists cover t within) within);
       ordered = (let P : List ℕ → Type 0 = λ l. Rises l in subst P (sym firsts) (starts_rise net.nodes from net.nodes).0);
     }
   where
-    capped : (class : ℕ) → class < 1 → length lists ≤ net.most → times class (all_classes (columns_of net lists)) ≤ slice_index (net.most ∷ []) class
+    capped : (class : ℕ) → class < 1 → length lists ≤ net.most →
+        times class (all_classes (columns_of net lists)) ≤ slice_index (net.most ∷ []) class
     capped zero below few = omega (arith, in_class net lists)
     capped (suc class) below few = absurd (omega arith)

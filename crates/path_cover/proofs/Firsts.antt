@@ -18,7 +18,9 @@ matching_is_first net rising p to from spare room feasible held tight full lists
         least = λ others other. slack_is_least net rising p feasible lists others is.cover is.slack other;
         first = λ others other same t within agree.
             let slack : IsSlack net p others = least_is_slack net rising p feasible lists others is.cover is.slack other same in
-            let later : to t ≤ successor net.nodes others t = departs others other slack t within (λ s before. let at : successor net.nodes lists s ≡ to s = is.successors s (omega (arith, before, within)) in sym (agree s before) ∙ at) in
+            let later : to t ≤ successor net.nodes others t =
+            departs others other slack t within (λ s before. let at : successor net.nodes lists s ≡ to s =
+            is.successors s (omega (arith, before, within)) in sym (agree s before) ∙ at) in
             let at : successor net.nodes lists t ≡ to t = is.successors t within in
             omega arith;
         ordered = is.ordered;
@@ -26,10 +28,12 @@ matching_is_first net rising p to from spare room feasible held tight full lists
     )
 
 pub stuck_is_none : (net : Net) → StuckIsNone net
-stuck_is_none net rising p m a tree held is none_fixed no_limit none lists cover = stuck_no_cover net rising p m a tree held is none_fixed no_limit none lists cover
+stuck_is_none net rising p m a tree held is none_fixed no_limit none lists cover =
+    stuck_no_cover net rising p m a tree held is none_fixed no_limit none lists cover
 
 pub stuck_is_first : (net : Net) → StuckIsFirst net
-stuck_is_first net rising p feasible m a tree held is after_root far lists cover slack agree = stuck_not_before net rising p feasible m a tree held is after_root far lists cover slack agree
+stuck_is_first net rising p feasible m a tree held is after_root far lists cover slack agree =
+    stuck_not_before net rising p feasible m a tree held is after_root far lists cover slack agree
 
 pub greatest_are_high : (net : Net) → GreatestAreHigh net
 greatest_are_high net rising dear cheap lists cover p greatest = greatest_high net rising dear cheap lists cover p greatest

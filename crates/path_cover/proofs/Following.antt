@@ -9,7 +9,8 @@ abbrev pub ComesTo : ℕ → (ℕ → ℕ) → ℕ → List ℕ → ℕ → Type
 ComesTo n to s [] last = s ≡ last
 ComesTo n to s (u ∷ us) last = (u < n) × (to s ≡ u) × ComesTo n to u us last
 
-pub comes_on : (n : ℕ) (to : ℕ → ℕ) (s : ℕ) (us : List ℕ) (last next : ℕ) → ComesTo n to s us last → to last ≡ next → next < n → ComesTo n to s (us ++ next ∷ []) next
+pub comes_on : (n : ℕ) (to : ℕ → ℕ) (s : ℕ) (us : List ℕ) (last next : ℕ) → ComesTo n to s us last → to last ≡ next → next < n →
+    ComesTo n to s (us ++ next ∷ []) next
 comes_on n to s [] last next comes goes within = (within, ap to comes ∙ goes, refl)
 comes_on n to s (u ∷ us) last next comes goes within = (comes.0, comes.1, comes_on n to u us last next comes.2 goes within)
 
@@ -18,7 +19,8 @@ comes_home n to s [] last comes goes = ap to comes ∙ goes
 comes_home n to s (u ∷ us) last comes goes = (comes.0, comes.1, comes_home n to u us last comes.2 goes)
 
 -- one path more
-pub follow_more : (n : ℕ) (to : ℕ → ℕ) (lists : List (List ℕ)) (t : ℕ) (ts : List ℕ) → AllFollow n to lists → t < n → FollowsFrom n to t ts → AllFollow n to (lists ++ (t ∷ ts) ∷ [])
+pub follow_more : (n : ℕ) (to : ℕ → ℕ) (lists : List (List ℕ)) (t : ℕ) (ts : List ℕ) → AllFollow n to lists → t < n →
+    FollowsFrom n to t ts → AllFollow n to (lists ++ (t ∷ ts) ∷ [])
 follow_more n to [] t ts follow within more = ((within, more), tt)
 follow_more n to (list ∷ lists) t ts follow within more = (follow.0, follow_more n to lists t ts follow.1 within more)
 

@@ -43,22 +43,29 @@ column_none n from u above =
     let other : (from u == n) ≡ false = grind (arith, nat_tests) in
     rw (test, other) (omega (arith, ints))
 
-pub all_held : (n most : ℕ) (to from : ℕ → ℕ) (spare room : ℕ) → IsHeld n most to from spare room → ((t : ℕ) → t < n → to t ≤ n) → (u : ℕ) → u < n → from u ≤ n
+pub all_held : (n most : ℕ) (to from : ℕ → ℕ) (spare room : ℕ) → IsHeld n most to from spare room → ((t : ℕ) → t < n → to t ≤ n) →
+    (u : ℕ) → u < n → from u ≤ n
 all_held n most to from spare room is placed u u_in = elim (cases_lt n (from u)) [
   | inr there ↦ there
   | inl above ↦ absurd (
-      let rows : sum_first (λ t. inside n (λ w. pos 1) (to t) +ℤ one (to t == n)) n ≡ pos n = sum_first-same _ _ n (λ t t_in. row_one n (to t) (placed t t_in)) ∙ ones n in
-      let rows_apart : sum_first (λ t. inside n (λ w. pos 1) (to t) +ℤ one (to t == n)) n ≡ sum_first (λ t. inside n (λ w. pos 1) (to t)) n +ℤ sum_first (λ t. one (to t == n)) n = sum_first-plus _ _ n in
-      let columns_apart : sum_first (λ w. held n (λ w. pos 1) from w +ℤ one (from w == n)) n ≡ sum_first (λ w. held n (λ w. pos 1) from w) n +ℤ sum_first (λ w. one (from w == n)) n = sum_first-plus _ _ n in
-      let both : sum_first (λ t. inside n (λ w. pos 1) (to t)) n ≡ sum_first (λ w. held n (λ w. pos 1) from w) n = matched n to from is.matched (λ w. pos 1) in
-      let less : (sum_first (λ w. held n (λ w. pos 1) from w +ℤ one (from w == n)) n +ℤ pos 1) ≤ℤ sum_first (λ w. pos 1) n = sum_first-less _ _ u n u_in (λ w w_in. go w (w == u) refl above) in
+      let rows : sum_first (λ t. inside n (λ w. pos 1) (to t) +ℤ one (to t == n)) n ≡ pos n =
+      sum_first-same _ _ n (λ t t_in. row_one n (to t) (placed t t_in)) ∙ ones n in
+      let rows_apart : sum_first (λ t. inside n (λ w. pos 1) (to t) +ℤ one (to t == n)) n ≡ sum_first (λ t. inside n (λ w. pos 1) (to t)) n
+      +ℤ sum_first (λ t. one (to t == n)) n = sum_first-plus _ _ n in
+      let columns_apart : sum_first (λ w. held n (λ w. pos 1) from w +ℤ one (from w == n)) n ≡ sum_first (λ w. held n (λ w. pos 1) from w) n
+      +ℤ sum_first (λ w. one (from w == n)) n = sum_first-plus _ _ n in
+      let both : sum_first (λ t. inside n (λ w. pos 1) (to t)) n ≡ sum_first (λ w. held n (λ w. pos 1) from w) n =
+      matched n to from is.matched (λ w. pos 1) in
+      let less : (sum_first (λ w. held n (λ w. pos 1) from w +ℤ one (from w == n)) n +ℤ pos 1) ≤ℤ sum_first (λ w. pos 1) n =
+      sum_first-less _ _ u n u_in (λ w w_in. go w (w == u) refl above) in
       let all = ones n in
       let ends = is.ends in
       let starts = is.starts in
       omega (arith, ints))
 ]
   where
-    go : (w : ℕ) (b : Bool) → (w == u) ≡ b → n < from u → ((held n (λ w. pos 1) from w +ℤ one (from w == n)) +ℤ (pos (cond (w == u) 1 0) *ℤ pos 1)) ≤ℤ pos 1
+    go : (w : ℕ) (b : Bool) → (w == u) ≡ b → n < from u →
+        ((held n (λ w. pos 1) from w +ℤ one (from w == n)) +ℤ (pos (cond (w == u) 1 0) *ℤ pos 1)) ≤ℤ pos 1
     go w true e above =
         let same : w ≡ u = grind (arith, nat_tests) in
         let P : ℕ → Type 0 = λ j. ((held n (λ w. pos 1) from j +ℤ one (from j == n)) +ℤ (pos 1 *ℤ pos 1)) ≤ℤ pos 1 in

@@ -37,16 +37,29 @@ still_unseen v f w unseen = go (w == v) refl unseen
   where
     go : (b : Bool) → (w == v) ≡ b → cond b true (f w) ≡ false → (w ≢ v) × (f w ≡ false)
     go true e bad = absurd (cc)
-    go false e kept = ((λ same. absurd (let test : (w == v) ≡ true = grind (arith, nat_tests) in let two : true ≡ false = sym test ∙ e in cc)), kept)
+    go false e kept = (
+      (λ same. absurd (let test : (w == v) ≡ true = grind (arith, nat_tests) in let two : true ≡ false =
+          sym test ∙ e in cc)),
+      kept,
+    )
 
 abbrev pub opened_at : ℕ → Tree → Tree
-opened_at v tree = record { rows = tree.rows; columns = seen_too v tree.columns; by = tree.by; via = tree.via; least = tree.least; depth = tree.depth }
+opened_at v tree = record {
+  rows = tree.rows;
+  columns = seen_too v tree.columns;
+  by = tree.by;
+  via = tree.via;
+  least =
+      tree.least;
+  depth = tree.depth;
+}
 
 some_nat : (a b : ℕ) → Some a ≡ Some b → a ≡ b
 some_nat a b e = let f : Option ℕ → ℕ = λ o. unwrap_or o a in ap f e
 
 -- a column whose offer is 0 is seen
-pub open_column : (net : Net) (p : Potentials) (m : Matching) (a : Aim) (tree : Tree) (v : ℕ) → IsTree net p m a tree → v ≤ net.nodes → tree.columns v ≡ false → tree.least v ≡ Some (pos 0) →
+pub open_column : (net : Net) (p : Potentials) (m : Matching) (a : Aim) (tree : Tree) (v : ℕ) → IsTree net p m a tree → v ≤ net.nodes →
+    tree.columns v ≡ false → tree.least v ≡ Some (pos 0) →
     (v < net.nodes → m.from v ≤ net.nodes) → (v ≡ net.nodes → m.room ≡ 0) → IsOpening net p m a (opened_at v tree) v
 open_column net p m a tree v is v_in unseen none held no_room = record {
   root_in = is.root_in;
@@ -54,7 +67,16 @@ open_column net p m a tree v is v_in unseen none held no_room = record {
   root_seen = is.root_seen;
   fixed_in = is.fixed_in;
   reached = λ x x_in seen apart. let was = is.reached x x_in seen apart in
-      record { movable = was.movable; within = was.within; seen = still_seen v tree.columns (tree.by x) was.seen; row = was.row; store = was.store; stays = was.stays; deeper = was.deeper };
+      record {
+        movable = was.movable;
+        within = was.within;
+        seen = still_seen v tree.columns (tree.by x) was.seen;
+        row = was.row;
+        store =
+            was.store;
+        stays = was.stays;
+        deeper = was.deeper;
+      };
   within = v_in;
   opened = seen_same v tree.columns;
   step =
@@ -69,7 +91,18 @@ open_column net p m a tree v is v_in unseen none held no_room = record {
   held = held;
   no_room = no_room;
   full = λ w w_in seen apart. let was = is.full w w_in (sym (seen_other v tree.columns w apart) ∙ seen) in
-      record { within = was.within; seen = was.seen; allowed = was.allowed; tight = was.tight; held = was.held; holder = was.holder; no_room = was.no_room; ends = was.ends; stays = was.stays };
+      record {
+        within = was.within;
+        seen = was.seen;
+        allowed = was.allowed;
+        tight = was.tight;
+        held = was.held;
+        holder =
+            was.holder;
+        no_room = was.no_room;
+        ends = was.ends;
+        stays = was.stays;
+      };
   offered = λ x w c x_in w_in row column allowed e. is.offered x w c x_in w_in row (still_unseen v tree.columns w column).1 allowed e;
   kept = λ w d w_in column e. let was = is.kept w d w_in (still_unseen v tree.columns w column).1 e in
       record { within = was.within; seen = was.seen; allowed = was.allowed; cost = was.cost; arc = was.arc; is = was.is };
@@ -82,15 +115,19 @@ open_column net p m a tree v is v_in unseen none held no_room = record {
 pub record IsOfferedToo (net : Net) (p : Potentials) (a : Aim) (x : ℕ) (old new : Tree) : Type 0 where
   pub columns : (w : ℕ) → new.columns w ≡ old.columns w
   pub via_seen : (w : ℕ) → w ≤ net.nodes → old.columns w ≡ true → new.via w ≡ old.via w
-  pub offer : (w c : ℕ) → w ≤ net.nodes → old.columns w ≡ false → net.arc x w ≡ Some c → (d : ℤ) × (new.least w ≡ Some d) × (d ≤ℤ (pos c +ℤ (p.tail x -ℤ p.head w)))
+  pub offer : (w c : ℕ) → w ≤ net.nodes → old.columns w ≡ false → net.arc x w ≡ Some c →
+      (d : ℤ) × (new.least w ≡ Some d) × (d ≤ℤ (pos c +ℤ (p.tail x -ℤ p.head w)))
   pub lower : (w : ℕ) (d : ℤ) → w ≤ net.nodes → old.columns w ≡ false → old.least w ≡ Some d → (e : ℤ) × (new.least w ≡ Some e) × (e ≤ℤ d)
   pub either : (w : ℕ) (d : ℤ) → w ≤ net.nodes → old.columns w ≡ false → new.least w ≡ Some d →
-      ((old.least w ≡ Some d) × (new.via w ≡ old.via w)) ⊎ ((new.via w ≡ x) × ((c : ℕ) × (net.arc x w ≡ Some c) × (d ≡ pos c +ℤ (p.tail x -ℤ p.head w))))
+      ((old.least w ≡ Some d) × (new.via w ≡ old.via w)) ⊎
+      ((new.via w ≡ x) × ((c : ℕ) × (net.arc x w ≡ Some c) × (d ≡ pos c +ℤ (p.tail x -ℤ p.head w))))
 
 -- a row that holds the column is reached
-pub reach_row : (net : Net) (p : Potentials) (m : Matching) (a : Aim) (old new : Tree) (v x : ℕ) → IsOpening net p m a old v → x ≤ net.nodes → old.rows x ≡ false → a.fixed ≤ x →
+pub reach_row : (net : Net) (p : Potentials) (m : Matching) (a : Aim) (old new : Tree) (v x : ℕ) → IsOpening net p m a old v →
+    x ≤ net.nodes → old.rows x ≡ false → a.fixed ≤ x →
     (x < net.nodes → m.to x ≡ v) → (x ≡ net.nodes → v < net.nodes → m.from v ≡ net.nodes) → (x ≡ net.nodes → v ≡ net.nodes → 0 < m.spare) →
-    ((y : ℕ) → new.rows y ≡ seen_too x old.rows y) → ((y : ℕ) → new.by y ≡ put x v old.by y) → ((y : ℕ) → new.depth y ≡ put x (suc (old.depth (old.via v))) old.depth y) →
+    ((y : ℕ) → new.rows y ≡ seen_too x old.rows y) → ((y : ℕ) → new.by y ≡ put x v old.by y) →
+    ((y : ℕ) → new.depth y ≡ put x (suc (old.depth (old.via v))) old.depth y) →
     IsOfferedToo net p a x old new → IsOpening net p m a new v
 reach_row net p m a old new v x is x_in unseen movable row store stays rows bys depths too = record {
   root_in = is.root_in;
@@ -107,7 +144,9 @@ reach_row net p m a old new v x is x_in unseen movable row store stays rows bys 
         let via_same : new.via (new.by y) ≡ old.via (old.by y) = ap new.via by_same ∙ too.via_seen (old.by y) was.within column_seen in
         let depth_y : new.depth y ≡ old.depth y = depths y ∙ put_other x (suc (old.depth (old.via v))) old.depth y other in
         let depth_via : new.depth (new.via (new.by y)) ≡ old.depth (old.via (old.by y)) =
-        ap new.depth via_same ∙ (depths (old.via (old.by y)) ∙ put_other x (suc (old.depth (old.via v))) old.depth (old.via (old.by y)) (not_x (old.via (old.by y)) (column_row (old.by y) was.within column_seen))) in
+        ap new.depth via_same ∙ (depths (old.via (old.by y))
+        ∙ put_other x (suc (old.depth (old.via v))) old.depth (old.via (old.by y))
+        (not_x (old.via (old.by y)) (column_row (old.by y) was.within column_seen))) in
         let deeper = was.deeper in
         record {
           movable = was.movable;
@@ -183,7 +222,8 @@ reach_row net p m a old new v x is x_in unseen movable row store stays rows bys 
     seen_still y seen = rows y ∙ still_seen x old.rows y seen
 
     not_x : (y : ℕ) → old.rows y ≡ true → y ≢ x
-    not_x y seen = λ same. absurd (let e : old.rows x ≡ true = subst (λ (z : ℕ). old.rows z ≡ true) same seen in let two : true ≡ false = sym e ∙ unseen in cc)
+    not_x y seen = λ same. absurd (let e : old.rows x ≡ true = subst (λ (z : ℕ). old.rows z ≡ true) same seen in let two : true ≡ false =
+        sym e ∙ unseen in cc)
 
     not_root : x ≢ a.root
     not_root = λ same. not_x a.root is.root_seen (sym same)
@@ -210,7 +250,8 @@ reach_row net p m a old new v x is x_in unseen movable row store stays rows bys 
         let via_same : new.via (new.by x) ≡ old.via v = ap new.via by_x ∙ too.via_seen v is.within is.opened in
         let depth_x : new.depth x ≡ suc (old.depth (old.via v)) = depths x ∙ put_same x (suc (old.depth (old.via v))) old.depth in
         let depth_via : new.depth (new.via (new.by x)) ≡ old.depth (old.via v) =
-        ap new.depth via_same ∙ (depths (old.via v) ∙ put_other x (suc (old.depth (old.via v))) old.depth (old.via v) (not_x (old.via v) is.step.seen)) in
+        ap new.depth via_same ∙ (depths (old.via v)
+        ∙ put_other x (suc (old.depth (old.via v))) old.depth (old.via v) (not_x (old.via v) is.step.seen)) in
         let inside = is.within in
         record {
           movable = movable;
@@ -223,8 +264,10 @@ reach_row net p m a old new v x is x_in unseen movable row store stays rows bys 
         }
 
 -- where the rows of the column are seen, the tree is one again
-pub close_column : (net : Net) (p : Potentials) (m : Matching) (a : Aim) (tree : Tree) (v : ℕ) → IsOpening net p m a tree v → (v < net.nodes → a.fixed ≤ m.from v → tree.rows (m.from v) ≡ true) →
-    (v ≡ net.nodes → (t : ℕ) → a.fixed ≤ t → t < net.nodes → m.to t ≡ net.nodes → tree.rows t ≡ true) → (v ≡ net.nodes → 0 < m.spare → tree.rows net.nodes ≡ true) → IsTree net p m a tree
+pub close_column : (net : Net) (p : Potentials) (m : Matching) (a : Aim) (tree : Tree) (v : ℕ) → IsOpening net p m a tree v →
+    (v < net.nodes → a.fixed ≤ m.from v → tree.rows (m.from v) ≡ true) →
+    (v ≡ net.nodes → (t : ℕ) → a.fixed ≤ t → t < net.nodes → m.to t ≡ net.nodes → tree.rows t ≡ true) →
+    (v ≡ net.nodes → 0 < m.spare → tree.rows net.nodes ≡ true) → IsTree net p m a tree
 close_column net p m a tree v is holder ends stays = record {
   root_in = is.root_in;
   root_free = is.root_free;
@@ -250,8 +293,10 @@ close_column net p m a tree v is holder ends stays = record {
 }
 
 -- a column with a free place whose offer is 0: the walk back begins
-pub begin_walk : (net : Net) (p : Potentials) (m : Matching) (a : Aim) (tree : Tree) (v : ℕ) → IsTree net p m a tree → v ≤ net.nodes → tree.columns v ≡ false → tree.least v ≡ Some (pos 0) →
-    IsHeld net.nodes net.most m.to m.from m.spare m.room → IsTightMatching net p m.to m.from m.spare → HasPlace net.nodes v m → IsWalk net p a tree m v
+pub begin_walk : (net : Net) (p : Potentials) (m : Matching) (a : Aim) (tree : Tree) (v : ℕ) → IsTree net p m a tree → v ≤ net.nodes →
+    tree.columns v ≡ false → tree.least v ≡ Some (pos 0) →
+    IsHeld net.nodes net.most m.to m.from m.spare m.room → IsTightMatching net p m.to m.from m.spare →
+    HasPlace net.nodes v m → IsWalk net p a tree m v
 begin_walk net p m a tree v is v_in unseen none held tight place = record {
   held = held;
   tight = tight;
@@ -261,8 +306,15 @@ begin_walk net p m a tree v is v_in unseen none held tight place = record {
   step =
       let kept = is.kept v (pos 0) v_in unseen none in
       let equal = kept.is in
-      record { within = kept.within; seen = kept.seen; allowed = kept.allowed; tight = (kept.cost, kept.arc, tight_here kept.cost kept.arc (omega (arith, ints)), v_in) };
-  steps = λ w w_in seen. let was = is.full w w_in seen in record { within = was.within; seen = was.seen; allowed = was.allowed; tight = was.tight };
+      record {
+        within = kept.within;
+        seen = kept.seen;
+        allowed = kept.allowed;
+        tight =
+            (kept.cost, kept.arc, tight_here kept.cost kept.arc (omega (arith, ints)), v_in);
+      };
+  steps = λ w w_in seen. let was = is.full w w_in seen in
+      record { within = was.within; seen = was.seen; allowed = was.allowed; tight = was.tight };
   reached = λ x x_in seen apart near. is.reached x x_in seen apart;
 }
   where

@@ -54,12 +54,16 @@ zero_head n falls e i = ap (λ (l : List ℕ). get_or l i 0) e ∙ each_same (n 
 pub zero_low : (n : ℕ) (falls : Falls) → falls.tails.items ≡ replicate (n + 1) 0 → falls.heads.items ≡ replicate (n + 1) 0 → AreLow falls 0
 zero_low n falls tails heads i = (let t = zero_tail n falls tails i in omega arith, let h = zero_head n falls heads i in omega arith)
 
-pub zero_places : (n : ℕ) (falls : Falls) → falls.tails.items ≡ replicate (n + 1) 0 → falls.heads.items ≡ replicate (n + 1) 0 → HasPlaces n falls
-zero_places n falls tails heads = record { tails = ap length tails ∙ length-replicate (n + 1) 0; heads = ap length heads ∙ length-replicate (n + 1) 0 }
+pub zero_places : (n : ℕ) (falls : Falls) → falls.tails.items ≡ replicate (n + 1) 0 →
+    falls.heads.items ≡ replicate (n + 1) 0 → HasPlaces n falls
+zero_places n falls tails heads =
+    record { tails = ap length tails ∙ length-replicate (n + 1) 0; heads = ap length heads ∙ length-replicate (n + 1) 0 }
 
 -- before the search no row has a column
-pub start_seated : (net : Net) (falls : Falls) (placing : Placing) (most : ℕ) → net.nodes ≤ 3000 → most ≡ net.most → most ≤ 10000 → falls.tails.items ≡ replicate (net.nodes + 1) 0 → falls.heads.items ≡ replicate (net.nodes + 1) 0 →
-    placing.to.items ≡ replicate net.nodes 4294967295 → placing.from.items ≡ replicate net.nodes 4294967295 → placing.spare ≡ most → placing.room ≡ 0 → IsSeated net falls placing
+pub start_seated : (net : Net) (falls : Falls) (placing : Placing) (most : ℕ) → net.nodes ≤ 3000 → most ≡ net.most → most ≤ 10000 →
+    falls.tails.items ≡ replicate (net.nodes + 1) 0 → falls.heads.items ≡ replicate (net.nodes + 1) 0 →
+    placing.to.items ≡ replicate net.nodes 4294967295 → placing.from.items ≡ replicate net.nodes 4294967295 → placing.spare ≡ most →
+    placing.room ≡ 0 → IsSeated net falls placing
 start_seated net falls placing most few most_is low tails heads to from spare room = (
   m,
   record {
@@ -79,10 +83,12 @@ start_seated net falls placing most few most_is low tails heads to from spare ro
     tight = record {
       rows = λ t t_in there. absurd (omega arith);
       store = λ u u_in e. absurd (omega arith);
-      stays = λ some. (let t = zero_tail net.nodes falls tails net.nodes in let h = zero_head net.nodes falls heads net.nodes in omega (arith, ints));
+      stays = λ some. (let t = zero_tail net.nodes falls tails net.nodes in let h =
+          zero_head net.nodes falls heads net.nodes in omega (arith, ints));
     };
     places = zero_places net.nodes falls tails heads;
-    feasible = λ x v c x_in v_in e. (let t = zero_tail net.nodes falls tails x in let h = zero_head net.nodes falls heads v in omega (arith, ints));
+    feasible = λ x v c x_in v_in e. (let t = zero_tail net.nodes falls tails x in let h =
+        zero_head net.nodes falls heads v in omega (arith, ints));
     few = omega arith;
   },
 )
@@ -91,7 +97,8 @@ start_seated net falls placing most few most_is low tails heads to from spare ro
     m = record { to = λ t. 4294967295; from = λ u. 4294967295; spare = net.most; room = 0 }
 
 -- each row's column comes after it, or is the end
-pub columns_rise : (net : Net) → IsRising net → (falls : Falls) (placing : Placing) → IsSeated net falls placing → AllPlaced net.nodes placing → (t : ℕ) → t < net.nodes → t < get_or placing.to.items t 0
+pub columns_rise : (net : Net) → IsRising net → (falls : Falls) (placing : Placing) → IsSeated net falls placing →
+    AllPlaced net.nodes placing → (t : ℕ) → t < net.nodes → t < get_or placing.to.items t 0
 columns_rise net rising falls placing seated placed t t_in =
     let there = placed t t_in in
     let plain = seat_plain net falls placing seated.0 seated.1 in
@@ -102,17 +109,22 @@ columns_rise net rising falls placing seated placed t t_in =
     ]
 
 -- the paths that follow the matching
-pub covers_first : (net : Net) → IsRising net → (falls : Falls) (placing : Placing) (lists : List (List ℕ)) → IsSeated net falls placing → AllPlaced net.nodes placing →
-    ((t : ℕ) → t < net.nodes → IsEarliest net falls placing t) → AllFollow net.nodes (λ t. get_or placing.to.items t 0) lists → first_nodes lists ≡ starts net.nodes (λ u. get_or placing.from.items u 0) net.nodes →
+pub covers_first : (net : Net) → IsRising net → (falls : Falls) (placing : Placing) (lists : List (List ℕ)) → IsSeated net falls placing →
+    AllPlaced net.nodes placing →
+    ((t : ℕ) → t < net.nodes → IsEarliest net falls placing t) → AllFollow net.nodes (λ t. get_or placing.to.items t 0) lists →
+    first_nodes lists ≡ starts net.nodes (λ u. get_or placing.from.items u 0) net.nodes →
     IsFirstLeastCover net lists
 covers_first net rising falls placing lists seated placed earliest follow firsts =
     let plain = seat_plain net falls placing seated.0 seated.1 in
-    let full = all_held net.nodes net.most (λ t. get_or placing.to.items t 0) (λ u. get_or placing.from.items u 0) placing.spare placing.room plain.0 placed in
-    (matching_is_first net rising (potentials_of falls) (λ t. get_or placing.to.items t 0) (λ u. get_or placing.from.items u 0) placing.spare placing.room seated.1.feasible plain.0 plain.1 full lists follow firsts).1
+    let full = all_held net.nodes net.most (λ t. get_or placing.to.items t 0) (λ u. get_or placing.from.items u 0) placing.spare
+    placing.room plain.0 placed in
+    (matching_is_first net rising (potentials_of falls) (λ t. get_or placing.to.items t 0) (λ u. get_or placing.from.items u 0)
+    placing.spare placing.room seated.1.feasible plain.0 plain.1 full lists follow firsts).1
     (λ others cover slack t t_in agree. earliest t t_in others cover slack agree)
 
 -- the search's own potentials are numbers of the matching
-pub floor_of : (net : Net) (falls : Falls) (placing : Placing) → IsSeated net falls placing → AreLow falls 5000000000000000 → IsFloored net placing
+pub floor_of : (net : Net) (falls : Falls) (placing : Placing) → IsSeated net falls placing →
+    AreLow falls 5000000000000000 → IsFloored net placing
 floor_of net falls placing seated low = (
   potentials_of falls,
   record {
@@ -134,7 +146,8 @@ floor_of net falls placing seated low = (
     above k low = omega (arith, ints)
 
 -- at 0 numbers are as high as any
-pub zero_high : (net : Net) (placing : Placing) (numbers : Falls) → numbers.tails.items ≡ replicate (net.nodes + 1) 0 → numbers.heads.items ≡ replicate (net.nodes + 1) 0 → AreHigh net placing numbers
+pub zero_high : (net : Net) (placing : Placing) (numbers : Falls) → numbers.tails.items ≡ replicate (net.nodes + 1) 0 →
+    numbers.heads.items ≡ replicate (net.nodes + 1) 0 → AreHigh net placing numbers
 zero_high net placing numbers tails heads q is x x_in =
     let t = zero_tail net.nodes numbers tails x in
     let h = zero_head net.nodes numbers heads x in
@@ -143,16 +156,20 @@ zero_high net placing numbers tails heads q is x x_in =
     (omega (arith, ints), omega (arith, ints))
 
 -- potentials that meet complementary slackness with the paths are numbers of the matching
-slack_tight : (net : Net) → IsRising net → (p q : Potentials) (to from : ℕ → ℕ) (spare room : ℕ) → IsHeld net.nodes net.most to from spare room → (lists : List (List ℕ)) → AreCoverOf net p to lists →
-    AllFollow net.nodes to lists → first_nodes lists ≡ starts net.nodes from net.nodes → IsSlack net q lists → IsTightMatching net q to from spare
+slack_tight : (net : Net) → IsRising net → (p q : Potentials) (to from : ℕ → ℕ) (spare room : ℕ) →
+    IsHeld net.nodes net.most to from spare room → (lists : List (List ℕ)) → AreCoverOf net p to lists →
+    AllFollow net.nodes to lists → first_nodes lists ≡ starts net.nodes from net.nodes → IsSlack net q lists →
+    IsTightMatching net q to from spare
 slack_tight net rising p q to from spare room held lists cover follow firsts slack = record {
-  rows = λ t t_in there. subst (λ (w : ℕ). IsTightArc net q t w) (cover.successors t t_in) (members_hold net rising (IsTightArc net q) lists cover.cover.worths arcs t (cover_member net lists cover.cover t t_in));
+  rows = λ t t_in there. subst (λ (w : ℕ). IsTightArc net q t w) (cover.successors t t_in)
+      (members_hold net rising (IsTightArc net q) lists cover.cover.worths arcs t (cover_member net lists cover.cover t t_in));
   store = λ u u_in from_store.
       let one_start = times_starts-in net.nodes from net.nodes u u_in from_store in
       let counted : times u (first_nodes lists) ≡ 1 = ap (times u) firsts ∙ one_start in
       firsts_hold net rising (IsTightArc net q) lists cover.cover.worths arcs u (omega arith);
   stays = λ some.
-      let count : length lists ≡ length (starts net.nodes from net.nodes) = sym (follow_count net.nodes to lists follow) ∙ ap length firsts in
+      let count : length lists ≡ length (starts net.nodes from net.nodes) =
+      sym (follow_count net.nodes to lists follow) ∙ ap length firsts in
       let number = starts_length net.nodes from net.nodes in
       let store = held.starts in
       slack.stays (omega (arith, ints));
@@ -162,8 +179,10 @@ slack_tight net rising p q to from spare room held lists cover follow firsts sla
     arcs = lists_tight_arcs net q lists cover.cover.worths slack.paths
 
 -- the greatest numbers of the matching are the greatest potentials of its cover
-pub covers_greatest : (net : Net) → IsRising net → (falls numbers : Falls) (placing : Placing) (lists : List (List ℕ)) → IsSeated net falls placing → AllPlaced net.nodes placing →
-    AllFollow net.nodes (λ t. get_or placing.to.items t 0) lists → first_nodes lists ≡ starts net.nodes (λ u. get_or placing.from.items u 0) net.nodes →
+pub covers_greatest : (net : Net) → IsRising net → (falls numbers : Falls) (placing : Placing) (lists : List (List ℕ)) →
+    IsSeated net falls placing → AllPlaced net.nodes placing →
+    AllFollow net.nodes (λ t. get_or placing.to.items t 0) lists →
+    first_nodes lists ≡ starts net.nodes (λ u. get_or placing.from.items u 0) net.nodes →
     AreHigh net placing numbers → AreNumbersOf net placing (potentials_of numbers) → AreGreatest net lists (potentials_of numbers)
 covers_greatest net rising falls numbers placing lists seated placed follow firsts high is =
     let to : ℕ → ℕ = λ t. get_or placing.to.items t 0 in
@@ -171,12 +190,14 @@ covers_greatest net rising falls numbers placing lists seated placed follow firs
     let plain = seat_plain net falls placing seated.0 seated.1 in
     let full = all_held net.nodes net.most to from placing.spare placing.room plain.0 placed in
     let cover : AreCoverOf net (potentials_of numbers) to lists =
-    (matching_is_first net rising (potentials_of numbers) to from placing.spare placing.room is.feasible plain.0 is.tight full lists follow firsts).0 in
+    (matching_is_first net rising (potentials_of numbers) to from placing.spare placing.room is.feasible plain.0 is.tight
+    full lists follow firsts).0 in
     let numbers_of : (q : Potentials) → AreNumbers net lists q → AreNumbersOf net placing q = λ q them. record {
       tails = them.tails;
       heads = them.heads;
       feasible = them.feasible;
-      tight = slack_tight net rising (potentials_of numbers) q to from placing.spare placing.room plain.0 lists cover follow firsts them.slack;
+      tight = slack_tight net rising (potentials_of numbers) q to from placing.spare placing.room plain.0 lists
+          cover follow firsts them.slack;
     } in
     record {
       numbers = record { tails = is.tails; heads = is.heads; feasible = is.feasible; slack = cover.slack };
@@ -185,11 +206,17 @@ covers_greatest net rising falls numbers placing lists seated placed follow firs
     }
 
 -- paths that follow the columns of a list follow those of an equal one
-pub follow_plain : (net : Net) (n : ℕ) (slice to : List ℕ) (lists : List (List ℕ)) → n ≡ net.nodes → slice ≡ to → AllFollow n (λ t. get_or slice t 0) lists → AllFollow net.nodes (λ t. get_or to t 0) lists
-follow_plain net n slice to lists n_is is follow = subst (λ (l : List ℕ). AllFollow net.nodes (λ t. get_or l t 0) lists) is (subst (λ (k : ℕ). AllFollow k (λ t. get_or slice t 0) lists) n_is follow)
+pub follow_plain : (net : Net) (n : ℕ) (slice to : List ℕ) (lists : List (List ℕ)) → n ≡ net.nodes → slice ≡ to →
+    AllFollow n (λ t. get_or slice t 0) lists → AllFollow net.nodes (λ t. get_or to t 0) lists
+follow_plain net n slice to lists n_is is follow =
+    subst (λ (l : List ℕ). AllFollow net.nodes (λ t. get_or l t 0) lists) is
+    (subst (λ (k : ℕ). AllFollow k (λ t. get_or slice t 0) lists) n_is follow)
 
-pub firsts_plain : (net : Net) (n : ℕ) (slice from : List ℕ) (lists : List (List ℕ)) → n ≡ net.nodes → slice ≡ from → first_nodes lists ≡ starts n (λ u. get_or slice u 0) n → first_nodes lists ≡ starts net.nodes (λ u. get_or from u 0) net.nodes
-firsts_plain net n slice from lists n_is is firsts = subst (λ (l : List ℕ). first_nodes lists ≡ starts net.nodes (λ u. get_or l u 0) net.nodes) is (subst (λ (k : ℕ). first_nodes lists ≡ starts k (λ u. get_or slice u 0) k) n_is firsts)
+pub firsts_plain : (net : Net) (n : ℕ) (slice from : List ℕ) (lists : List (List ℕ)) → n ≡ net.nodes → slice ≡ from →
+    first_nodes lists ≡ starts n (λ u. get_or slice u 0) n → first_nodes lists ≡ starts net.nodes (λ u. get_or from u 0) net.nodes
+firsts_plain net n slice from lists n_is is firsts =
+    subst (λ (l : List ℕ). first_nodes lists ≡ starts net.nodes (λ u. get_or l u 0) net.nodes) is
+    (subst (λ (k : ℕ). first_nodes lists ≡ starts k (λ u. get_or slice u 0) k) n_is firsts)
 
 depth_of : (k most : ℕ) (z : ℤ) → z ≡ pos 0 -ℤ pos k → depth z ≤ most → k ≤ most
 depth_of k most (pos a) e low = omega (arith, ints)
@@ -199,7 +226,8 @@ double_few : (n dear : ℕ) → (n + 2) * dear ≤ 750000000000 → (2 * n + 3) 
 double_few n dear few = omega arith
 
 -- the greatest potentials are not far below 0
-pub covers_low : (net : Net) → IsRising net → IsCheap net → (numbers : Falls) (lists : List (List ℕ)) → HasPlaces net.nodes numbers → IsCover net lists → AreGreatest net lists (potentials_of numbers) → AreLow numbers 1500000000000
+pub covers_low : (net : Net) → IsRising net → IsCheap net → (numbers : Falls) (lists : List (List ℕ)) → HasPlaces net.nodes numbers →
+    IsCover net lists → AreGreatest net lists (potentials_of numbers) → AreLow numbers 1500000000000
 covers_low net rising cheap numbers lists places cover greatest i = elim (cases_lt net.nodes i) [
   | inl past ↦
       let tails = places.tails in

@@ -1,4 +1,5 @@
--- The greatest potentials are not far below 0: where no number lies in a band of an arc's width, all numbers below the band could be raised.
+-- The greatest potentials are not far below 0: where no number lies in a band of an arc's width, all numbers below the band could be
+-- raised.
 use Rattle.std.proofs.Common.{◌≡◌, ◌⊎◌, ◌==◌, ℕ, ℤ, pos, negsuc, ◌+ℤ◌, ◌-ℤ◌, ◌*ℤ◌, ◌≤ℤ◌, ◌+◌, ◌*◌, ◌<◌, ◌≤◌, Bool, true, false, cond, nat_le, zero, suc, List, [], ◌∷◌, Some, inl, inr, refl, sym, ap, subst, arith}
 use Rattle.std.proofs.lemmas.Int.{ints}
 use Rattle.std.proofs.lemmas.Bool.{cases_lt}
@@ -33,14 +34,17 @@ raised_low level z low = elim (cases_lt level (depth z)) [
 ]
 
 -- two numbers of an arc
-raised_arc : (level dear c : ℕ) (h t : ℤ) → c ≤ dear → h ≤ℤ pos 0 → t ≤ℤ pos 0 → NotInBand level dear h → NotInBand level dear t → (h -ℤ t) ≤ℤ pos c → (raised level h -ℤ raised level t) ≤ℤ pos c
+raised_arc : (level dear c : ℕ) (h t : ℤ) → c ≤ dear → h ≤ℤ pos 0 → t ≤ℤ pos 0 → NotInBand level dear h → NotInBand level dear t →
+    (h -ℤ t) ≤ℤ pos c → (raised level h -ℤ raised level t) ≤ℤ pos c
 raised_arc level dear c h t cheap low low' band band' fits = elim (cases_lt level (depth h)) [
   | inl below ↦
       let test : nat_le (depth h) level ≡ false = grind (arith, nat_tests) in
-      let deep : level + dear < depth h = elim (cases_lt (level + dear) (depth h)) [ inl far ↦ far | inr near ↦ absurd (let bad = band near in omega arith) ] in
+      let deep : level + dear < depth h =
+      elim (cases_lt (level + dear) (depth h)) [ inl far ↦ far | inr near ↦ absurd (let bad = band near in omega arith) ] in
       elim (cases_lt level (depth t)) [
         | inl below' ↦ let test' : nat_le (depth t) level ≡ false = grind (arith, nat_tests) in rw (test, test') (omega (arith, ints))
-        | inr above' ↦ let test' : nat_le (depth t) level ≡ true = grind (arith, nat_tests) in rw (test, test') (omega (arith, ints, depth_is h low, depth_is t low'))
+        | inr above' ↦ let test' : nat_le (depth t) level ≡ true = grind (arith, nat_tests) in
+            rw (test, test') (omega (arith, ints, depth_is h low, depth_is t low'))
       ]
   | inr above ↦
       let test : nat_le (depth h) level ≡ true = grind (arith, nat_tests) in
@@ -50,11 +54,13 @@ raised_arc level dear c h t cheap low low' band band' fits = elim (cases_lt leve
       ]
 ]
 
-raised_tight : (level dear c : ℕ) (h t : ℤ) → c ≤ dear → h ≤ℤ pos 0 → t ≤ℤ pos 0 → NotInBand level dear h → NotInBand level dear t → h -ℤ t ≡ pos c → raised level h -ℤ raised level t ≡ pos c
+raised_tight : (level dear c : ℕ) (h t : ℤ) → c ≤ dear → h ≤ℤ pos 0 → t ≤ℤ pos 0 → NotInBand level dear h → NotInBand level dear t →
+    h -ℤ t ≡ pos c → raised level h -ℤ raised level t ≡ pos c
 raised_tight level dear c h t cheap low low' band band' equal = elim (cases_lt level (depth h)) [
   | inl below ↦
       let test : nat_le (depth h) level ≡ false = grind (arith, nat_tests) in
-      let deep : level + dear < depth h = elim (cases_lt (level + dear) (depth h)) [ inl far ↦ far | inr near ↦ absurd (let bad = band near in omega arith) ] in
+      let deep : level + dear < depth h =
+      elim (cases_lt (level + dear) (depth h)) [ inl far ↦ far | inr near ↦ absurd (let bad = band near in omega arith) ] in
       elim (cases_lt level (depth t)) [
         | inl below' ↦ let test' : nat_le (depth t) level ≡ false = grind (arith, nat_tests) in rw (test, test') (omega (arith, ints))
         | inr above' ↦ absurd (omega (arith, ints, depth_is h low, depth_is t low'))
@@ -63,7 +69,8 @@ raised_tight level dear c h t cheap low low' band band' equal = elim (cases_lt l
       let test : nat_le (depth h) level ≡ true = grind (arith, nat_tests) in
       elim (cases_lt level (depth t)) [
         | inl below' ↦
-            let deep' : level + dear < depth t = elim (cases_lt (level + dear) (depth t)) [ inl far ↦ far | inr near ↦ absurd (let bad = band' near in omega arith) ] in
+            let deep' : level + dear < depth t =
+            elim (cases_lt (level + dear) (depth t)) [ inl far ↦ far | inr near ↦ absurd (let bad = band' near in omega arith) ] in
             absurd (omega (arith, ints, depth_is h low, depth_is t low'))
         | inr above' ↦ let test' : nat_le (depth t) level ≡ true = grind (arith, nat_tests) in rw (test, test') equal
       ]
@@ -71,34 +78,43 @@ raised_tight level dear c h t cheap low low' band band' equal = elim (cases_lt l
 
 -- tight arcs of paths stay tight where each arc of the network does
 abbrev StaysTight : Net → Potentials → Potentials → Type 0
-StaysTight net p q = (x v c : ℕ) → x ≤ net.nodes → v ≤ net.nodes → net.arc x v ≡ Some c → p.head v -ℤ p.tail x ≡ pos c → q.head v -ℤ q.tail x ≡ pos c
+StaysTight net p q = (x v c : ℕ) → x ≤ net.nodes → v ≤ net.nodes → net.arc x v ≡ Some c → p.head v -ℤ p.tail x ≡ pos c →
+    q.head v -ℤ q.tail x ≡ pos c
 
-rest_stays : (net : Net) (p q : Potentials) → StaysTight net p q → (t : ℕ) (ts : List ℕ) → t < net.nodes → AllBelow net.nodes ts → IsTightFrom net p t ts → IsTightFrom net q t ts
+rest_stays : (net : Net) (p q : Potentials) → StaysTight net p q → (t : ℕ) (ts : List ℕ) → t < net.nodes → AllBelow net.nodes ts →
+    IsTightFrom net p t ts → IsTightFrom net q t ts
 rest_stays net p q stays t [] within below tight = λ c e. stays t net.nodes c (omega arith) (omega arith) e (tight c e)
 rest_stays net p q stays t (u ∷ us) within below tight =
     let within' : u < net.nodes = below.0 in
     ((λ c e. stays t u c (omega arith) (omega arith) e (tight.0 c e)), rest_stays net p q stays u us within' below.1 tight.1)
 
-lists_stay : (net : Net) → IsRising net → (p q : Potentials) → StaysTight net p q → (lists : List (List ℕ)) → AreColumns (paths net) (columns_of net lists) → AreTightPaths net p lists → AreTightPaths net q lists
+lists_stay : (net : Net) → IsRising net → (p q : Potentials) → StaysTight net p q → (lists : List (List ℕ)) →
+    AreColumns (paths net) (columns_of net lists) → AreTightPaths net p lists → AreTightPaths net q lists
 lists_stay net rising p q stays [] are tight = tt
 lists_stay net rising p q stays ([] ∷ lists) are tight = (tt, lists_stay net rising p q stays lists are.1 tight.1)
 lists_stay net rising p q stays ((t ∷ ts) ∷ lists) are tight =
     let below = (paths_listed net rising 0 (t ∷ ts) (path_column net (t ∷ ts)).worth are.0.1).2 in
-    let within : t < net.nodes = below.0 in
-    (((λ c e. stays net.nodes t c (omega arith) (omega arith) e (tight.0.0 c e)), rest_stays net p q stays t ts within below.1 tight.0.1), lists_stay net rising p q stays lists are.1 tight.1)
+    let within : t < net.nodes = below.0 in (
+      ((λ c e. stays net.nodes t c (omega arith) (omega arith) e (tight.0.0 c e)), rest_stays net p q stays t ts within below.1 tight.0.1),
+      lists_stay net rising p q stays lists are.1 tight.1,
+    )
 
 -- where no number lies in a band, none lies below it
-no_band : (net : Net) → IsRising net → (dear : ℕ) → IsDear net dear → (lists : List (List ℕ)) → IsCover net lists → (p : Potentials) → AreGreatest net lists p → (level : ℕ) →
+no_band : (net : Net) → IsRising net → (dear : ℕ) → IsDear net dear → (lists : List (List ℕ)) → IsCover net lists → (p : Potentials) →
+    AreGreatest net lists p → (level : ℕ) →
     ((x : ℕ) → x ≤ net.nodes → NotInBand level dear (p.tail x)) → ((v : ℕ) → v ≤ net.nodes → NotInBand level dear (p.head v)) →
     (x : ℕ) → x ≤ net.nodes → (depth (p.tail x) ≤ level) × (depth (p.head x) ≤ level)
 no_band net rising dear cheap lists cover p greatest level tails heads x within =
     let q : Potentials = record { tail = λ x. raised level (p.tail x); head = λ v. raised level (p.head v) } in
     let numbers = greatest.numbers in
-    let stays : StaysTight net p q = λ x v c x_in v_in e equal. raised_tight level dear c (p.head v) (p.tail x) (cheap x v c x_in v_in e) (numbers.heads v v_in) (numbers.tails x x_in) (heads v v_in) (tails x x_in) equal in
+    let stays : StaysTight net p q =
+    λ x v c x_in v_in e equal. raised_tight level dear c (p.head v) (p.tail x) (cheap x v c x_in v_in e) (numbers.heads v v_in)
+    (numbers.tails x x_in) (heads v v_in) (tails x x_in) equal in
     let are : AreNumbers net lists q = record {
       tails = λ x x_in. raised_low level (p.tail x) (numbers.tails x x_in);
       heads = λ v v_in. raised_low level (p.head v) (numbers.heads v v_in);
-      feasible = λ x v c x_in v_in e. raised_arc level dear c (p.head v) (p.tail x) (cheap x v c x_in v_in e) (numbers.heads v v_in) (numbers.tails x x_in) (heads v v_in) (tails x x_in) (numbers.feasible x v c x_in v_in e);
+      feasible = λ x v c x_in v_in e. raised_arc level dear c (p.head v) (p.tail x) (cheap x v c x_in v_in e) (numbers.heads v v_in)
+          (numbers.tails x x_in) (heads v v_in) (tails x x_in) (numbers.feasible x v c x_in v_in e);
       slack = record {
         paths = lists_stay net rising p q stays lists cover.worths numbers.slack.paths;
         stays = λ fewer. ap (raised level) (numbers.slack.stays fewer);
@@ -108,7 +124,8 @@ no_band net rising dear cheap lists cover p greatest level tails heads x within 
   where
     not_raised : (z : ℤ) → raised level z ≤ℤ z → depth z ≤ level
     not_raised z high = elim (cases_lt level (depth z)) [
-      | inl below ↦ let test : nat_le (depth z) level ≡ false = grind (arith, nat_tests) in let moved = rw test at high in absurd (omega (arith, ints))
+      | inl below ↦ let test : nat_le (depth z) level ≡ false = grind (arith, nat_tests) in let moved = rw test at high in
+          absurd (omega (arith, ints))
       | inr above ↦ above
     ]
 
@@ -133,16 +150,19 @@ one_more a b m more = elim (cases_lt b m) [
     one_most false = omega (arith, ints)
 
 -- where there are no more, none lies in the band
-same_above : (level dear : ℕ) (f : ℕ → ℤ) (n : ℕ) → above_in (level + dear) f n ≤ℤ above_in level f n → (x : ℕ) → x < n → NotInBand level dear (f x)
+same_above : (level dear : ℕ) (f : ℕ → ℤ) (n : ℕ) → above_in (level + dear) f n ≤ℤ above_in level f n → (x : ℕ) →
+    x < n → NotInBand level dear (f x)
 same_above level dear f n same x within near = elim (cases_lt level (depth (f x))) [
   | inr above ↦ above
   | inl below ↦ absurd (
       let less : (above_in level f n +ℤ pos 1) ≤ℤ above_in (level + dear) f n =
-      sum_first-less (λ y. one (nat_le (depth (f y)) level)) (λ y. one (nat_le (depth (f y)) (level + dear))) x n within (λ i i_in. go i (i == x) refl below near) in
+      sum_first-less (λ y. one (nat_le (depth (f y)) level)) (λ y. one (nat_le (depth (f y)) (level + dear))) x n within
+      (λ i i_in. go i (i == x) refl below near) in
       omega (arith, ints))
 ]
   where
-    go : (i : ℕ) (b : Bool) → (i == x) ≡ b → level < depth (f x) → depth (f x) ≤ level + dear → (one (nat_le (depth (f i)) level) +ℤ (pos (cond (i == x) 1 0) *ℤ pos 1)) ≤ℤ one (nat_le (depth (f i)) (level + dear))
+    go : (i : ℕ) (b : Bool) → (i == x) ≡ b → level < depth (f x) → depth (f x) ≤ level + dear →
+        (one (nat_le (depth (f i)) level) +ℤ (pos (cond (i == x) 1 0) *ℤ pos 1)) ≤ℤ one (nat_le (depth (f i)) (level + dear))
     go i true e below near =
         let same_place : i ≡ x = grind (arith, nat_tests) in
         let P : ℕ → Type 0 = λ j. (one (nat_le (depth (f j)) level) +ℤ (pos 1 *ℤ pos 1)) ≤ℤ one (nat_le (depth (f j)) (level + dear)) in
@@ -172,7 +192,8 @@ above_high level f (suc n) = let rest = above_high level f n in let last = go (n
     go false = omega (arith, ints)
 
 -- after k bands there are k numbers, or all
-levels : (net : Net) → IsRising net → (dear : ℕ) → IsDear net dear → (lists : List (List ℕ)) → IsCover net lists → (p : Potentials) → AreGreatest net lists p → (k : ℕ) →
+levels : (net : Net) → IsRising net → (dear : ℕ) → IsDear net dear → (lists : List (List ℕ)) → IsCover net lists → (p : Potentials) →
+    AreGreatest net lists p → (k : ℕ) →
     (pos k ≤ℤ above_of (k * dear) net p) ⊎ AreAbove net p (k * dear)
 levels net rising dear cheap lists cover p greatest zero =
     inl (omega (arith, ints, above_low (0 * dear) p.tail (suc net.nodes), above_low (0 * dear) p.head (suc net.nodes)))
@@ -187,18 +208,21 @@ levels net rising dear cheap lists cover p greatest (suc k) = elim (levels net r
     band : suc k * dear ≡ k * dear + dear
     band = omega arith
 
-    go : (a b : ℤ) → above_of (k * dear) net p ≡ a → above_of (suc k * dear) net p ≡ b → pos k ≤ℤ a → (pos (suc k) ≤ℤ above_of (suc k * dear) net p) ⊎ AreAbove net p (suc k * dear)
+    go : (a b : ℤ) → above_of (k * dear) net p ≡ a → above_of (suc k * dear) net p ≡ b → pos k ≤ℤ a →
+        (pos (suc k) ≤ℤ above_of (suc k * dear) net p) ⊎ AreAbove net p (suc k * dear)
     go a b e e' many = elim (int_cases b a) [
       | inr more ↦ inl (omega (arith, ints))
       | inl no_more ↦
           let P : ℕ → Type 0 = λ level. above_of level net p ≤ℤ above_of (k * dear) net p in
-          let wide : above_of (suc k * dear) net p ≤ℤ above_of (k * dear) net p = subst (λ (z : ℤ). z ≤ℤ above_of (k * dear) net p) (sym e') (subst (λ (z : ℤ). b ≤ℤ z) (sym e) no_more) in
+          let wide : above_of (suc k * dear) net p ≤ℤ above_of (k * dear) net p =
+          subst (λ (z : ℤ). z ≤ℤ above_of (k * dear) net p) (sym e') (subst (λ (z : ℤ). b ≤ℤ z) (sym e) no_more) in
           let same : above_of (k * dear + dear) net p ≤ℤ above_of (k * dear) net p = subst P band wide in
           let tails_more = above_more (k * dear) dear p.tail (suc net.nodes) in
           let heads_more = above_more (k * dear) dear p.head (suc net.nodes) in
           let tails = same_above (k * dear) dear p.tail (suc net.nodes) (omega (arith, ints)) in
           let heads = same_above (k * dear) dear p.head (suc net.nodes) (omega (arith, ints)) in
-          let all = no_band net rising dear cheap lists cover p greatest (k * dear) (λ x within. tails x (omega arith)) (λ x within. heads x (omega arith)) in
+          let all = no_band net rising dear cheap lists cover p greatest (k * dear) (λ x within. tails x (omega arith))
+          (λ x within. heads x (omega arith)) in
           inr (λ x within. let at = all x within in let more : k * dear ≤ suc k * dear = next in (omega arith, omega arith))
     ]
       where
@@ -206,12 +230,20 @@ levels net rising dear cheap lists cover p greatest (suc k) = elim (levels net r
         int_cases (pos m) (pos n) = elim (cases_lt n m) [ inl below ↦ inr (omega (arith, ints)) | inr above ↦ inl (omega (arith, ints)) ]
         int_cases (pos m) (negsuc n) = inr (omega (arith, ints))
         int_cases (negsuc m) (pos n) = inl (omega (arith, ints))
-        int_cases (negsuc m) (negsuc n) = elim (cases_lt m n) [ inl below ↦ inr (omega (arith, ints)) | inr above ↦ inl (omega (arith, ints)) ]
+        int_cases (negsuc m) (negsuc n) =
+            elim (cases_lt m n) [ inl below ↦ inr (omega (arith, ints)) | inr above ↦ inl (omega (arith, ints)) ]
 
 -- no greatest number is below -(2 n + 2) times the greatest cost of an arc
-pub greatest_high : (net : Net) → IsRising net → (dear : ℕ) → IsDear net dear → (lists : List (List ℕ)) → IsCover net lists → (p : Potentials) → AreGreatest net lists p →
+pub greatest_high : (net : Net) → IsRising net → (dear : ℕ) → IsDear net dear → (lists : List (List ℕ)) → IsCover net lists →
+    (p : Potentials) → AreGreatest net lists p →
     AreAbove net p ((2 * net.nodes + 3) * dear)
-greatest_high net rising dear cheap lists cover p greatest = elim (levels net rising dear cheap lists cover p greatest (2 * net.nodes + 3)) [
-  | inr all ↦ all
-  | inl many ↦ absurd (omega (arith, ints, above_high ((2 * net.nodes + 3) * dear) p.tail (suc net.nodes), above_high ((2 * net.nodes + 3) * dear) p.head (suc net.nodes)))
-]
+greatest_high net rising dear cheap lists cover p greatest =
+    elim (levels net rising dear cheap lists cover p greatest (2 * net.nodes + 3)) [
+      | inr all ↦ all
+      | inl many ↦ absurd (omega (
+        arith,
+        ints,
+        above_high ((2 * net.nodes + 3) * dear) p.tail (suc net.nodes),
+        above_high ((2 * net.nodes + 3) * dear) p.head (suc net.nodes),
+      ))
+    ]

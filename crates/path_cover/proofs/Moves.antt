@@ -39,7 +39,8 @@ count_past i w k f (suc n) past =
     omega (arith, ints)
 
 -- how many have a value, after one change
-pub count_put : (i w k : ℕ) (f : ℕ → ℕ) (n : ℕ) → i < n → sum_first (λ t. one (put i w f t == k)) n +ℤ one (f i == k) ≡ sum_first (λ t. one (f t == k)) n +ℤ one (w == k)
+pub count_put : (i w k : ℕ) (f : ℕ → ℕ) (n : ℕ) → i < n →
+    sum_first (λ t. one (put i w f t == k)) n +ℤ one (f i == k) ≡ sum_first (λ t. one (f t == k)) n +ℤ one (w == k)
 count_put i w k f zero within = absurd (omega arith)
 count_put i w k f (suc n) within = elim (cases_lt i n) [
   | inl below ↦
@@ -57,10 +58,12 @@ count_put i w k f (suc n) within = elim (cases_lt i n) [
 ]
 
 pub held_but : (n most : ℕ) (to from : ℕ → ℕ) (spare room : ℕ) → IsHeld n most to from spare room → IsHeldBut n most to from spare room 0
-held_but n most to from spare room is = let starts = is.starts in record { matched = is.matched; ends = is.ends; starts = omega (arith, ints) }
+held_but n most to from spare room is =
+    let starts = is.starts in record { matched = is.matched; ends = is.ends; starts = omega (arith, ints) }
 
 pub but_held : (n most : ℕ) (to from : ℕ → ℕ) (spare room : ℕ) → IsHeldBut n most to from spare room 0 → IsHeld n most to from spare room
-but_held n most to from spare room is = let starts = is.starts in record { matched = is.matched; ends = is.ends; starts = omega (arith, ints) }
+but_held n most to from spare room is =
+    let starts = is.starts in record { matched = is.matched; ends = is.ends; starts = omega (arith, ints) }
 
 pub same_or_not : (a b : ℕ) → (a ≡ b) ⊎ (a ≢ b)
 same_or_not a b = go (a == b) refl
@@ -70,7 +73,8 @@ same_or_not a b = go (a == b) refl
     go false e = inr (λ is. absurd (let bad : (a == b) ≡ true = grind (arith, nat_tests) in let two : true ≡ false = sym bad ∙ e in cc))
 
 -- a trip off a trip
-pub take_row : (n most : ℕ) (to from : ℕ → ℕ) (spare room hand free x v : ℕ) → IsHeldBut n most to from spare room hand → n < free → x < n → v < n → to x ≡ v →
+pub take_row : (n most : ℕ) (to from : ℕ → ℕ) (spare room hand free x v : ℕ) → IsHeldBut n most to from spare room hand →
+    n < free → x < n → v < n → to x ≡ v →
     IsHeldBut n most (put x free to) (put v free from) spare room hand
 take_row n most to from spare room hand free x v is outside x_in v_in at =
     let back_at : from v ≡ x = is.matched.onto x v x_in v_in at in
@@ -92,30 +96,37 @@ take_row n most to from spare room hand free x v is outside x_in v_in at =
   where
     onto : from v ≡ x → (t u : ℕ) → t < n → u < n → put x free to t ≡ u → put v free from u ≡ t
     onto back_at t u t_in u_in e = elim (same_or_not t x) [
-      | inl same ↦ absurd (let P : ℕ → Type 0 = λ y. put x free to y ≡ u in let bad : free ≡ u = sym (put_same x free to) ∙ subst P same e in omega arith)
+      | inl same ↦ absurd (let P : ℕ → Type 0 = λ y. put x free to y ≡ u in let bad : free ≡ u =
+          sym (put_same x free to) ∙ subst P same e in omega arith)
       | inr apart ↦
           let goes : to t ≡ u = sym (put_other x free to t apart) ∙ e in
           let comes : from u ≡ t = is.matched.onto t u t_in u_in goes in
-          put_other v free from u (λ same. absurd (apart (let P : ℕ → Type 0 = λ y. from y ≡ t in let q : from v ≡ t = subst P same comes in sym q ∙ back_at))) ∙ comes
+          put_other v free from u
+          (λ same. absurd (apart (let P : ℕ → Type 0 = λ y. from y ≡ t in let q : from v ≡ t = subst P same comes in sym q ∙ back_at)))
+          ∙ comes
     ]
 
     back : from v ≡ x → (t u : ℕ) → t < n → u < n → put v free from u ≡ t → put x free to t ≡ u
     back back_at t u t_in u_in e = elim (same_or_not u v) [
-      | inl same ↦ absurd (let P : ℕ → Type 0 = λ y. put v free from y ≡ t in let bad : free ≡ t = sym (put_same v free from) ∙ subst P same e in omega arith)
+      | inl same ↦ absurd (let P : ℕ → Type 0 = λ y. put v free from y ≡ t in let bad : free ≡ t =
+          sym (put_same v free from) ∙ subst P same e in omega arith)
       | inr apart ↦
           let comes : from u ≡ t = sym (put_other v free from u apart) ∙ e in
           let goes : to t ≡ u = is.matched.back t u t_in u_in comes in
-          put_other x free to t (λ same. absurd (apart (let P : ℕ → Type 0 = λ y. to y ≡ u in let q : to x ≡ u = subst P same goes in sym q ∙ at))) ∙ goes
+          put_other x free to t (λ same.
+          absurd (apart (let P : ℕ → Type 0 = λ y. to y ≡ u in let q : to x ≡ u = subst P same goes in sym q ∙ at))) ∙ goes
     ]
 
 -- the store off a trip
-pub take_start : (n most : ℕ) (to from : ℕ → ℕ) (spare room hand free v : ℕ) → IsHeldBut n most to from spare room hand → n < free → v < n → from v ≡ n →
+pub take_start : (n most : ℕ) (to from : ℕ → ℕ) (spare room hand free v : ℕ) → IsHeldBut n most to from spare room hand →
+    n < free → v < n → from v ≡ n →
     IsHeldBut n most to (put v free from) spare room (suc hand)
 take_start n most to from spare room hand free v is outside v_in at = record {
   matched = record {
     onto = λ t u t_in u_in goes.
         let comes : from u ≡ t = is.matched.onto t u t_in u_in goes in
-        put_other v free from u (λ same. absurd (let P : ℕ → Type 0 = λ y. from y ≡ t in let q : from v ≡ t = subst P same comes in omega arith)) ∙ comes;
+        put_other v free from u
+        (λ same. absurd (let P : ℕ → Type 0 = λ y. from y ≡ t in let q : from v ≡ t = subst P same comes in omega arith)) ∙ comes;
     back = back;
   };
   ends = is.ends;
@@ -129,19 +140,22 @@ take_start n most to from spare room hand free v is outside v_in at = record {
   where
     back : (t u : ℕ) → t < n → u < n → put v free from u ≡ t → to t ≡ u
     back t u t_in u_in e = elim (same_or_not u v) [
-      | inl same ↦ absurd (let P : ℕ → Type 0 = λ y. put v free from y ≡ t in let bad : free ≡ t = sym (put_same v free from) ∙ subst P same e in omega arith)
+      | inl same ↦ absurd (let P : ℕ → Type 0 = λ y. put v free from y ≡ t in let bad : free ≡ t =
+          sym (put_same v free from) ∙ subst P same e in omega arith)
       | inr apart ↦ is.matched.back t u t_in u_in (sym (put_other v free from u apart) ∙ e)
     ]
 
 -- a trip off the end
-pub take_end : (n most : ℕ) (to from : ℕ → ℕ) (spare room hand free x : ℕ) → IsHeldBut n most to from spare room hand → n < free → x < n → to x ≡ n →
+pub take_end : (n most : ℕ) (to from : ℕ → ℕ) (spare room hand free x : ℕ) → IsHeldBut n most to from spare room hand →
+    n < free → x < n → to x ≡ n →
     IsHeldBut n most (put x free to) from spare (suc room) hand
 take_end n most to from spare room hand free x is outside x_in at = record {
   matched = record {
     onto = onto;
     back = λ t u t_in u_in comes.
         let goes : to t ≡ u = is.matched.back t u t_in u_in comes in
-        put_other x free to t (λ same. absurd (let P : ℕ → Type 0 = λ y. to y ≡ u in let q : to x ≡ u = subst P same goes in omega arith)) ∙ goes;
+        put_other x free to t (λ same. absurd (let P : ℕ → Type 0 = λ y. to y ≡ u in let q : to x ≡ u = subst P same goes in omega arith))
+        ∙ goes;
   };
   ends =
       let counted = count_put x free n to n x_in in
@@ -154,16 +168,20 @@ take_end n most to from spare room hand free x is outside x_in at = record {
   where
     onto : (t u : ℕ) → t < n → u < n → put x free to t ≡ u → from u ≡ t
     onto t u t_in u_in e = elim (same_or_not t x) [
-      | inl same ↦ absurd (let P : ℕ → Type 0 = λ y. put x free to y ≡ u in let bad : free ≡ u = sym (put_same x free to) ∙ subst P same e in omega arith)
+      | inl same ↦ absurd (let P : ℕ → Type 0 = λ y. put x free to y ≡ u in let bad : free ≡ u =
+          sym (put_same x free to) ∙ subst P same e in omega arith)
       | inr apart ↦ is.matched.onto t u t_in u_in (sym (put_other x free to t apart) ∙ e)
     ]
 
 -- a vehicle that stays off the end
-pub take_stay : (n most : ℕ) (to from : ℕ → ℕ) (spare room hand : ℕ) → IsHeldBut n most to from (suc spare) room hand → IsHeldBut n most to from spare (suc room) (suc hand)
-take_stay n most to from spare room hand is = let ends = is.ends in let starts = is.starts in record { matched = is.matched; ends = omega (arith, ints); starts = omega (arith, ints) }
+pub take_stay : (n most : ℕ) (to from : ℕ → ℕ) (spare room hand : ℕ) → IsHeldBut n most to from (suc spare) room hand →
+    IsHeldBut n most to from spare (suc room) (suc hand)
+take_stay n most to from spare room hand is = let ends = is.ends in let starts = is.starts in
+    record { matched = is.matched; ends = omega (arith, ints); starts = omega (arith, ints) }
 
 -- a trip onto a trip
-pub put_row : (n most : ℕ) (to from : ℕ → ℕ) (spare room hand x v : ℕ) → IsHeldBut n most to from spare room hand → x < n → v < n → n < to x → n < from v →
+pub put_row : (n most : ℕ) (to from : ℕ → ℕ) (spare room hand x v : ℕ) → IsHeldBut n most to from spare room hand → x < n →
+    v < n → n < to x → n < from v →
     IsHeldBut n most (put x v to) (put v x from) spare room hand
 put_row n most to from spare room hand x v is x_in v_in x_free v_free = record {
   matched = record { onto = onto; back = back };
@@ -191,7 +209,8 @@ put_row n most to from spare room hand x v is x_in v_in x_free v_free = record {
       | inr apart ↦
           let goes : to t ≡ u = sym (put_other x v to t apart) ∙ e in
           let comes : from u ≡ t = is.matched.onto t u t_in u_in goes in
-          put_other v x from u (λ same. absurd (let P : ℕ → Type 0 = λ y. from y ≡ t in let q : from v ≡ t = subst P same comes in omega arith)) ∙ comes
+          put_other v x from u (λ same. absurd (let P : ℕ → Type 0 = λ y. from y ≡ t in let q : from v ≡ t =
+          subst P same comes in omega arith)) ∙ comes
     ]
 
     back : (t u : ℕ) → t < n → u < n → put v x from u ≡ t → put x v to t ≡ u
@@ -204,17 +223,20 @@ put_row n most to from spare room hand x v is x_in v_in x_free v_free = record {
       | inr apart ↦
           let comes : from u ≡ t = sym (put_other v x from u apart) ∙ e in
           let goes : to t ≡ u = is.matched.back t u t_in u_in comes in
-          put_other x v to t (λ same. absurd (let P : ℕ → Type 0 = λ y. to y ≡ u in let q : to x ≡ u = subst P same goes in omega arith)) ∙ goes
+          put_other x v to t (λ same. absurd (let P : ℕ → Type 0 = λ y. to y ≡ u in let q : to x ≡ u = subst P same goes in omega arith))
+          ∙ goes
     ]
 
 -- the store onto a trip
-pub put_start : (n most : ℕ) (to from : ℕ → ℕ) (spare room hand v : ℕ) → IsHeldBut n most to from spare room (suc hand) → v < n → n < from v →
+pub put_start : (n most : ℕ) (to from : ℕ → ℕ) (spare room hand v : ℕ) → IsHeldBut n most to from spare room (suc hand) →
+    v < n → n < from v →
     IsHeldBut n most to (put v n from) spare room hand
 put_start n most to from spare room hand v is v_in v_free = record {
   matched = record {
     onto = λ t u t_in u_in goes.
         let comes : from u ≡ t = is.matched.onto t u t_in u_in goes in
-        put_other v n from u (λ same. absurd (let P : ℕ → Type 0 = λ y. from y ≡ t in let q : from v ≡ t = subst P same comes in omega arith)) ∙ comes;
+        put_other v n from u (λ same. absurd (let P : ℕ → Type 0 = λ y. from y ≡ t in let q : from v ≡ t =
+        subst P same comes in omega arith)) ∙ comes;
     back = back;
   };
   ends = is.ends;
@@ -228,7 +250,8 @@ put_start n most to from spare room hand v is v_in v_free = record {
   where
     back : (t u : ℕ) → t < n → u < n → put v n from u ≡ t → to t ≡ u
     back t u t_in u_in e = elim (same_or_not u v) [
-      | inl same ↦ absurd (let P : ℕ → Type 0 = λ y. put v n from y ≡ t in let bad : n ≡ t = sym (put_same v n from) ∙ subst P same e in omega arith)
+      | inl same ↦ absurd (let P : ℕ → Type 0 = λ y. put v n from y ≡ t in let bad : n ≡ t =
+          sym (put_same v n from) ∙ subst P same e in omega arith)
       | inr apart ↦ is.matched.back t u t_in u_in (sym (put_other v n from u apart) ∙ e)
     ]
 
@@ -240,7 +263,8 @@ put_end n most to from spare room hand x is x_in x_free = record {
     onto = onto;
     back = λ t u t_in u_in comes.
         let goes : to t ≡ u = is.matched.back t u t_in u_in comes in
-        put_other x n to t (λ same. absurd (let P : ℕ → Type 0 = λ y. to y ≡ u in let q : to x ≡ u = subst P same goes in omega arith)) ∙ goes;
+        put_other x n to t (λ same. absurd (let P : ℕ → Type 0 = λ y. to y ≡ u in let q : to x ≡ u = subst P same goes in omega arith))
+        ∙ goes;
   };
   ends =
       let counted = count_put x n n to n x_in in
@@ -253,10 +277,13 @@ put_end n most to from spare room hand x is x_in x_free = record {
   where
     onto : (t u : ℕ) → t < n → u < n → put x n to t ≡ u → from u ≡ t
     onto t u t_in u_in e = elim (same_or_not t x) [
-      | inl same ↦ absurd (let P : ℕ → Type 0 = λ y. put x n to y ≡ u in let bad : n ≡ u = sym (put_same x n to) ∙ subst P same e in omega arith)
+      | inl same ↦ absurd (let P : ℕ → Type 0 = λ y. put x n to y ≡ u in let bad : n ≡ u =
+          sym (put_same x n to) ∙ subst P same e in omega arith)
       | inr apart ↦ is.matched.onto t u t_in u_in (sym (put_other x n to t apart) ∙ e)
     ]
 
 -- a vehicle that stays onto the end
-pub put_stay : (n most : ℕ) (to from : ℕ → ℕ) (spare room hand : ℕ) → IsHeldBut n most to from spare (suc room) (suc hand) → IsHeldBut n most to from (suc spare) room hand
-put_stay n most to from spare room hand is = let ends = is.ends in let starts = is.starts in record { matched = is.matched; ends = omega (arith, ints); starts = omega (arith, ints) }
+pub put_stay : (n most : ℕ) (to from : ℕ → ℕ) (spare room hand : ℕ) → IsHeldBut n most to from spare (suc room) (suc hand) →
+    IsHeldBut n most to from (suc spare) room hand
+put_stay n most to from spare room hand is = let ends = is.ends in let starts = is.starts in
+    record { matched = is.matched; ends = omega (arith, ints); starts = omega (arith, ints) }

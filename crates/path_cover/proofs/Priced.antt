@@ -16,7 +16,8 @@ price_at-last (x ∷ xs) p zero h = absurd (omega arith)
 price_at-last (x ∷ xs) p (suc k) h = price_at-last xs p k (omega arith)
 
 -- one more price of a rule
-pub priced_more : (f : ℕ → ℤ) (new : List Price) (item : ℕ) (p : Price) → length new ≡ item → p.0 ≡ f item → ((k : ℕ) → k < item → price_at new k ≡ f k) →
+pub priced_more : (f : ℕ → ℤ) (new : List Price) (item : ℕ) (p : Price) → length new ≡ item → p.0 ≡ f item →
+    ((k : ℕ) → k < item → price_at new k ≡ f k) →
     (k : ℕ) → k < item + 1 → price_at (new ++ p ∷ []) k ≡ f k
 priced_more f new item p len is so_far k below = elim (cases_eq k item) [
   | inl same ↦ price_at-last new p k (same ∙ sym len) ∙ is ∙ ap f (sym same)

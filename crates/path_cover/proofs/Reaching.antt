@@ -19,12 +19,15 @@ use Rattle.path_cover.specs.Searching.{IsOpened, IsReachedBy, row_offer, seen_co
 use Rattle.path_cover.proofs.Growing.{IsOfferedToo, reach_row}
 
 -- what stands in a list that was changed at one place
-pub set_at : {A : Type 0} → (xs : List A) (i : ℕ) (w d : A) → i < length xs → (t : ℕ) → get_or (set xs i w) t d ≡ cond (t == i) w (get_or xs t d)
+pub set_at : {A : Type 0} → (xs : List A) (i : ℕ) (w d : A) → i < length xs → (t : ℕ) →
+    get_or (set xs i w) t d ≡ cond (t == i) w (get_or xs t d)
 set_at xs i w d within t = go (t == i) refl
   where
     go : (b : Bool) → (t == i) ≡ b → get_or (set xs i w) t d ≡ cond b w (get_or xs t d)
-    go true e = let same : t ≡ i = grind (arith, nat_tests) in (let P : ℕ → Type 0 = λ s. get_or (set xs i w) s d ≡ w in subst P (sym same) (get_or-set_same xs i w d within))
-    go false e = get_or-set_other xs i t w d (λ same. absurd (let test : (t == i) ≡ true = grind (arith, nat_tests) in let two : true ≡ false = sym test ∙ e in cc))
+    go true e = let same : t ≡ i = grind (arith, nat_tests) in
+        (let P : ℕ → Type 0 = λ s. get_or (set xs i w) s d ≡ w in subst P (sym same) (get_or-set_same xs i w d within))
+    go false e = get_or-set_other xs i t w d
+        (λ same. absurd (let test : (t == i) ≡ true = grind (arith, nat_tests) in let two : true ≡ false = sym test ∙ e in cc))
 
 takes_none : (o : Option ℕ) → takes o None ≡ false
 takes_none None = refl
@@ -65,19 +68,22 @@ pub fits_of : (c h t : ℕ) → ((pos 0 -ℤ pos h) -ℤ (pos 0 -ℤ pos t)) ≤
 fits_of c h t e = omega (arith, ints)
 
 -- what a new row keeps and what was kept before, from what a scan writes
-pub scan_offers : (net : Net) (falls : Falls) (a : Aim) (old new : Growth) (x : ℕ) → AreFeasible net (potentials_of falls) → x ≤ net.nodes → new.columns.items ≡ old.columns.items →
+pub scan_offers : (net : Net) (falls : Falls) (a : Aim) (old new : Growth) (x : ℕ) → AreFeasible net (potentials_of falls) → x ≤ net.nodes →
+    new.columns.items ≡ old.columns.items →
     IsScanned (net.nodes + 1) x (row_offer net falls old x) old.least.items new.least.items old.via.items new.via.items →
     IsOfferedToo net (potentials_of falls) a x (tree_of old) (tree_of new)
 scan_offers net falls a old new x feasible x_in columns scanned = record {
   columns = λ w. ap (λ (l : List Bool). get_or l w false) columns;
   via_seen = λ w w_in seen.
       let none : row_offer net falls old x w ≡ None = rw seen refl in
-      let takes_not : takes (get_or old.least.items w None) (row_offer net falls old x w) ≡ false = ap (takes (get_or old.least.items w None)) none ∙ takes_none (get_or old.least.items w None) in
+      let takes_not : takes (get_or old.least.items w None) (row_offer net falls old x w) ≡ false =
+      ap (takes (get_or old.least.items w None)) none ∙ takes_none (get_or old.least.items w None) in
       scanned.via_below w (omega arith) ∙ rw takes_not refl;
   offer = λ w c w_in unseen arc.
       let at : row_offer net falls old x w ≡ Some ((c + head w) - tail) = rw (unseen, arc) refl in
       let kept = kept_offer (get_or old.least.items w None) ((c + head w) - tail) in
-      let is : get_or new.least.items w None ≡ Some kept.0 = scanned.least_below w (omega arith) ∙ (ap (kept_of (get_or old.least.items w None)) at ∙ kept.1) in
+      let is : get_or new.least.items w None ≡ Some kept.0 =
+      scanned.least_below w (omega arith) ∙ (ap (kept_of (get_or old.least.items w None)) at ∙ kept.1) in
       let fits = fits_of c (head w) tail (feasible x w c x_in w_in arc) in
       let low = kept.2 in
       let whole = offer_is c (head w) tail fits in
@@ -85,12 +91,14 @@ scan_offers net falls a old new x feasible x_in columns scanned = record {
   lower = λ w d w_in unseen was.
       let before = unmap (get_or old.least.items w None) d was in
       let kept = kept_lower before.0 (row_offer net falls old x w) in
-      let is : get_or new.least.items w None ≡ Some kept.0 = scanned.least_below w (omega arith) ∙ (ap (λ (o : Option ℕ). kept_of o (row_offer net falls old x w)) before.1 ∙ kept.1) in
+      let is : get_or new.least.items w None ≡ Some kept.0 =
+      scanned.least_below w (omega arith) ∙ (ap (λ (o : Option ℕ). kept_of o (row_offer net falls old x w)) before.1 ∙ kept.1) in
       let low = kept.2 in
       let same = before.2 in
       (pos kept.0, ap (option_map (λ (k : ℕ). pos k)) is, omega (arith, ints));
   either = λ w d w_in unseen is.
-      choose w d w_in unseen (takes (get_or old.least.items w None) (row_offer net falls old x w)) refl (scanned.least_below w (omega arith)) (scanned.via_below w (omega arith)) is;
+      choose w d w_in unseen (takes (get_or old.least.items w None) (row_offer net falls old x w)) refl
+      (scanned.least_below w (omega arith)) (scanned.via_below w (omega arith)) is;
 }
   where
     head : ℕ → ℕ
@@ -99,21 +107,26 @@ scan_offers net falls a old new x feasible x_in columns scanned = record {
     tail : ℕ
     tail = get_or falls.tails.items x 0
 
-    offered : (w : ℕ) (o : Option ℕ) → net.arc x w ≡ o → get_or old.columns.items w false ≡ false → (k : ℕ) → row_offer net falls old x w ≡ Some k → w ≤ net.nodes →
+    offered : (w : ℕ) (o : Option ℕ) → net.arc x w ≡ o → get_or old.columns.items w false ≡ false → (k : ℕ) →
+        row_offer net falls old x w ≡ Some k → w ≤ net.nodes →
         (c : ℕ) × (net.arc x w ≡ Some c) × (pos k ≡ pos c +ℤ ((potentials_of falls).tail x -ℤ (potentials_of falls).head w))
-    offered w None arc unseen k is w_in = absurd (let none : row_offer net falls old x w ≡ None = rw (unseen, arc) refl in let bad : None ≡ Some k = sym none ∙ is in cc)
+    offered w None arc unseen k is w_in =
+        absurd (let none : row_offer net falls old x w ≡ None = rw (unseen, arc) refl in let bad : None ≡ Some k = sym none ∙ is in cc)
     offered w (Some c) arc unseen k is w_in =
         let at : row_offer net falls old x w ≡ Some ((c + head w) - tail) = rw (unseen, arc) refl in
         let same : (c + head w) - tail ≡ k = some_nat ((c + head w) - tail) k (sym at ∙ is) in
         let fits = fits_of c (head w) tail (feasible x w c x_in w_in arc) in
         (c, arc, ap (λ (j : ℕ). pos j) (sym same) ∙ offer_is c (head w) tail fits)
 
-    choose : (w : ℕ) (d : ℤ) → w ≤ net.nodes → get_or old.columns.items w false ≡ false → (b : Bool) → takes (get_or old.least.items w None) (row_offer net falls old x w) ≡ b →
-        get_or new.least.items w None ≡ cond (takes (get_or old.least.items w None) (row_offer net falls old x w)) (row_offer net falls old x w) (get_or old.least.items w None) →
+    choose : (w : ℕ) (d : ℤ) → w ≤ net.nodes → get_or old.columns.items w false ≡ false → (b : Bool) →
+        takes (get_or old.least.items w None) (row_offer net falls old x w) ≡ b →
+        get_or new.least.items w None ≡ cond (takes (get_or old.least.items w None) (row_offer net falls old x w))
+        (row_offer net falls old x w) (get_or old.least.items w None) →
         get_or new.via.items w 0 ≡ cond (takes (get_or old.least.items w None) (row_offer net falls old x w)) x (get_or old.via.items w 0) →
         (tree_of new).least w ≡ Some d →
         (((tree_of old).least w ≡ Some d) × ((tree_of new).via w ≡ (tree_of old).via w)) ⊎
-        (((tree_of new).via w ≡ x) × ((c : ℕ) × (net.arc x w ≡ Some c) × (d ≡ pos c +ℤ ((potentials_of falls).tail x -ℤ (potentials_of falls).head w))))
+        (((tree_of new).via w ≡ x)
+        × ((c : ℕ) × (net.arc x w ≡ Some c) × (d ≡ pos c +ℤ ((potentials_of falls).tail x -ℤ (potentials_of falls).head w))))
     choose w d w_in unseen false test least via is =
         let same : get_or new.least.items w None ≡ get_or old.least.items w None = least ∙ rw test refl in
         inl (ap (option_map (λ (k : ℕ). pos k)) (sym same) ∙ is, via ∙ rw test refl)
@@ -124,8 +137,10 @@ scan_offers net falls a old new x feasible x_in columns scanned = record {
         inr (via ∙ rw test refl, (found.0, found.1, sym number.2 ∙ found.2))
 
 -- a row that holds an opened column is reached
-pub reach_opened : (net : Net) (falls : Falls) (placing : Placing) (old new : Growth) (target : Target) (v x : ℕ) (m : Matching) → IsOpened net falls placing old target v m → x ≤ net.nodes →
-    get_or old.rows.items x false ≡ false → target.fixed ≤ x → (x < net.nodes → get_or placing.to.items x 0 ≡ v) → (x ≡ net.nodes → v < net.nodes → get_or placing.from.items v 0 ≡ net.nodes) →
+pub reach_opened : (net : Net) (falls : Falls) (placing : Placing) (old new : Growth) (target : Target) (v x : ℕ) (m : Matching) →
+    IsOpened net falls placing old target v m → x ≤ net.nodes →
+    get_or old.rows.items x false ≡ false → target.fixed ≤ x → (x < net.nodes → get_or placing.to.items x 0 ≡ v) →
+    (x ≡ net.nodes → v < net.nodes → get_or placing.from.items v 0 ≡ net.nodes) →
     (x ≡ net.nodes → v ≡ net.nodes → 0 < placing.spare) → IsReachedBy net falls x v old new → IsOpened net falls placing new target v m
 reach_opened net falls placing old new target v x m is x_in unseen movable row store stays by = record {
   seat = is.seat;
@@ -146,12 +161,14 @@ reach_opened net falls placing old new target v x m is x_in unseen movable row s
   };
   above =
       let opening = is.opening in
-      let depth_same : get_or new.depth.items (get_or new.via.items v 0) 0 ≡ above = ap (λ (y : ℕ). get_or new.depth.items y 0) via_same ∙ above_same in
+      let depth_same : get_or new.depth.items (get_or new.via.items v 0) 0 ≡ above =
+      ap (λ (y : ℕ). get_or new.depth.items y 0) via_same ∙ above_same in
       let below = is.above in
       let count : seen_count new.columns.items ≡ seen_count old.columns.items = ap seen_count by.columns in
       omega arith;
   opening = reach_row net (potentials_of falls) m (aim_of target) (tree_of old) (tree_of new) v x is.opening x_in unseen movable
-      (λ below. sym (is.seat.kept.to x below) ∙ row below) (λ last below. sym (is.seat.kept.from v below) ∙ store last below) (λ last at_end. (let some = stays last at_end in let same = is.seat.kept.spare in omega arith))
+      (λ below. sym (is.seat.kept.to x below) ∙ row below) (λ last below. sym (is.seat.kept.from v below) ∙ store last below)
+      (λ last at_end. (let some = stays last at_end in let same = is.seat.kept.spare in omega arith))
       row_at by_at (λ y. depth_at y ∙ ap (λ (k : ℕ). cond (y == x) k (get_or old.depth.items y 0)) add_one) too;
 }
   where
@@ -165,17 +182,22 @@ reach_opened net falls placing old new target v x m is x_in unseen movable row s
     too = scan_offers net falls (aim_of target) old new x is.seat.feasible x_in by.columns by.scanned
 
     row_at : (y : ℕ) → get_or new.rows.items y false ≡ cond (y == x) true (get_or old.rows.items y false)
-    row_at y = let count = is.sized.rows in ap (λ (l : List Bool). get_or l y false) by.rows ∙ set_at old.rows.items x true false (omega arith) y
+    row_at y = let count = is.sized.rows in
+        ap (λ (l : List Bool). get_or l y false) by.rows ∙ set_at old.rows.items x true false (omega arith) y
 
     by_at : (y : ℕ) → get_or new.by.items y 0 ≡ cond (y == x) v (get_or old.by.items y 0)
     by_at y = let count = is.sized.by in ap (λ (l : List ℕ). get_or l y 0) by.reached ∙ set_at old.by.items x v 0 (omega arith) y
 
     depth_at : (y : ℕ) → get_or new.depth.items y 0 ≡ cond (y == x) (above + 1) (get_or old.depth.items y 0)
-    depth_at y = let count = is.sized.depth in ap (λ (l : List ℕ). get_or l y 0) by.depth ∙ set_at old.depth.items x (above + 1) 0 (omega arith) y
+    depth_at y = let count = is.sized.depth in
+        ap (λ (l : List ℕ). get_or l y 0) by.depth ∙ set_at old.depth.items x (above + 1) 0 (omega arith) y
 
-    deep : (y : ℕ) (b : Bool) → get_or new.depth.items y 0 ≡ cond b (above + 1) (get_or old.depth.items y 0) → get_or new.depth.items y 0 ≤ seen_count new.columns.items
-    deep y true e = let count : seen_count new.columns.items ≡ seen_count old.columns.items = ap seen_count by.columns in let below = is.above in omega arith
-    deep y false e = let count : seen_count new.columns.items ≡ seen_count old.columns.items = ap seen_count by.columns in let before = is.deep y in omega arith
+    deep : (y : ℕ) (b : Bool) → get_or new.depth.items y 0 ≡ cond b (above + 1) (get_or old.depth.items y 0) →
+        get_or new.depth.items y 0 ≤ seen_count new.columns.items
+    deep y true e = let count : seen_count new.columns.items ≡ seen_count old.columns.items = ap seen_count by.columns in
+        let below = is.above in omega arith
+    deep y false e = let count : seen_count new.columns.items ≡ seen_count old.columns.items = ap seen_count by.columns in
+        let before = is.deep y in omega arith
 
     tails : (y : ℕ) (b : Bool) → cond b true (get_or old.rows.items y false) ≡ false → get_or falls.tails.items y 0 ≤ target.level
     tails y true hidden = absurd (cc)
@@ -193,4 +215,5 @@ reach_opened net falls placing old new target v x m is x_in unseen movable row s
     above_same : get_or new.depth.items (get_or old.via.items v 0) 0 ≡ above
     above_same =
         let count = is.sized.depth in
-        ap (λ (l : List ℕ). get_or l (get_or old.via.items v 0) 0) by.depth ∙ get_or-set_other old.depth.items x (get_or old.via.items v 0) (above + 1) 0 other
+        ap (λ (l : List ℕ). get_or l (get_or old.via.items v 0) 0) by.depth
+        ∙ get_or-set_other old.depth.items x (get_or old.via.items v 0) (above + 1) 0 other

@@ -4,8 +4,10 @@ use Rattle.std.proofs.lemmas.Bool.{cases_lt}
 use Rattle.std.proofs.lemmas.List.{get_or-set_same, get_or-set_other}
 use Rattle.path_cover.specs.Scans.{IsScanned, kept_of, takes, via_of}
 
-pub scan_more : (k x : ℕ) (offer : ℕ → Option ℕ) (o0 o1 o2 : List (Option ℕ)) (v0 v1 v2 : List ℕ) → k < length o0 → k < length v0 → IsScanned k x offer o0 o1 v0 v1 →
-    o2 ≡ cond (takes (get_or o1 k None) (offer k)) (set o1 k (offer k)) o1 → v2 ≡ cond (takes (get_or o1 k None) (offer k)) (set v1 k x) v1 → IsScanned (k + 1) x offer o0 o2 v0 v2
+pub scan_more : (k x : ℕ) (offer : ℕ → Option ℕ) (o0 o1 o2 : List (Option ℕ)) (v0 v1 v2 : List ℕ) → k < length o0 → k < length v0 →
+    IsScanned k x offer o0 o1 v0 v1 →
+    o2 ≡ cond (takes (get_or o1 k None) (offer k)) (set o1 k (offer k)) o1 →
+    v2 ≡ cond (takes (get_or o1 k None) (offer k)) (set v1 k x) v1 → IsScanned (k + 1) x offer o0 o2 v0 v2
 scan_more k x offer o0 o1 o2 v0 v1 v2 o_in v_in is e e' = go (takes (get_or o1 k None) (offer k)) refl
   where
     old : get_or o1 k None ≡ get_or o0 k None
@@ -25,16 +27,19 @@ scan_more k x offer o0 o1 o2 v0 v1 v2 o_in v_in is e e' = go (takes (get_or o1 k
           least_count = ap length set_least ∙ (length-set o1 k (offer k) ∙ counts);
           via_count = ap length set_via ∙ (length-set v1 k x ∙ counts');
           least_below = λ v below. elim (cases_lt v k) [
-            | inl before ↦ ap (λ (l : List (Option ℕ)). get_or l v None) set_least ∙ (get_or-set_other o1 k v (offer k) None (λ same. omega arith) ∙ is.least_below v before)
+            | inl before ↦ ap (λ (l : List (Option ℕ)). get_or l v None) set_least
+                ∙ (get_or-set_other o1 k v (offer k) None (λ same. omega arith) ∙ is.least_below v before)
             | inr past ↦
                 let same : v ≡ k = omega arith in
                 let P : ℕ → Type 0 = λ w. get_or o2 w None ≡ kept_of (get_or o0 w None) (offer w) in
-                let here : get_or o2 k None ≡ offer k = ap (λ (l : List (Option ℕ)). get_or l k None) set_least ∙ get_or-set_same o1 k (offer k) None (omega arith) in
+                let here : get_or o2 k None ≡ offer k =
+                ap (λ (l : List (Option ℕ)). get_or l k None) set_least ∙ get_or-set_same o1 k (offer k) None (omega arith) in
                 let kept : kept_of (get_or o0 k None) (offer k) ≡ offer k = rw taken refl in
                 subst P (sym same) (here ∙ sym kept)
           ];
           via_below = λ v below. elim (cases_lt v k) [
-            | inl before ↦ ap (λ (l : List ℕ). get_or l v 0) set_via ∙ (get_or-set_other v1 k v x 0 (λ same. omega arith) ∙ is.via_below v before)
+            | inl before ↦ ap (λ (l : List ℕ). get_or l v 0) set_via
+                ∙ (get_or-set_other v1 k v x 0 (λ same. omega arith) ∙ is.via_below v before)
             | inr past ↦
                 let same : v ≡ k = omega arith in
                 let P : ℕ → Type 0 = λ w. get_or v2 w 0 ≡ via_of (get_or o0 w None) (offer w) x (get_or v0 w 0) in
@@ -42,8 +47,10 @@ scan_more k x offer o0 o1 o2 v0 v1 v2 o_in v_in is e e' = go (takes (get_or o1 k
                 let kept : via_of (get_or o0 k None) (offer k) x (get_or v0 k 0) ≡ x = rw taken refl in
                 subst P (sym same) (here ∙ sym kept)
           ];
-          least_past = λ v past. ap (λ (l : List (Option ℕ)). get_or l v None) set_least ∙ (get_or-set_other o1 k v (offer k) None (λ same. omega arith) ∙ is.least_past v (omega arith));
-          via_past = λ v past. ap (λ (l : List ℕ). get_or l v 0) set_via ∙ (get_or-set_other v1 k v x 0 (λ same. omega arith) ∙ is.via_past v (omega arith));
+          least_past = λ v past. ap (λ (l : List (Option ℕ)). get_or l v None) set_least
+              ∙ (get_or-set_other o1 k v (offer k) None (λ same. omega arith) ∙ is.least_past v (omega arith));
+          via_past = λ v past. ap (λ (l : List ℕ). get_or l v 0) set_via
+              ∙ (get_or-set_other v1 k v x 0 (λ same. omega arith) ∙ is.via_past v (omega arith));
         }
     go false test =
         let same_least : o2 ≡ o1 = e ∙ rw test refl in

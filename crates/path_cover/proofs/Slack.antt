@@ -17,10 +17,12 @@ abbrev toll : Net → Potentials → ℤ
 toll net p = p.tail net.nodes -ℤ p.head net.nodes
 
 toll_charged : (net : Net) → IsRising net → (p : Potentials) → AreFeasible net p → pos 0 ≤ℤ toll net p
-toll_charged net rising p feasible = let stays = feasible net.nodes net.nodes 0 (omega arith) (omega arith) rising.stays in omega (arith, ints)
+toll_charged net rising p feasible =
+    let stays = feasible net.nodes net.nodes 0 (omega arith) (omega arith) rising.stays in omega (arith, ints)
 
 -- the prices of a list
-list_price : (net : Net) (p : Potentials) (prices : List Price) (z : ℤ) → ArePricesOf net p prices z → (list : List ℕ) → AllBelow net.nodes list →
+list_price : (net : Net) (p : Potentials) (prices : List Price) (z : ℤ) → ArePricesOf net p prices z →
+    (list : List ℕ) → AllBelow net.nodes list →
     price_of prices list ≡ pos 1000 *ℤ sum_each (gain p) list
 list_price net p prices z are [] below = refl
 list_price net p prices z are (t ∷ ts) below =
@@ -56,7 +58,8 @@ lists_gain net p feasible (list ∷ lists) are =
     let rest = lists_gain net p feasible lists are.1 in
     omega (arith, ints, sum_each-append (gain p) list (all_items (columns_of net lists)))
 
-lists_tight : (net : Net) (p : Potentials) → (lists : List (List ℕ)) → AreColumns (paths net) (columns_of net lists) → AreTightPaths net p lists →
+lists_tight : (net : Net) (p : Potentials) → (lists : List (List ℕ)) → AreColumns (paths net) (columns_of net lists) →
+    AreTightPaths net p lists →
     sum_each (gain p) (all_items (columns_of net lists)) ≡ pos (cover_cost net lists) +ℤ (pos (length lists) *ℤ toll net p)
 lists_tight net p [] are tight = omega (arith, ints)
 lists_tight net p (list ∷ lists) are tight =
@@ -65,13 +68,16 @@ lists_tight net p (list ∷ lists) are tight =
     omega (arith, ints, sum_each-append (gain p) list (all_items (columns_of net lists)))
 
 tight_lists : (net : Net) (p : Potentials) → AreFeasible net p → (lists : List (List ℕ)) → AreColumns (paths net) (columns_of net lists) →
-    sum_each (gain p) (all_items (columns_of net lists)) ≡ pos (cover_cost net lists) +ℤ (pos (length lists) *ℤ toll net p) → AreTightPaths net p lists
+    sum_each (gain p) (all_items (columns_of net lists)) ≡ pos (cover_cost net lists) +ℤ (pos (length lists) *ℤ toll net p) →
+    AreTightPaths net p lists
 tight_lists net p feasible [] are equal = tt
 tight_lists net p feasible (list ∷ lists) are equal =
     let one = path_gain net p feasible list (path_column net list).worth are.0.1 in
     let rest = lists_gain net p feasible lists are.1 in
-    let apart = sum_each-append (gain p) list (all_items (columns_of net lists)) in
-    (tight_path net p feasible list (path_column net list).worth are.0.1 (omega (arith, ints)), tight_lists net p feasible lists are.1 (omega (arith, ints)))
+    let apart = sum_each-append (gain p) list (all_items (columns_of net lists)) in (
+      tight_path net p feasible list (path_column net list).worth are.0.1 (omega (arith, ints)),
+      tight_lists net p feasible lists are.1 (omega (arith, ints)),
+    )
 
 -- a cover has no more paths than there may be
 pub in_class : (net : Net) (lists : List (List ℕ)) → times 0 (all_classes (columns_of net lists)) ≡ length lists
@@ -102,7 +108,8 @@ slack_total : (net : Net) → IsRising net → (p : Potentials) (lists : List (L
 slack_total net rising p lists cover slack =
     let total = lists_tight net p lists cover.worths slack.paths in
     let all = all_gains net rising p lists cover in
-    let paid = paid_all (length lists) net.most (toll net p) (few_paths net lists cover) (λ below. let equal = slack.stays below in omega (arith, ints)) in
+    let paid = paid_all (length lists) net.most (toll net p) (few_paths net lists cover) (λ below. let equal =
+    slack.stays below in omega (arith, ints)) in
     omega (arith, ints)
 
 cover_total : (net : Net) → IsRising net → (p : Potentials) → AreFeasible net p → (lists : List (List ℕ)) → IsCover net lists →
@@ -160,7 +167,9 @@ thousandth-is z n e = rw e (omega arith)
 pub slack_is_bound : (net : Net) → SlackIsBound net
 slack_is_bound net rising p feasible prices z are lists cover slack =
     let total = slack_total net rising p lists cover slack in
-    let all : all_prices prices ≡ sum_first (price_at prices) net.nodes = all_prices-is prices ∙ ap (sum_first (price_at prices)) are.count in
+    let all : all_prices prices ≡ sum_first (price_at prices) net.nodes =
+    all_prices-is prices ∙ ap (sum_first (price_at prices)) are.count in
     let priced = all_price net p prices z are net.nodes (omega arith) in
-    let rented : rent (net.most ∷ []) (z ∷ []) ≡ pos 1000 *ℤ (pos net.most *ℤ toll net p) = let e = are.of_class in rw e (omega (arith, ints, thousands net.most (toll net p))) in
+    let rented : rent (net.most ∷ []) (z ∷ []) ≡ pos 1000 *ℤ (pos net.most *ℤ toll net p) =
+    let e = are.of_class in rw e (omega (arith, ints, thousands net.most (toll net p))) in
     thousandth-is (all_prices prices -ℤ rent (net.most ∷ []) (z ∷ [])) (cover_cost net lists) (omega (arith, ints))

@@ -13,7 +13,8 @@ use Rattle.path_cover.specs.Searching.{IsSeated, IsStuck, IsTreedAs, seen_count}
 use Rattle.path_cover.proofs.Counts.{count_full}
 use Rattle.path_cover.proofs.Growing.{begin_walk}
 
-pub free_place : (n v from room : ℕ) → v ≤ n → cond (nat_lt v n) (nat_lt n from) (nat_lt 0 room) ≡ true → (v < n → n < from) × (v ≡ n → 0 < room)
+pub free_place : (n v from room : ℕ) → v ≤ n → cond (nat_lt v n) (nat_lt n from) (nat_lt 0 room) ≡ true →
+    (v < n → n < from) × (v ≡ n → 0 < room)
 free_place n v from room v_in e = elim (cases_lt v n) [
   | inl below ↦
       let test : nat_lt v n ≡ true = grind (arith, nat_tests) in
@@ -27,7 +28,8 @@ free_place n v from room v_in e = elim (cases_lt v n) [
       (λ column. absurd (omega arith), λ at_end. some)
 ]
 
-pub no_place : (n v from room : ℕ) → v ≤ n → cond (nat_lt v n) (nat_lt n from) (nat_lt 0 room) ≡ false → (v < n → from ≤ n) × (v ≡ n → room ≡ 0)
+pub no_place : (n v from room : ℕ) → v ≤ n → cond (nat_lt v n) (nat_lt n from) (nat_lt 0 room) ≡ false →
+    (v < n → from ≤ n) × (v ≡ n → room ≡ 0)
 no_place n v from room v_in e = elim (cases_lt v n) [
   | inl below ↦
       let test : nat_lt v n ≡ true = grind (arith, nat_tests) in
@@ -41,8 +43,10 @@ no_place n v from room v_in e = elim (cases_lt v n) [
       (λ column. absurd (omega arith), λ at_end. omega arith)
 ]
 
-pub walk_of : (net : Net) (falls : Falls) (placing : Placing) (growth : Growth) (target : Target) (n v : ℕ) → IsTreedAs net falls placing growth target → n ≡ net.nodes → v ≤ net.nodes →
-    get_or growth.columns.items v false ≡ false → get_or growth.least.items v None ≡ Some 0 → cond (nat_lt v n) (nat_lt n (get_or placing.from.items v 0)) (nat_lt 0 placing.room) ≡ true →
+pub walk_of : (net : Net) (falls : Falls) (placing : Placing) (growth : Growth) (target : Target) (n v : ℕ) →
+    IsTreedAs net falls placing growth target → n ≡ net.nodes → v ≤ net.nodes →
+    get_or growth.columns.items v false ≡ false → get_or growth.least.items v None ≡ Some 0 →
+    cond (nat_lt v n) (nat_lt n (get_or placing.from.items v 0)) (nat_lt 0 placing.room) ≡ true →
     IsWalkOf net falls target growth placing v
 walk_of net falls placing growth target n v treed n_is v_in unseen none free =
     let m = treed.0 in
@@ -50,20 +54,23 @@ walk_of net falls placing growth target n v treed n_is v_in unseen none free =
     let place = free_place n v (get_or placing.from.items v 0) placing.room (omega arith) free in (
       m,
       is.seat.kept,
-      begin_walk net (potentials_of falls) m (aim_of target) (tree_of growth) v is.tree v_in unseen (ap (option_map (λ (k : ℕ). pos k)) none) is.seat.held is.seat.tight (record {
-        column_in = v_in;
-        column = λ below. (let same = is.seat.kept.from v below in let past = place.0 (omega arith) in omega arith);
-        room = λ at_end. (let same = is.seat.kept.room in let some = place.1 (omega arith) in omega arith);
-      }),
+      begin_walk net (potentials_of falls) m (aim_of target) (tree_of growth) v is.tree v_in unseen
+          (ap (option_map (λ (k : ℕ). pos k)) none) is.seat.held is.seat.tight (record {
+            column_in = v_in;
+            column = λ below. (let same = is.seat.kept.from v below in let past = place.0 (omega arith) in omega arith);
+            room = λ at_end. (let same = is.seat.kept.room in let some = place.1 (omega arith) in omega arith);
+          }),
     )
 
-pub placed_seated : (net : Net) (falls : Falls) (old new : Placing) → IsSeated net falls old → IsTightAs net falls new → IsSeated net falls new
+pub placed_seated : (net : Net) (falls : Falls) (old new : Placing) → IsSeated net falls old →
+    IsTightAs net falls new → IsSeated net falls new
 placed_seated net falls old new seated tight =
     let is = seated.1 in
     (tight.0, record { kept = tight.1; held = tight.2; tight = tight.3; places = is.places; feasible = is.feasible; few = is.few })
 
 -- a tree whose columns are all seen
-pub all_seen : (net : Net) (falls : Falls) (placing : Placing) (growth : Growth) (target : Target) → IsTreedAs net falls placing growth target → seen_count growth.columns.items ≡ net.nodes + 1 → IsStuck net falls placing target
+pub all_seen : (net : Net) (falls : Falls) (placing : Placing) (growth : Growth) (target : Target) →
+    IsTreedAs net falls placing growth target → seen_count growth.columns.items ≡ net.nodes + 1 → IsStuck net falls placing target
 all_seen net falls placing growth target treed all =
     let is = treed.1 in
     let count = is.sized.columns in (
@@ -72,6 +79,7 @@ all_seen net falls placing growth target treed all =
       record {
         seat = is.seat;
         grown = is.tree;
-        halted = λ v d v_in unseen e. absurd (let seen = count_full growth.columns.items (omega arith) v (omega arith) in let two : true ≡ false = sym seen ∙ unseen in cc);
+        halted = λ v d v_in unseen e. absurd (let seen = count_full growth.columns.items (omega arith) v (omega arith) in
+            let two : true ≡ false = sym seen ∙ unseen in cc);
       },
     )

@@ -86,14 +86,16 @@ behind-none n s (x ∷ y ∷ rest) none =
     ]
 
 -- over the members of a list that rises, whatever the others have behind them
-list_chain : (f : ℕ → ℤ) (n : ℕ) (others : ℕ → ℕ) (list : List ℕ) → Rises list → sum_each (λ s. f (unwrap_or (behind n s list) (others s))) list ≡ chain f n list
+list_chain : (f : ℕ → ℤ) (n : ℕ) (others : ℕ → ℕ) (list : List ℕ) → Rises list →
+    sum_each (λ s. f (unwrap_or (behind n s list) (others s))) list ≡ chain f n list
 list_chain f n others [] rise = refl
 list_chain f n others (x ∷ []) rise = let test : (x == x) ≡ true = grind (arith, nat_tests) in rw test (omega (arith, ints))
 list_chain f n others (x ∷ y ∷ rest) rise =
     let test : (x == x) ≡ true = grind (arith, nat_tests) in
     let here : unwrap_or (behind n x (x ∷ y ∷ rest)) (others x) ≡ y = rw test refl in
     let first : f (unwrap_or (behind n x (x ∷ y ∷ rest)) (others x)) ≡ f y = ap f here in
-    let next : sum_each (λ s. f (unwrap_or (behind n s (x ∷ y ∷ rest)) (others s))) (y ∷ rest) ≡ sum_each (λ s. f (unwrap_or (behind n s (y ∷ rest)) (others s))) (y ∷ rest) =
+    let next : sum_each (λ s. f (unwrap_or (behind n s (x ∷ y ∷ rest)) (others s))) (y ∷ rest)
+    ≡ sum_each (λ s. f (unwrap_or (behind n s (y ∷ rest)) (others s))) (y ∷ rest) =
     sum_each-same _ _ (y ∷ rest) (λ s member.
     let above = above_first x (y ∷ rest) s rise member in
     let no : (x == s) ≡ false = grind (arith, nat_tests) in
@@ -114,8 +116,11 @@ lists_chain net rising f [] are once = refl
 lists_chain net rising f (list ∷ lists) are once =
     let items = all_items (columns_of net lists) in
     let rise = (paths_listed net rising 0 list (path_column net list).worth are.0.1).1 in
-    let one : sum_each (λ s. f (successor net.nodes (list ∷ lists) s)) list ≡ chain f net.nodes list = list_chain f net.nodes (successor net.nodes lists) list rise in
-    let apart : sum_each (λ s. f (successor net.nodes (list ∷ lists) s)) (list ++ items) ≡ sum_each (λ s. f (successor net.nodes (list ∷ lists) s)) list +ℤ sum_each (λ s. f (successor net.nodes (list ∷ lists) s)) items = sum_each-append _ list items in
+    let one : sum_each (λ s. f (successor net.nodes (list ∷ lists) s)) list ≡ chain f net.nodes list =
+    list_chain f net.nodes (successor net.nodes lists) list rise in
+    let apart : sum_each (λ s. f (successor net.nodes (list ∷ lists) s)) (list ++ items)
+    ≡ sum_each (λ s. f (successor net.nodes (list ∷ lists) s)) list +ℤ sum_each (λ s. f (successor net.nodes (list ∷ lists) s)) items =
+    sum_each-append _ list items in
     let rest : sum_each (λ s. f (successor net.nodes (list ∷ lists) s)) items ≡ sum_each (λ s. f (successor net.nodes lists s)) items =
     sum_each-same _ _ items (λ s member.
     let counted = times-append s list items in
@@ -128,11 +133,18 @@ lists_chain net rising f (list ∷ lists) are once =
 
 -- the firsts and what stands behind the others are all nodes, and the end once for each path
 chains_are : (net : Net) → IsRising net → (f : ℕ → ℤ) (lists : List (List ℕ)) → AreColumns (paths net) (columns_of net lists) →
-    chains f net.nodes lists +ℤ sum_each f (first_nodes lists) ≡ sum_each f (all_items (columns_of net lists)) +ℤ (pos (length lists) *ℤ f net.nodes)
+    chains f net.nodes lists +ℤ sum_each f (first_nodes lists) ≡ sum_each f (all_items (columns_of net lists))
+    +ℤ (pos (length lists) *ℤ f net.nodes)
 chains_are net rising f [] are = omega (arith, ints)
 chains_are net rising f ([] ∷ lists) are = absurd ((paths_listed net rising 0 [] (path_column net []).worth are.0.1).0 refl)
 chains_are net rising f ((t ∷ ts) ∷ lists) are =
-    omega (arith, ints, chain-is f net.nodes t ts, chains_are net rising f lists are.1, sum_each-append f (t ∷ ts) (all_items (columns_of net lists)))
+    omega (
+      arith,
+      ints,
+      chain-is f net.nodes t ts,
+      chains_are net rising f lists are.1,
+      sum_each-append f (t ∷ ts) (all_items (columns_of net lists)),
+    )
 
 -- a sum over the nodes of a cover is one over all nodes
 pub cover_spread : (net : Net) → IsRising net → (g : ℕ → ℤ) (lists : List (List ℕ)) → IsCover net lists →
@@ -142,7 +154,8 @@ cover_spread net rising g lists cover =
     sum_each-times g net.nodes (all_items (columns_of net lists)) below ∙
     sum_first-same _ _ _ (λ i h. let one : times i (all_items (columns_of net lists)) ≡ 1 = cover.once i h in rw one (omega (arith, ints)))
 
-pub cover_once : (net : Net) → IsRising net → (lists : List (List ℕ)) → IsCover net lists → (s : ℕ) → times s (all_items (columns_of net lists)) ≤ 1
+pub cover_once : (net : Net) → IsRising net → (lists : List (List ℕ)) → IsCover net lists → (s : ℕ) →
+    times s (all_items (columns_of net lists)) ≤ 1
 cover_once net rising lists cover s =
     elim (cases_lt s net.nodes) [
       | inl below ↦ let one = cover.once s below in omega arith
@@ -154,7 +167,8 @@ cover_once net rising lists cover s =
 
 -- successors and firsts together are all nodes, and the end once for each path
 pub successors_sum : (net : Net) → IsRising net → (f : ℕ → ℤ) (lists : List (List ℕ)) → IsCover net lists →
-    sum_first (λ s. f (successor net.nodes lists s)) net.nodes +ℤ sum_each f (first_nodes lists) ≡ sum_first f net.nodes +ℤ (pos (length lists) *ℤ f net.nodes)
+    sum_first (λ s. f (successor net.nodes lists s)) net.nodes +ℤ sum_each f (first_nodes lists) ≡ sum_first f net.nodes
+    +ℤ (pos (length lists) *ℤ f net.nodes)
 successors_sum net rising f lists cover =
     let all = cover_spread net rising (λ s. f (successor net.nodes lists s)) lists cover in
     let chained = lists_chain net rising f lists cover.worths (cover_once net rising lists cover) in

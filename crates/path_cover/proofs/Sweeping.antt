@@ -18,7 +18,8 @@ gap_less [] i w within less floor = absurd (omega arith)
 gap_less (x ∷ xs) zero w within less floor = omega arith
 gap_less (x ∷ xs) (suc i) w within less floor = let rest = gap_less xs i w (omega arith) less floor in omega arith
 
-pub swept_start : (net : Net) (placing : Placing) (numbers : Falls) → HasPlaces net.nodes numbers → AreHigh net placing numbers → IsSwept net placing numbers numbers false
+pub swept_start : (net : Net) (placing : Placing) (numbers : Falls) → HasPlaces net.nodes numbers → AreHigh net placing numbers →
+    IsSwept net placing numbers numbers false
 swept_start net placing numbers places high = record { places = places; high = high; nearer = λ e. absurd (cc); same = λ e. refl }
 
 or_false : (a b : Bool) → cond a true b ≡ false → (a ≡ false) × (b ≡ false)
@@ -26,7 +27,8 @@ or_false true b e = absurd (cc)
 or_false false b e = (refl, e)
 
 -- one sweep after another
-pub swept_more : (net : Net) (placing : Placing) (old mid new : Falls) (a b : Bool) → IsSwept net placing old mid a → IsSwept net placing mid new b → IsSwept net placing old new (cond a true b)
+pub swept_more : (net : Net) (placing : Placing) (old mid new : Falls) (a b : Bool) → IsSwept net placing old mid a →
+    IsSwept net placing mid new b → IsSwept net placing old new (cond a true b)
 swept_more net placing old mid new a b first second = record {
   places = second.places;
   high = second.high;
@@ -34,15 +36,18 @@ swept_more net placing old mid new a b first second = record {
   same = λ e. (let both = or_false a b e in second.same both.1 ∙ first.same both.0);
 }
   where
-    go : (a b : Bool) → (a ≡ true → gap mid < gap old) → (a ≡ false → mid ≡ old) → (b ≡ true → gap new < gap mid) → (b ≡ false → new ≡ mid) → cond a true b ≡ true → gap new < gap old
+    go : (a b : Bool) → (a ≡ true → gap mid < gap old) → (a ≡ false → mid ≡ old) → (b ≡ true → gap new < gap mid) →
+        (b ≡ false → new ≡ mid) → cond a true b ≡ true → gap new < gap old
     go true true n1 s1 n2 s2 e = let one = n1 refl in let two = n2 refl in omega arith
     go true false n1 s1 n2 s2 e = let one = n1 refl in let same = ap gap (s2 refl) in omega arith
     go false true n1 s1 n2 s2 e = let same = ap gap (s1 refl) in let two = n2 refl in omega arith
     go false false n1 s1 n2 s2 e = absurd (cc)
 
 -- a column's number is pressed
-pub head_pressed : (net : Net) (placing : Placing) (old new : Falls) (x v c : ℕ) → x ≤ net.nodes → v ≤ net.nodes → HasPlaces net.nodes old → AreHigh net placing old → IsFloored net placing → net.arc x v ≡ Some c →
-    new.tails.items ≡ old.tails.items → get_or old.heads.items v 0 < get_or old.tails.items x 0 - c → new.heads.items ≡ set old.heads.items v (get_or old.tails.items x 0 - c) → IsSwept net placing old new true
+pub head_pressed : (net : Net) (placing : Placing) (old new : Falls) (x v c : ℕ) → x ≤ net.nodes → v ≤ net.nodes → HasPlaces net.nodes old →
+    AreHigh net placing old → IsFloored net placing → net.arc x v ≡ Some c →
+    new.tails.items ≡ old.tails.items → get_or old.heads.items v 0 < get_or old.tails.items x 0 - c →
+    new.heads.items ≡ set old.heads.items v (get_or old.tails.items x 0 - c) → IsSwept net placing old new true
 head_pressed net placing old new x v c x_in v_in places high floor arc tails less heads = record {
   places = record { tails = ap length tails ∙ places.tails; heads = ap length heads ∙ (length-set old.heads.items v least ∙ places.heads) };
   high = high_now;
@@ -65,7 +70,8 @@ head_pressed net placing old new x v c x_in v_in places high floor arc tails les
 
     low : least ≤ 5000000000000000
     low =
-        let tail_low = below_floor (get_or old.tails.items x 0) (floor.0.tail x) (floor.1.tails x x_in) (high floor.0 floor.1.numbers x x_in).0 in
+        let tail_low = below_floor (get_or old.tails.items x 0) (floor.0.tail x) (floor.1.tails x x_in)
+        (high floor.0 floor.1.numbers x x_in).0 in
         omega arith
 
     pressed : (t c : ℕ) (qt qh : ℤ) → (qh -ℤ qt) ≤ℤ pos c → qt ≤ℤ (pos 0 -ℤ pos t) → qh ≤ℤ pos 0 → qh ≤ℤ (pos 0 -ℤ pos (t - c))
@@ -75,28 +81,37 @@ head_pressed net placing old new x v c x_in v_in places high floor arc tails les
     high_now q is y y_in =
         let before = high q is y y_in in
         let tail_same : get_or new.tails.items y 0 ≡ get_or old.tails.items y 0 = ap (λ (l : List ℕ). get_or l y 0) tails in
-        let head_is : get_or new.heads.items y 0 ≡ cond (y == v) least (get_or old.heads.items y 0) = ap (λ (l : List ℕ). get_or l y 0) heads ∙ set_at old.heads.items v least 0 v_at y in
-        (subst (λ (k : ℕ). q.tail y ≤ℤ (pos 0 -ℤ pos k)) (sym tail_same) before.0, subst (λ (k : ℕ). q.head y ≤ℤ (pos 0 -ℤ pos k)) (sym head_is) (go (y == v) refl))
+        let head_is : get_or new.heads.items y 0 ≡ cond (y == v) least (get_or old.heads.items y 0) =
+        ap (λ (l : List ℕ). get_or l y 0) heads ∙ set_at old.heads.items v least 0 v_at y in (
+          subst (λ (k : ℕ). q.tail y ≤ℤ (pos 0 -ℤ pos k)) (sym tail_same) before.0,
+          subst (λ (k : ℕ). q.head y ≤ℤ (pos 0 -ℤ pos k)) (sym head_is) (go (y == v) refl),
+        )
       where
         go : (b : Bool) → (y == v) ≡ b → q.head y ≤ℤ (pos 0 -ℤ pos (cond b least (get_or old.heads.items y 0)))
         go false e = (high q is y y_in).1
         go true e =
             let same : y ≡ v = grind (arith, nat_tests) in
-            let at_v = pressed (get_or old.tails.items x 0) c (q.tail x) (q.head v) (is.feasible x v c x_in v_in arc) (high q is x x_in).0 (is.heads v v_in) in
+            let at_v = pressed (get_or old.tails.items x 0) c (q.tail x) (q.head v) (is.feasible x v c x_in v_in arc)
+            (high q is x x_in).0 (is.heads v v_in) in
             subst (λ (w : ℕ). q.head w ≤ℤ (pos 0 -ℤ pos least)) (sym same) at_v
 
 -- where an arc of the matching is tight for all numbers, what it asks is not below the floor
-pub tail_low : (net : Net) (placing : Placing) (numbers : Falls) (x v c : ℕ) → x ≤ net.nodes → v ≤ net.nodes → AreHigh net placing numbers → IsFloored net placing → IsTightIn net placing x v → net.arc x v ≡ Some c →
+pub tail_low : (net : Net) (placing : Placing) (numbers : Falls) (x v c : ℕ) → x ≤ net.nodes → v ≤ net.nodes → AreHigh net placing numbers →
+    IsFloored net placing → IsTightIn net placing x v → net.arc x v ≡ Some c →
     c + get_or numbers.heads.items v 0 ≤ 5000000000000000
 tail_low net placing numbers x v c x_in v_in high floor tight arc =
-    low (get_or numbers.heads.items v 0) c (floor.0.tail x) (floor.0.head v) (tight floor.0 floor.1.numbers c arc) (floor.1.tails x x_in) (high floor.0 floor.1.numbers v v_in).1
+    low (get_or numbers.heads.items v 0) c (floor.0.tail x) (floor.0.head v) (tight floor.0 floor.1.numbers c arc) (floor.1.tails x x_in)
+    (high floor.0 floor.1.numbers v v_in).1
   where
-    low : (h c : ℕ) (qt qh : ℤ) → qh -ℤ qt ≡ pos c → (pos 0 -ℤ pos 5000000000000000) ≤ℤ qt → qh ≤ℤ (pos 0 -ℤ pos h) → c + h ≤ 5000000000000000
+    low : (h c : ℕ) (qt qh : ℤ) → qh -ℤ qt ≡ pos c → (pos 0 -ℤ pos 5000000000000000) ≤ℤ qt →
+        qh ≤ℤ (pos 0 -ℤ pos h) → c + h ≤ 5000000000000000
     low h c qt qh e bottom top = omega (arith, ints)
 
 -- a row's number is pressed
-pub tail_pressed : (net : Net) (placing : Placing) (old new : Falls) (x v c : ℕ) → x ≤ net.nodes → v ≤ net.nodes → HasPlaces net.nodes old → AreHigh net placing old → IsFloored net placing → IsTightIn net placing x v → net.arc x v ≡ Some c →
-    new.heads.items ≡ old.heads.items → get_or old.tails.items x 0 < c + get_or old.heads.items v 0 → new.tails.items ≡ set old.tails.items x (c + get_or old.heads.items v 0) → IsSwept net placing old new true
+pub tail_pressed : (net : Net) (placing : Placing) (old new : Falls) (x v c : ℕ) → x ≤ net.nodes → v ≤ net.nodes → HasPlaces net.nodes old →
+    AreHigh net placing old → IsFloored net placing → IsTightIn net placing x v → net.arc x v ≡ Some c →
+    new.heads.items ≡ old.heads.items → get_or old.tails.items x 0 < c + get_or old.heads.items v 0 →
+    new.tails.items ≡ set old.tails.items x (c + get_or old.heads.items v 0) → IsSwept net placing old new true
 tail_pressed net placing old new x v c x_in v_in places high floor tight arc heads less tails = record {
   places = record { heads = ap length heads ∙ places.heads; tails = ap length tails ∙ (length-set old.tails.items x least ∙ places.tails) };
   high = high_now;
@@ -121,8 +136,11 @@ tail_pressed net placing old new x v c x_in v_in places high floor tight arc hea
     high_now q is y y_in =
         let before = high q is y y_in in
         let head_same : get_or new.heads.items y 0 ≡ get_or old.heads.items y 0 = ap (λ (l : List ℕ). get_or l y 0) heads in
-        let tail_is : get_or new.tails.items y 0 ≡ cond (y == x) least (get_or old.tails.items y 0) = ap (λ (l : List ℕ). get_or l y 0) tails ∙ set_at old.tails.items x least 0 x_at y in
-        (subst (λ (k : ℕ). q.tail y ≤ℤ (pos 0 -ℤ pos k)) (sym tail_is) (go (y == x) refl), subst (λ (k : ℕ). q.head y ≤ℤ (pos 0 -ℤ pos k)) (sym head_same) before.1)
+        let tail_is : get_or new.tails.items y 0 ≡ cond (y == x) least (get_or old.tails.items y 0) =
+        ap (λ (l : List ℕ). get_or l y 0) tails ∙ set_at old.tails.items x least 0 x_at y in (
+          subst (λ (k : ℕ). q.tail y ≤ℤ (pos 0 -ℤ pos k)) (sym tail_is) (go (y == x) refl),
+          subst (λ (k : ℕ). q.head y ≤ℤ (pos 0 -ℤ pos k)) (sym head_same) before.1,
+        )
       where
         go : (b : Bool) → (y == x) ≡ b → q.tail y ≤ℤ (pos 0 -ℤ pos (cond b least (get_or old.tails.items y 0)))
         go false e = (high q is y y_in).0
@@ -131,20 +149,29 @@ tail_pressed net placing old new x v c x_in v_in places high floor tight arc hea
             let at_x = pressed (get_or old.heads.items v 0) c (q.tail x) (q.head v) (tight q is c arc) (high q is v v_in).1 in
             subst (λ (w : ℕ). q.tail w ≤ℤ (pos 0 -ℤ pos least)) (sym same) at_x
 
-pub head_swept : (net : Net) (placing : Placing) (old new : Falls) (x v c : ℕ) (r : Bool) → x ≤ net.nodes → v ≤ net.nodes → HasPlaces net.nodes old → AreHigh net placing old → IsFloored net placing → net.arc x v ≡ Some c →
-    new.tails.items ≡ old.tails.items → (r ≡ true → get_or old.heads.items v 0 < get_or old.tails.items x 0 - c) → (r ≡ true → new.heads.items ≡ set old.heads.items v (get_or old.tails.items x 0 - c)) → (r ≡ false → new ≡ old) →
+pub head_swept : (net : Net) (placing : Placing) (old new : Falls) (x v c : ℕ) (r : Bool) → x ≤ net.nodes → v ≤ net.nodes →
+    HasPlaces net.nodes old → AreHigh net placing old → IsFloored net placing → net.arc x v ≡ Some c →
+    new.tails.items ≡ old.tails.items → (r ≡ true → get_or old.heads.items v 0 < get_or old.tails.items x 0 - c) →
+    (r ≡ true → new.heads.items ≡ set old.heads.items v (get_or old.tails.items x 0 - c)) → (r ≡ false → new ≡ old) →
     IsSwept net placing old new r
-head_swept net placing old new x v c true x_in v_in places high floor arc tails less heads same = head_pressed net placing old new x v c x_in v_in places high floor arc tails (less refl) (heads refl)
-head_swept net placing old new x v c false x_in v_in places high floor arc tails less heads same = subst (λ (f : Falls). IsSwept net placing old f false) (sym (same refl)) (swept_start net placing old places high)
+head_swept net placing old new x v c true x_in v_in places high floor arc tails less heads same =
+    head_pressed net placing old new x v c x_in v_in places high floor arc tails (less refl) (heads refl)
+head_swept net placing old new x v c false x_in v_in places high floor arc tails less heads same =
+    subst (λ (f : Falls). IsSwept net placing old f false) (sym (same refl)) (swept_start net placing old places high)
 
-pub tail_swept : (net : Net) (placing : Placing) (old new : Falls) (x v c : ℕ) (r : Bool) → x ≤ net.nodes → v ≤ net.nodes → HasPlaces net.nodes old → AreHigh net placing old → IsFloored net placing → IsTightIn net placing x v → net.arc x v ≡ Some c →
-    new.heads.items ≡ old.heads.items → (r ≡ true → get_or old.tails.items x 0 < c + get_or old.heads.items v 0) → (r ≡ true → new.tails.items ≡ set old.tails.items x (c + get_or old.heads.items v 0)) → (r ≡ false → new ≡ old) →
+pub tail_swept : (net : Net) (placing : Placing) (old new : Falls) (x v c : ℕ) (r : Bool) → x ≤ net.nodes → v ≤ net.nodes →
+    HasPlaces net.nodes old → AreHigh net placing old → IsFloored net placing → IsTightIn net placing x v → net.arc x v ≡ Some c →
+    new.heads.items ≡ old.heads.items → (r ≡ true → get_or old.tails.items x 0 < c + get_or old.heads.items v 0) →
+    (r ≡ true → new.tails.items ≡ set old.tails.items x (c + get_or old.heads.items v 0)) → (r ≡ false → new ≡ old) →
     IsSwept net placing old new r
-tail_swept net placing old new x v c true x_in v_in places high floor tight arc heads less tails same = tail_pressed net placing old new x v c x_in v_in places high floor tight arc heads (less refl) (tails refl)
-tail_swept net placing old new x v c false x_in v_in places high floor tight arc heads less tails same = subst (λ (f : Falls). IsSwept net placing old f false) (sym (same refl)) (swept_start net placing old places high)
+tail_swept net placing old new x v c true x_in v_in places high floor tight arc heads less tails same =
+    tail_pressed net placing old new x v c x_in v_in places high floor tight arc heads (less refl) (tails refl)
+tail_swept net placing old new x v c false x_in v_in places high floor tight arc heads less tails same =
+    subst (λ (f : Falls). IsSwept net placing old f false) (sym (same refl)) (swept_start net placing old places high)
 
 -- what was asked so far, and one thing more
-pub asked_more : (P : Falls → ℕ → Type 0) (k : ℕ) (mid new : Falls) (a b : Bool) → (a ≡ false → (w : ℕ) → w < k → P mid w) → (b ≡ false → new ≡ mid) → (b ≡ false → P new k) → cond a true b ≡ false → (w : ℕ) → w < k + 1 → P new w
+pub asked_more : (P : Falls → ℕ → Type 0) (k : ℕ) (mid new : Falls) (a b : Bool) → (a ≡ false → (w : ℕ) → w < k → P mid w) →
+    (b ≡ false → new ≡ mid) → (b ≡ false → P new k) → cond a true b ≡ false → (w : ℕ) → w < k + 1 → P new w
 asked_more P k mid new a b before same here e w below =
     let both = or_false a b e in
     elim (cases_lt w k) [
@@ -153,8 +180,10 @@ asked_more P k mid new a b before same here e w below =
     ]
 
 -- where nothing moves, all conditions hold
-pub numbers_hold : (net : Net) → IsRising net → (placing : Placing) (numbers : Falls) → IsFloored net placing → ((x v : ℕ) → x ≤ net.nodes → v ≤ net.nodes → IsFitting net numbers x v) →
-    ((t : ℕ) → t < net.nodes → IsTaut net numbers t (get_or placing.to.items t 0)) → ((u : ℕ) → u < net.nodes → get_or placing.from.items u 0 ≡ net.nodes → IsTaut net numbers net.nodes u) →
+pub numbers_hold : (net : Net) → IsRising net → (placing : Placing) (numbers : Falls) → IsFloored net placing →
+    ((x v : ℕ) → x ≤ net.nodes → v ≤ net.nodes → IsFitting net numbers x v) →
+    ((t : ℕ) → t < net.nodes → IsTaut net numbers t (get_or placing.to.items t 0)) →
+    ((u : ℕ) → u < net.nodes → get_or placing.from.items u 0 ≡ net.nodes → IsTaut net numbers net.nodes u) →
     (0 < placing.spare → IsTaut net numbers net.nodes net.nodes) → AreNumbersOf net placing (potentials_of numbers)
 numbers_hold net rising placing numbers floor fits rows starts stay = record {
   tails = λ x x_in. below (get_or numbers.tails.items x 0);
@@ -162,12 +191,23 @@ numbers_hold net rising placing numbers floor fits rows starts stay = record {
   feasible = λ x v c x_in v_in arc. feasible (get_or numbers.heads.items v 0) (get_or numbers.tails.items x 0) c (fits x v x_in v_in c arc);
   tight = record {
     rows = λ t t_in there.
-        let arc : IsTightArc net floor.0 t (get_or placing.to.items t 0) = floor.1.numbers.tight.rows t t_in there in
-        (arc.0, arc.1, λ c e. tight (get_or numbers.heads.items (get_or placing.to.items t 0) 0) (get_or numbers.tails.items t 0) c (fits t (get_or placing.to.items t 0) (omega arith) there c e) (rows t t_in c e), there);
+        let arc : IsTightArc net floor.0 t (get_or placing.to.items t 0) = floor.1.numbers.tight.rows t t_in there in (
+          arc.0,
+          arc.1,
+          λ c e. tight (get_or numbers.heads.items (get_or placing.to.items t 0) 0) (get_or numbers.tails.items t 0) c
+              (fits t (get_or placing.to.items t 0) (omega arith) there c e) (rows t t_in c e),
+          there,
+        );
     store = λ u u_in from_store.
-        let arc : IsTightArc net floor.0 net.nodes u = floor.1.numbers.tight.store u u_in from_store in
-        (arc.0, arc.1, λ c e. tight (get_or numbers.heads.items u 0) (get_or numbers.tails.items net.nodes 0) c (fits net.nodes u (omega arith) (omega arith) c e) (starts u u_in from_store c e), omega arith);
-    stays = λ some. equal (get_or numbers.heads.items net.nodes 0) (get_or numbers.tails.items net.nodes 0) (fits net.nodes net.nodes (omega arith) (omega arith) 0 rising.stays) (stay some 0 rising.stays);
+        let arc : IsTightArc net floor.0 net.nodes u = floor.1.numbers.tight.store u u_in from_store in (
+          arc.0,
+          arc.1,
+          λ c e. tight (get_or numbers.heads.items u 0) (get_or numbers.tails.items net.nodes 0) c
+              (fits net.nodes u (omega arith) (omega arith) c e) (starts u u_in from_store c e),
+          omega arith,
+        );
+    stays = λ some. equal (get_or numbers.heads.items net.nodes 0) (get_or numbers.tails.items net.nodes 0)
+        (fits net.nodes net.nodes (omega arith) (omega arith) 0 rising.stays) (stay some 0 rising.stays);
   };
 }
   where
@@ -184,10 +224,12 @@ numbers_hold net rising placing numbers floor fits rows starts stay = record {
     equal h t fit taut = omega (arith, ints)
 
 -- the arcs of the matching are tight in all numbers
-pub tight_row : (net : Net) (placing : Placing) (t : ℕ) → t < net.nodes → get_or placing.to.items t 0 ≤ net.nodes → IsTightIn net placing t (get_or placing.to.items t 0)
+pub tight_row : (net : Net) (placing : Placing) (t : ℕ) → t < net.nodes → get_or placing.to.items t 0 ≤ net.nodes →
+    IsTightIn net placing t (get_or placing.to.items t 0)
 tight_row net placing t t_in there q is c arc = (is.tight.rows t t_in there).2 c arc
 
-pub tight_start : (net : Net) (placing : Placing) (u : ℕ) → u < net.nodes → get_or placing.from.items u 0 ≡ net.nodes → IsTightIn net placing net.nodes u
+pub tight_start : (net : Net) (placing : Placing) (u : ℕ) → u < net.nodes → get_or placing.from.items u 0 ≡ net.nodes →
+    IsTightIn net placing net.nodes u
 tight_start net placing u u_in from_store q is c arc = (is.tight.store u u_in from_store).2 c arc
 
 pub tight_unused : (net : Net) → IsRising net → (placing : Placing) → 0 < placing.spare → IsTightIn net placing net.nodes net.nodes

@@ -51,7 +51,8 @@ path_is net t ts y e =
     let parts = cond_some (all_below net.nodes (t ∷ ts)) (both (net.arc net.nodes t) (rest_cost net t ts)) y e in
     record { below = all_below_is net.nodes (t ∷ ts) parts.0; costs = both_some (net.arc net.nodes t) (rest_cost net t ts) y parts.1 }
 
-rest_rises : (net : Net) → IsRising net → (t : ℕ) (ts : List ℕ) (y : ℕ) → t < net.nodes → AllBelow net.nodes ts → rest_cost net t ts ≡ Some y → Rises (t ∷ ts)
+rest_rises : (net : Net) → IsRising net → (t : ℕ) (ts : List ℕ) (y : ℕ) → t < net.nodes → AllBelow net.nodes ts →
+    rest_cost net t ts ≡ Some y → Rises (t ∷ ts)
 rest_rises net rising t [] y within below e = tt
 rest_rises net rising t (u ∷ us) y within below e =
     let parts = both_some (net.arc t u) (rest_cost net u us) y e in
@@ -68,7 +69,8 @@ paths_listed net rising class (t ∷ ts) worth e =
 abbrev pub gain : Potentials → ℕ → ℤ
 gain p t = p.head t -ℤ p.tail t
 
-pub rest_gain : (net : Net) (p : Potentials) → AreFeasible net p → (t : ℕ) (ts : List ℕ) (y : ℕ) → t < net.nodes → AllBelow net.nodes ts → rest_cost net t ts ≡ Some y →
+pub rest_gain : (net : Net) (p : Potentials) → AreFeasible net p → (t : ℕ) (ts : List ℕ) (y : ℕ) → t < net.nodes → AllBelow net.nodes ts →
+    rest_cost net t ts ≡ Some y →
     (sum_each (gain p) ts +ℤ (p.head net.nodes -ℤ p.tail t)) ≤ℤ pos y
 rest_gain net p feasible t [] y within below e = let last = feasible t net.nodes y (omega arith) (omega arith) e in omega (arith, ints)
 rest_gain net p feasible t (u ∷ us) y within below e =
@@ -113,15 +115,18 @@ tight_is : (net : Net) (p : Potentials) (x v y : ℕ) → net.arc x v ≡ Some y
 tight_is net p x v y e equal c e' = let same : y ≡ c = some_same y c (sym e ∙ e') in equal ∙ ap pos same
 
 -- only there
-pub tight_rest : (net : Net) (p : Potentials) → AreFeasible net p → (t : ℕ) (ts : List ℕ) (y : ℕ) → t < net.nodes → AllBelow net.nodes ts → rest_cost net t ts ≡ Some y →
+pub tight_rest : (net : Net) (p : Potentials) → AreFeasible net p → (t : ℕ) (ts : List ℕ) (y : ℕ) → t < net.nodes → AllBelow net.nodes ts →
+    rest_cost net t ts ≡ Some y →
     sum_each (gain p) ts +ℤ (p.head net.nodes -ℤ p.tail t) ≡ pos y → IsTightFrom net p t ts
 tight_rest net p feasible t [] y within below e equal = tight_is net p t net.nodes y e (omega (arith, ints))
 tight_rest net p feasible t (u ∷ us) y within below e equal =
     let parts = both_some (net.arc t u) (rest_cost net u us) y e in
     let within' : u < net.nodes = below.0 in
     let first = feasible t u parts.first (omega arith) (omega arith) parts.first_is in
-    let rest = rest_gain net p feasible u us parts.second within' below.1 parts.second_is in
-    (tight_is net p t u parts.first parts.first_is (omega (arith, ints, parts.sum)), tight_rest net p feasible u us parts.second within' below.1 parts.second_is (omega (arith, ints, parts.sum)))
+    let rest = rest_gain net p feasible u us parts.second within' below.1 parts.second_is in (
+      tight_is net p t u parts.first parts.first_is (omega (arith, ints, parts.sum)),
+      tight_rest net p feasible u us parts.second within' below.1 parts.second_is (omega (arith, ints, parts.sum)),
+    )
 
 pub tight_path : (net : Net) (p : Potentials) → AreFeasible net p → (list : List ℕ) (y : ℕ) → path_cost net list ≡ Some y →
     sum_each (gain p) list ≡ pos y +ℤ (p.tail net.nodes -ℤ p.head net.nodes) → IsTightPath net p list
@@ -130,5 +135,7 @@ tight_path net p feasible (t ∷ ts) y e equal =
     let path = path_is net t ts y e in
     let within : t < net.nodes = path.below.0 in
     let first = feasible net.nodes t path.costs.first (omega arith) (omega arith) path.costs.first_is in
-    let rest = rest_gain net p feasible t ts path.costs.second within path.below.1 path.costs.second_is in
-    (tight_is net p net.nodes t path.costs.first path.costs.first_is (omega (arith, ints, path.costs.sum)), tight_rest net p feasible t ts path.costs.second within path.below.1 path.costs.second_is (omega (arith, ints, path.costs.sum)))
+    let rest = rest_gain net p feasible t ts path.costs.second within path.below.1 path.costs.second_is in (
+      tight_is net p net.nodes t path.costs.first path.costs.first_is (omega (arith, ints, path.costs.sum)),
+      tight_rest net p feasible t ts path.costs.second within path.below.1 path.costs.second_is (omega (arith, ints, path.costs.sum)),
+    )

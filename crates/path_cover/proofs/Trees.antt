@@ -12,7 +12,8 @@ use Rattle.path_cover.specs.Matchings.{IsHeld, IsTightArc, IsTightMatching}
 use Rattle.path_cover.specs.Trees.{Tree, Matching, Aim, IsTree}
 
 -- the seen columns are held by the seen rows
-closed : (net : Net) (p : Potentials) (m : Matching) (a : Aim) (tree : Tree) → IsTree net p m a tree → IsClosed net.nodes m.to m.from m.spare m.room a.root a.fixed tree.rows tree.columns
+closed : (net : Net) (p : Potentials) (m : Matching) (a : Aim) (tree : Tree) → IsTree net p m a tree →
+    IsClosed net.nodes m.to m.from m.spare m.room a.root a.fixed tree.rows tree.columns
 closed net p m a tree is = record {
   root_in = is.root_in;
   root_free = is.root_free;
@@ -29,13 +30,15 @@ closed net p m a tree is = record {
 }
 
 -- where nothing is offered, there is no cover
-pub stuck_no_cover : (net : Net) → IsRising net → (p : Potentials) (m : Matching) (a : Aim) (tree : Tree) → IsHeld net.nodes net.most m.to m.from m.spare m.room → IsTree net p m a tree →
+pub stuck_no_cover : (net : Net) → IsRising net → (p : Potentials) (m : Matching) (a : Aim) (tree : Tree) →
+    IsHeld net.nodes net.most m.to m.from m.spare m.room → IsTree net p m a tree →
     a.fixed ≡ 0 → net.nodes < a.limit → ((v : ℕ) → v ≤ net.nodes → tree.columns v ≡ false → tree.least v ≡ None) →
     (lists : List (List ℕ)) → IsCover net lists → ⊥
 stuck_no_cover net rising p m a tree held is none_fixed no_limit none lists cover =
     let closed_here = closed net p m a tree is in
     let P : ℕ → Type 0 = λ fixed. IsClosed net.nodes m.to m.from m.spare m.room a.root fixed tree.rows tree.columns in
-    no_cover net rising m.to m.from m.spare m.room a.root tree.rows tree.columns held (subst P none_fixed closed_here) is.root_seen reach lists cover
+    no_cover net rising m.to m.from m.spare m.room a.root tree.rows tree.columns held (subst P none_fixed closed_here)
+    is.root_seen reach lists cover
   where
     reach : (x v : ℕ) → x ≤ net.nodes → tree.rows x ≡ true → IsArc net x v → tree.columns v ≡ true
     reach x v x_in seen arc = elim (either (tree.columns v)) [
@@ -49,7 +52,8 @@ stuck_no_cover net rising p m a tree held is none_fixed no_limit none lists cove
     ]
 
 -- where what is offered costs more than nothing, no least cover that agrees on the rows before comes earlier
-pub stuck_not_before : (net : Net) → IsRising net → (p : Potentials) → AreFeasible net p → (m : Matching) (a : Aim) (tree : Tree) → IsHeld net.nodes net.most m.to m.from m.spare m.room → IsTree net p m a tree →
+pub stuck_not_before : (net : Net) → IsRising net → (p : Potentials) → AreFeasible net p → (m : Matching) (a : Aim) (tree : Tree) →
+    IsHeld net.nodes net.most m.to m.from m.spare m.room → IsTree net p m a tree →
     a.fixed ≡ suc a.root → ((v : ℕ) (d : ℤ) → v ≤ net.nodes → tree.columns v ≡ false → tree.least v ≡ Some d → pos 0 <ℤ d) →
     (lists : List (List ℕ)) → IsCover net lists → IsSlack net p lists →
     ((t : ℕ) → t < a.root → successor net.nodes lists t ≡ m.to t) → a.limit ≤ successor net.nodes lists a.root
@@ -74,13 +78,18 @@ stuck_not_before net rising p feasible m a tree held is after_root far lists cov
 
 -- lowering the numbers of what is seen
 abbrev pub lowered : Potentials → Tree → ℤ → Potentials
-lowered p tree by = record { tail = λ x. cond (tree.rows x) (p.tail x -ℤ by) (p.tail x); head = λ v. cond (tree.columns v) (p.head v -ℤ by) (p.head v) }
+lowered p tree by = record {
+  tail = λ x. cond (tree.rows x) (p.tail x -ℤ by) (p.tail x);
+  head =
+      λ v. cond (tree.columns v) (p.head v -ℤ by) (p.head v);
+}
 
 -- at least this is offered for each unseen column
 abbrev pub IsLeast : Net → Tree → ℤ → Type 0
 IsLeast net tree by = (v : ℕ) (d : ℤ) → v ≤ net.nodes → tree.columns v ≡ false → tree.least v ≡ Some d → by ≤ℤ d
 
-pub lowered_feasible : (net : Net) (p : Potentials) (m : Matching) (a : Aim) (tree : Tree) (by : ℤ) → AreFeasible net p → IsTree net p m a tree → net.nodes < a.limit → pos 0 ≤ℤ by → IsLeast net tree by → AreFeasible net (lowered p tree by)
+pub lowered_feasible : (net : Net) (p : Potentials) (m : Matching) (a : Aim) (tree : Tree) (by : ℤ) → AreFeasible net p →
+    IsTree net p m a tree → net.nodes < a.limit → pos 0 ≤ℤ by → IsLeast net tree by → AreFeasible net (lowered p tree by)
 lowered_feasible net p m a tree by feasible is no_limit some least x v c x_in v_in e = go (tree.rows x) (tree.columns v) refl refl
   where
     go : (r k : Bool) → tree.rows x ≡ r → tree.columns v ≡ k → ((lowered p tree by).head v -ℤ (lowered p tree by).tail x) ≤ℤ pos c
@@ -94,7 +103,8 @@ lowered_feasible net p m a tree by feasible is no_limit some least x v c x_in v_
         rw (row, column) (omega (arith, ints))
 
 -- an arc that is tight stays so where its ends are seen both or neither
-pub lowered_tight : (net : Net) (p : Potentials) (tree : Tree) (by : ℤ) (x v : ℕ) → tree.rows x ≡ tree.columns v → IsTightArc net p x v → IsTightArc net (lowered p tree by) x v
+pub lowered_tight : (net : Net) (p : Potentials) (tree : Tree) (by : ℤ) (x v : ℕ) → tree.rows x ≡ tree.columns v → IsTightArc net p x v →
+    IsTightArc net (lowered p tree by) x v
 lowered_tight net p tree by x v same arc = (arc.0, arc.1, go (tree.rows x) (tree.columns v) refl refl same, arc.3)
   where
     go : (r k : Bool) → tree.rows x ≡ r → tree.columns v ≡ k → r ≡ k → IsTight net (lowered p tree by) x v
@@ -104,7 +114,8 @@ lowered_tight net p tree by x v same arc = (arc.0, arc.1, go (tree.rows x) (tree
     go false true row column e c is = absurd (cc)
 
 -- where a lowering is by more than nothing, the row of a tight arc is seen only with its column
-pub seen_with : (net : Net) (p : Potentials) (m : Matching) (a : Aim) (tree : Tree) (by : ℤ) → IsTree net p m a tree → net.nodes < a.limit → pos 0 <ℤ by → IsLeast net tree by →
+pub seen_with : (net : Net) (p : Potentials) (m : Matching) (a : Aim) (tree : Tree) (by : ℤ) → IsTree net p m a tree → net.nodes < a.limit →
+    pos 0 <ℤ by → IsLeast net tree by →
     (x v : ℕ) → x ≤ net.nodes → IsTightArc net p x v → tree.rows x ≡ true → tree.columns v ≡ true
 seen_with net p m a tree by is no_limit some least x v x_in arc row = elim (either (tree.columns v)) [
   | inl column ↦ column
@@ -123,20 +134,27 @@ same_seen false true there back = back refl
 same_seen false false there back = refl
 
 -- the matching stays tight
-pub lowered_matching : (net : Net) → IsRising net → (p : Potentials) (m : Matching) (a : Aim) (tree : Tree) (by : ℤ) → IsHeld net.nodes net.most m.to m.from m.spare m.room → IsTree net p m a tree →
+pub lowered_matching : (net : Net) → IsRising net → (p : Potentials) (m : Matching) (a : Aim) (tree : Tree) (by : ℤ) →
+    IsHeld net.nodes net.most m.to m.from m.spare m.room → IsTree net p m a tree →
     IsTightMatching net p m.to m.from m.spare → a.fixed ≡ 0 → net.nodes < a.limit → pos 0 <ℤ by → IsLeast net tree by →
     IsTightMatching net (lowered p tree by) m.to m.from m.spare
 lowered_matching net rising p m a tree by held is tight none_fixed no_limit some least = record {
   rows = λ t t_in there.
       let arc = tight.rows t t_in there in
-      lowered_tight net p tree by t (m.to t) (same_seen (tree.rows t) (tree.columns (m.to t)) (seen_with net p m a tree by is no_limit some least t (m.to t) (omega arith) arc) (row_seen t t_in there)) arc;
+      lowered_tight net p tree by t (m.to t)
+      (same_seen (tree.rows t) (tree.columns (m.to t)) (seen_with net p m a tree by is no_limit some least t (m.to t) (omega arith) arc)
+      (row_seen t t_in there)) arc;
   store = λ u u_in from_store.
       let arc = tight.store u u_in from_store in
-      lowered_tight net p tree by net.nodes u (same_seen (tree.rows net.nodes) (tree.columns u) (seen_with net p m a tree by is no_limit some least net.nodes u (omega arith) arc) (store_seen u u_in from_store)) arc;
+      lowered_tight net p tree by net.nodes u
+      (same_seen (tree.rows net.nodes) (tree.columns u) (seen_with net p m a tree by is no_limit some least net.nodes u (omega arith) arc)
+      (store_seen u u_in from_store)) arc;
   stays = λ more.
       let equal = tight.stays more in
       let arc : IsTightArc net p net.nodes net.nodes = (0, rising.stays, tight_stay equal, omega arith) in
-      let same = same_seen (tree.rows net.nodes) (tree.columns net.nodes) (seen_with net p m a tree by is no_limit some least net.nodes net.nodes (omega arith) arc) (λ column. (is.full net.nodes (omega arith) column).stays refl more) in
+      let same = same_seen (tree.rows net.nodes) (tree.columns net.nodes)
+      (seen_with net p m a tree by is no_limit some least net.nodes net.nodes (omega arith) arc)
+      (λ column. (is.full net.nodes (omega arith) column).stays refl more) in
       let after = lowered_tight net p tree by net.nodes net.nodes same arc in
       let tight_after : (lowered p tree by).head net.nodes -ℤ (lowered p tree by).tail net.nodes ≡ pos 0 = after.2 0 rising.stays in
       apart_none ((lowered p tree by).head net.nodes) ((lowered p tree by).tail net.nodes) tight_after;
@@ -169,7 +187,15 @@ lowered_matching net rising p m a tree by held is tight none_fixed no_limit some
 
 -- the tree stays a tree: each offer falls as the rows' potentials do
 abbrev pub fallen : Tree → ℤ → Tree
-fallen tree by = record { rows = tree.rows; columns = tree.columns; by = tree.by; via = tree.via; least = λ v. option_map (λ d. d -ℤ by) (tree.least v); depth = tree.depth }
+fallen tree by = record {
+  rows = tree.rows;
+  columns = tree.columns;
+  by = tree.by;
+  via = tree.via;
+  least =
+      λ v. option_map (λ d. d -ℤ by) (tree.least v);
+  depth = tree.depth;
+}
 
 less_offer : (o : Option ℤ) (by d : ℤ) → option_map (λ (z : ℤ). z -ℤ by) o ≡ Some d → (z : ℤ) × (o ≡ Some z) × (z -ℤ by ≡ d)
 less_offer None by d e = absurd (cc)
@@ -178,13 +204,24 @@ less_offer (Some z) by d e = (z, refl, some_int (z -ℤ by) d e)
     some_int : (a b : ℤ) → Some a ≡ Some b → a ≡ b
     some_int a b e = let f : Option ℤ → ℤ = λ o. unwrap_or o a in ap f e
 
-pub fallen_tree : (net : Net) (p : Potentials) (m : Matching) (a : Aim) (tree : Tree) (by : ℤ) → IsTree net p m a tree → IsTree net (lowered p tree by) m a (fallen tree by)
+pub fallen_tree : (net : Net) (p : Potentials) (m : Matching) (a : Aim) (tree : Tree) (by : ℤ) → IsTree net p m a tree →
+    IsTree net (lowered p tree by) m a (fallen tree by)
 fallen_tree net p m a tree by is = record {
   root_in = is.root_in;
   root_free = is.root_free;
   root_seen = is.root_seen;
   fixed_in = is.fixed_in;
-  reached = λ x x_in seen apart. let was = is.reached x x_in seen apart in record { movable = was.movable; within = was.within; seen = was.seen; row = was.row; store = was.store; stays = was.stays; deeper = was.deeper };
+  reached = λ x x_in seen apart. let was = is.reached x x_in seen apart in
+      record {
+        movable = was.movable;
+        within = was.within;
+        seen = was.seen;
+        row = was.row;
+        store = was.store;
+        stays =
+            was.stays;
+        deeper = was.deeper;
+      };
   full = λ v v_in seen. let was = is.full v v_in seen in record {
     within = was.within;
     seen = was.seen;
@@ -206,5 +243,13 @@ fallen_tree net p m a tree by is = record {
       let equal = was.is in
       let less = before.2 in
       let row = was.seen in
-      record { within = was.within; seen = was.seen; allowed = was.allowed; cost = was.cost; arc = was.arc; is = rw (row, column) (omega (arith, ints)) };
+      record {
+        within = was.within;
+        seen = was.seen;
+        allowed = was.allowed;
+        cost = was.cost;
+        arc = was.arc;
+        is =
+            rw (row, column) (omega (arith, ints));
+      };
 }

@@ -44,7 +44,8 @@ lt_true a b h = grind (arith, nat_tests)
 pub lt_false : (a b : ℕ) → b ≤ a → nat_lt a b ≡ false
 lt_false a b h = grind (arith, nat_tests)
 
-pub taken_held : (n most free x v : ℕ) (m : Matching) → HeldBut n most 0 m → n < free → Holds n x v m → HeldBut n most (in_hand n x) (taken n free x v m)
+pub taken_held : (n most free x v : ℕ) (m : Matching) → HeldBut n most 0 m → n < free → Holds n x v m →
+    HeldBut n most (in_hand n x) (taken n free x v m)
 taken_held n most free x v m is outside holds = elim (cases_lt x n) [
   | inl row ↦ elim (cases_lt v n) [
     | inl column ↦
@@ -73,14 +74,16 @@ taken_held n most free x v m is outside holds = elim (cases_lt x n) [
       ]
 ]
 
-pub placed_held : (n most x v : ℕ) (m : Matching) → HeldBut n most (in_hand n x) m → x ≤ n → (x < n → n < m.to x) → HasPlace n v m → HeldBut n most 0 (placed n x v m)
+pub placed_held : (n most x v : ℕ) (m : Matching) → HeldBut n most (in_hand n x) m → x ≤ n → (x < n → n < m.to x) → HasPlace n v m →
+    HeldBut n most 0 (placed n x v m)
 placed_held n most x v m is row_in row_free place = elim (cases_lt x n) [
   | inl row ↦
       let r = lt_true x n row in
       let H : Bool → Type 0 = λ b. IsHeldBut n most m.to m.from m.spare m.room (cond b 0 1) in
       let is' : HeldBut n most 0 m = subst H r is in
       elim (cases_lt v n) [
-        | inl column ↦ let k = lt_true v n column in rw (r, k) (put_row n most m.to m.from m.spare m.room 0 x v is' row column (row_free row) (place.column column))
+        | inl column ↦ let k = lt_true v n column in
+            rw (r, k) (put_row n most m.to m.from m.spare m.room 0 x v is' row column (row_free row) (place.column column))
         | inr past ↦
             let k = lt_false v n past in
             let column_in = place.column_in in
@@ -142,11 +145,13 @@ taken_other n free x v w m outside place = record {
 abbrev pub moved : ℕ → ℕ → ℕ → ℕ → ℕ → Matching → Matching
 moved n free x old v m = placed n x v (taken n free x old m)
 
-pub moved_held : (n most free x old v : ℕ) (m : Matching) → IsHeld n most m.to m.from m.spare m.room → n < free → Holds n x old m → HasPlace n v m →
+pub moved_held : (n most free x old v : ℕ) (m : Matching) → IsHeld n most m.to m.from m.spare m.room → n < free →
+    Holds n x old m → HasPlace n v m →
     IsHeld n most (moved n free x old v m).to (moved n free x old v m).from (moved n free x old v m).spare (moved n free x old v m).room
 moved_held n most free x old v m is outside holds place =
     let hand = taken_held n most free x old m (held_but n most m.to m.from m.spare m.room is) outside holds in
-    but_held n most _ _ _ _ (placed_held n most x v (taken n free x old m) hand holds.row_in (λ row. taken_row n free x old m outside row) (taken_other n free x old v m outside place))
+    but_held n most _ _ _ _ (placed_held n most x v (taken n free x old m) hand holds.row_in (λ row. taken_row n free x old m outside row)
+    (taken_other n free x old v m outside place))
 
 -- the root is placed at last
 pub rooted_held : (n most x v : ℕ) (m : Matching) → IsHeld n most m.to m.from m.spare m.room → x < n → n < m.to x → HasPlace n v m →

@@ -32,11 +32,16 @@ pub record IsWalk (net : Net) (p : Potentials) (a : Aim) (tree : Tree) (m : Matc
   pub root_free : net.nodes < m.to a.root
   pub step : IsStep net p a tree v
   pub steps : (w : ℕ) → w ≤ net.nodes → tree.columns w ≡ true → IsStep net p a tree w
-  pub reached : (x : ℕ) → x ≤ net.nodes → tree.rows x ≡ true → x ≢ a.root → tree.depth x ≤ tree.depth (tree.via v) → IsReached net m a tree x
+  pub reached : (x : ℕ) → x ≤ net.nodes → tree.rows x ≡ true → x ≢ a.root → tree.depth x ≤ tree.depth (tree.via v) →
+      IsReached net m a tree x
 
 -- potentials are kept as how far they are below 0
 abbrev pub potentials_of : Falls → Potentials
-potentials_of falls = record { tail = λ x. pos 0 -ℤ pos (slice_index falls.tails.items x); head = λ v. pos 0 -ℤ pos (slice_index falls.heads.items v) }
+potentials_of falls = record {
+  tail = λ x. pos 0 -ℤ pos (slice_index falls.tails.items x);
+  head =
+      λ v. pos 0 -ℤ pos (slice_index falls.heads.items v);
+}
 
 abbrev pub tree_of : Growth → Tree
 tree_of growth = record {
@@ -62,11 +67,13 @@ pub record IsKeptAs (n : ℕ) (placing : Placing) (m : Matching) : Type 0 where
 
 -- a walk over a matching as it is kept
 abbrev pub IsWalkOf : Net → Falls → Target → Growth → Placing → ℕ → Type 0
-IsWalkOf net falls target growth placing v = (m : Matching) × IsKeptAs net.nodes placing m × IsWalk net (potentials_of falls) (aim_of target) (tree_of growth) m v
+IsWalkOf net falls target growth placing v =
+    (m : Matching) × IsKeptAs net.nodes placing m × IsWalk net (potentials_of falls) (aim_of target) (tree_of growth) m v
 
 -- a tight matching as it is kept
 abbrev pub IsTightAs : Net → Falls → Placing → Type 0
-IsTightAs net falls placing = (m : Matching) × IsKeptAs net.nodes placing m × IsHeld net.nodes net.most m.to m.from m.spare m.room × IsTightMatching net (potentials_of falls) m.to m.from m.spare
+IsTightAs net falls placing = (m : Matching) × IsKeptAs net.nodes placing m × IsHeld net.nodes net.most m.to m.from m.spare m.room
+    × IsTightMatching net (potentials_of falls) m.to m.from m.spare
 
 -- what a search leaves as it was: rows below the fixed one, but for the root, keep their columns, and no row loses its place
 pub record IsFramed (n : ℕ) (target : Target) (old new : List ℕ) : Type 0 where

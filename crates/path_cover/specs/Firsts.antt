@@ -14,4 +14,5 @@ AllPlaced n placing = (t : ℕ) → t < n → slice_index placing.to.items t ≤
 abbrev pub IsEarliest : Net → Falls → Placing → ℕ → Type 0
 IsEarliest net falls placing t =
     (lists : List (List ℕ)) → IsCover net lists → IsSlack net (potentials_of falls) lists →
-    ((s : ℕ) → s < t → successor net.nodes lists s ≡ slice_index placing.to.items s) → slice_index placing.to.items t ≤ successor net.nodes lists t
+    ((s : ℕ) → s < t → successor net.nodes lists s ≡ slice_index placing.to.items s) →
+    slice_index placing.to.items t ≤ successor net.nodes lists t

@@ -13,4 +13,5 @@ use Rattle.path_cover.specs.Searching.{IsRooted, IsSeated, IsStuck, IsTreedAs, s
 abbrev pub IsOutcome : Net → Target → Placing → Growth → Falls → Placing → Growth → Outcome → Type 0
 IsOutcome net target placed grown falls placing growth Stuck = IsStuck net falls placing target × (placing ≡ placed)
 IsOutcome net target placed grown falls placing growth Placed = IsSeated net falls placing × IsRooted net.nodes target placed placing
-IsOutcome net target placed grown falls placing growth Grown = IsTreedAs net falls placing growth target × (placing ≡ placed) × (seen_count growth.columns.items ≡ seen_count grown.columns.items + 1)
+IsOutcome net target placed grown falls placing growth Grown =
+    IsTreedAs net falls placing growth target × (placing ≡ placed) × (seen_count growth.columns.items ≡ seen_count grown.columns.items + 1)

@@ -84,24 +84,27 @@ pub record IsOpening (net : Net) (p : Potentials) (m : Matching) (a : Aim) (tree
   pub held : v < net.nodes → m.from v ≤ net.nodes
   pub no_room : v ≡ net.nodes → m.room ≡ 0
   pub full : (w : ℕ) → w ≤ net.nodes → tree.columns w ≡ true → w ≢ v → IsFull net p m a tree w
-  pub offered : (x w c : ℕ) → x ≤ net.nodes → w ≤ net.nodes → tree.rows x ≡ true → tree.columns w ≡ false → (x ≡ a.root → w < a.limit) → net.arc x w ≡ Some c → IsOffered net p tree x w c
+  pub offered : (x w c : ℕ) → x ≤ net.nodes → w ≤ net.nodes → tree.rows x ≡ true → tree.columns w ≡ false → (x ≡ a.root → w < a.limit) →
+      net.arc x w ≡ Some c → IsOffered net p tree x w c
   pub kept : (w : ℕ) (d : ℤ) → w ≤ net.nodes → tree.columns w ≡ false → tree.least w ≡ Some d → IsKept net p a tree w d
 
 -- and as it is kept
-pub record IsOpened (net : Net) (falls : Falls) (placing : Placing) (growth : Growth) (target : Target) (v : ℕ) (m : Matching) : Type 0 where
-  pub seat : IsSeat net falls placing m
-  pub sized : IsSized net.nodes growth
-  pub deep : IsDeep growth
-  pub low : IsLow falls growth target.level
-  pub above : slice_index growth.depth.items (slice_index growth.via.items v) < seen_count growth.columns.items
-  pub opening : IsOpening net (potentials_of falls) m (aim_of target) (tree_of growth) v
+pub record IsOpened (net : Net) (falls : Falls) (placing : Placing) (growth : Growth) (target : Target) (v : ℕ) (m : Matching) : Type 0
+  where
+    pub seat : IsSeat net falls placing m
+    pub sized : IsSized net.nodes growth
+    pub deep : IsDeep growth
+    pub low : IsLow falls growth target.level
+    pub above : slice_index growth.depth.items (slice_index growth.via.items v) < seen_count growth.columns.items
+    pub opening : IsOpening net (potentials_of falls) m (aim_of target) (tree_of growth) v
 
 abbrev pub IsOpenedAs : Net → Falls → Placing → Growth → Target → ℕ → Type 0
 IsOpenedAs net falls placing growth target v = (m : Matching) × IsOpened net falls placing growth target v m
 
 -- what a row offers the columns
 abbrev pub row_offer : Net → Falls → Growth → ℕ → ℕ → Option ℕ
-row_offer net falls growth x v = offer_of (slice_index_or growth.columns.items v false) (net.arc x v) (slice_index falls.heads.items v) (slice_index falls.tails.items x)
+row_offer net falls growth x v =
+    offer_of (slice_index_or growth.columns.items v false) (net.arc x v) (slice_index falls.heads.items v) (slice_index falls.tails.items x)
 
 -- a row is seen, and has made its offers
 pub record IsReachedBy (net : Net) (falls : Falls) (x by : ℕ) (old new : Growth) : Type 0 where

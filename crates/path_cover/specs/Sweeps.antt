@@ -21,7 +21,8 @@ pub record AreNumbersOf (net : Net) (placing : Placing) (q : Potentials) : Type 
 
 -- none is lower than in any such
 abbrev pub AreHigh : Net → Placing → Falls → Type 0
-AreHigh net placing numbers = (q : Potentials) → AreNumbersOf net placing q → (x : ℕ) → x ≤ net.nodes → (q.tail x ≤ℤ (potentials_of numbers).tail x) × (q.head x ≤ℤ (potentials_of numbers).head x)
+AreHigh net placing numbers = (q : Potentials) → AreNumbersOf net placing q → (x : ℕ) → x ≤ net.nodes →
+    (q.tail x ≤ℤ (potentials_of numbers).tail x) × (q.head x ≤ℤ (potentials_of numbers).head x)
 
 -- an arc is tight in all of them
 abbrev pub IsTightIn : Net → Placing → ℕ → ℕ → Type 0

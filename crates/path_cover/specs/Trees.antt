@@ -69,5 +69,6 @@ pub record IsTree (net : Net) (p : Potentials) (m : Matching) (a : Aim) (tree : 
   pub fixed_in : a.fixed ≤ net.nodes
   pub reached : (x : ℕ) → x ≤ net.nodes → tree.rows x ≡ true → x ≢ a.root → IsReached net m a tree x
   pub full : (v : ℕ) → v ≤ net.nodes → tree.columns v ≡ true → IsFull net p m a tree v
-  pub offered : (x v c : ℕ) → x ≤ net.nodes → v ≤ net.nodes → tree.rows x ≡ true → tree.columns v ≡ false → (x ≡ a.root → v < a.limit) → net.arc x v ≡ Some c → IsOffered net p tree x v c
+  pub offered : (x v c : ℕ) → x ≤ net.nodes → v ≤ net.nodes → tree.rows x ≡ true → tree.columns v ≡ false → (x ≡ a.root → v < a.limit) →
+      net.arc x v ≡ Some c → IsOffered net p tree x v c
   pub kept : (v : ℕ) (d : ℤ) → v ≤ net.nodes → tree.columns v ≡ false → tree.least v ≡ Some d → IsKept net p a tree v d

@@ -37,7 +37,8 @@ apart i k less same = absurd (omega (arith, less, same))
 pub copied_none : (cells : List ℤ) (base width : ℕ) → IsRowCopied cells cells base width 0
 copied_none cells base width = record { count = refl; kept = λ i h. refl; copied = λ p h. absurd (omega (arith, h)); moderate = λ h. h }
 
-pub copied_more : (old cells : List ℤ) (base width end : ℕ) (v : ℤ) → end < width → base + width + width ≤ length old → v ≡ number_at cells (base + end) →
+pub copied_more : (old cells : List ℤ) (base width end : ℕ) (v : ℤ) → end < width → base + width + width ≤ length old →
+    v ≡ number_at cells (base + end) →
     IsRowCopied old cells base width end → IsRowCopied old (slice_set cells (base + width + end) v) base width (end + 1)
 copied_more old cells base width end v less room is so_far =
     let at : ℕ = base + width + end in
@@ -50,7 +51,8 @@ copied_more old cells base width end v less room is so_far =
         | inl same ↦
             let P : ℕ → Type 0 = λ q. number_at (slice_set cells at v) (base + width + q) ≡ number_at old (base + q) in
             subst P (sym same) (number_set cells at v (omega (arith, less, room, count)) ∙ own)
-        | inr other ↦ number_other cells at (base + width + p) v (apart (base + width + p) at (omega (arith, other))) ∙ so_far.copied p other
+        | inr other ↦ number_other cells at (base + width + p) v (apart (base + width + p) at (omega (arith, other)))
+            ∙ so_far.copied p other
       ];
       moderate = λ before i. elim (cases_eq at i) [
         | inl same ↦
@@ -69,7 +71,8 @@ lowered_at cells place value least there first second both =
       count = set_length cells place least;
       kept = λ i h. number_other cells place i least (apart i place h);
       lower = λ i. elim (cases_eq place i) [
-        | inl same ↦ let P : ℕ → Type 0 = λ j. number_at (slice_set cells place least) j ≤ℤ number_at cells j in subst P same (omega (arith, ints, here, first))
+        | inl same ↦ let P : ℕ → Type 0 = λ j. number_at (slice_set cells place least) j ≤ℤ number_at cells j in
+            subst P same (omega (arith, ints, here, first))
         | inr other ↦ let is = number_other cells place i least other in omega (arith, ints, is)
       ];
       own = omega (arith, ints, here, second);
@@ -87,7 +90,8 @@ lowered_at cells place value least there first second both =
     }
 
 -- a row is copied, and one number of the copy lowered
-pub row_added : (old cells new : List ℤ) (base width number : ℕ) (value : ℤ) → number < width → IsRowCopied old cells base width width → IsCellLowered cells new (base + width + number) value →
+pub row_added : (old cells new : List ℤ) (base width number : ℕ) (value : ℤ) → number < width → IsRowCopied old cells base width width →
+    IsCellLowered cells new (base + width + number) value →
     IsRowAdded old new base width number value
 row_added old cells new base width number value less copied lowered = record {
   count = lowered.count ∙ copied.count;
@@ -98,14 +102,16 @@ row_added old cells new base width number value less copied lowered = record {
 }
 
 -- The rows of one trip more are there.
-pub rows_more : (old new : List ℤ) (count width base k : ℕ) (numbers : List ℕ) (before after : ℕ → ℤ) (value : ℤ) → k < count → base ≡ (count - (k + 1)) * width → AreBelow width numbers count →
+pub rows_more : (old new : List ℤ) (count width base k : ℕ) (numbers : List ℕ) (before after : ℕ → ℤ) (value : ℤ) → k < count →
+    base ≡ (count - (k + 1)) * width → AreBelow width numbers count →
     ((u : ℕ) → k < u → after u ≡ before u) → value ≡ after k → IsRowAdded old new base width (slice_index numbers k) value →
     AreRows count width (k + 1) numbers before old → AreRows count width k numbers after new
 rows_more old new count width base k numbers before after value there is below same own added rows j u from up end =
     let p : ℕ = slice_index numbers u in
     let less = below u end in
     let one : count - k ≡ suc (count - (k + 1)) = omega (arith, there) in
-    let next : (count - k) * width ≡ base + width = ap (λ n. n * width) one ∙ suc-mul (count - (k + 1)) width ∙ ap (λ n. n + width) (sym is) in
+    let next : (count - k) * width ≡ base + width =
+    ap (λ n. n * width) one ∙ suc-mul (count - (k + 1)) width ∙ ap (λ n. n + width) (sym is) in
     elim (eq-or-lt_of_le {n = k} {m = j} from) [
       | inl first ↦
           let P : ℕ → Type 0 = λ j. number_at new ((count - j) * width + p) ≤ℤ after u in
@@ -133,14 +139,16 @@ pub rows_none : (cells : List ℤ) (count width : ℕ) (numbers : List ℕ) (val
 rows_none cells count width numbers value j u from up end = absurd (omega (arith, from, up, end))
 
 -- the row of a later place is there
-pub room_for : (count t place width size : ℕ) → t < place → place ≤ count → (count - t) * width ≤ size → (count - place) * width + width ≤ size
+pub room_for : (count t place width size : ℕ) → t < place → place ≤ count → (count - t) * width ≤ size →
+    (count - place) * width + width ≤ size
 room_for count t place width size after within room =
     let one : suc (count - place) ≤ count - t = omega (arith, after, within) in
     let more = mul-le-mul_right width one in
     omega (arith, room, more, suc-mul (count - place) width)
 
 -- what is in a row at the number of a point is at most what each trip gives that begins there at the place or later
-pub row_at : (count width from place number : ℕ) (numbers : List ℕ) (value : ℕ → ℤ) (cells : List ℤ) → from ≤ place → AreRows count width from numbers value cells →
+pub row_at : (count width from place number : ℕ) (numbers : List ℕ) (value : ℕ → ℤ) (cells : List ℤ) → from ≤ place →
+    AreRows count width from numbers value cells →
     (u : ℕ) → u < count → slice_index numbers u ≡ number → place ≤ u → number_at cells ((count - place) * width + number) ≤ℤ value u
 row_at count width from place number numbers value cells behind rows u there same after =
     let P : ℕ → Type 0 = λ n. number_at cells ((count - place) * width + n) ≤ℤ value u in
@@ -148,7 +156,8 @@ row_at count width from place number numbers value cells behind rows u there sam
 
 -- the number of each trip has a trip that has it
 pub have_heads : (numbers heads : List ℕ) (u : ℕ) → u < length numbers → slice_index numbers u < length heads → AreHeads numbers heads 0 →
-    (slice_index heads (slice_index numbers u) < length numbers) × (slice_index numbers (slice_index heads (slice_index numbers u)) ≡ slice_index numbers u)
+    (slice_index heads (slice_index numbers u) < length numbers)
+    × (slice_index numbers (slice_index heads (slice_index numbers u)) ≡ slice_index numbers u)
 have_heads numbers heads u there less are =
     let first = are.first u (omega arith) there in
     let inside : slice_index heads (slice_index numbers u) < length numbers = omega (arith, first, there) in
@@ -164,7 +173,8 @@ room_from count from k width size behind is =
     rows_from : (count from k : ℕ) → from ≤ k → count - k ≤ count - from + 1
     rows_from count from k behind = omega (arith, behind)
 
-pub room_two : (count from k width base size : ℕ) → from ≤ k → k < count → base ≡ (count - (k + 1)) * width → size ≡ (count - from + 1) * width → base + width + width ≤ size
+pub room_two : (count from k width base size : ℕ) → from ≤ k → k < count → base ≡ (count - (k + 1)) * width →
+    size ≡ (count - from + 1) * width → base + width + width ≤ size
 room_two count from k width base size behind there at is =
     let few : suc (suc (count - (k + 1))) ≤ count - from + 1 = omega (arith, behind, there) in
     let more = mul-le-mul_right width few in

@@ -15,7 +15,8 @@ use Rattle.path_pricing.proofs.Cells.{number_other, number_set}
 use Rattle.path_pricing.proofs.Places.{scaled_up}
 
 -- a rest over a link is deep
-pub deep_over : (count t u : ℕ) (least cost price rest shown sum low : ℤ) → t < u → u < count → IsDeep count t least → IsDeep count u rest → pos 0 ≤ℤ cost → price ≤ℤ pos 10000000000000 →
+pub deep_over : (count t u : ℕ) (least cost price rest shown sum low : ℤ) → t < u → u < count → IsDeep count t least → IsDeep count u rest →
+    pos 0 ≤ℤ cost → price ≤ℤ pos 10000000000000 →
     shown ≡ rest → sum ≡ cost -ℤ price +ℤ shown → low ≤ℤ least → ((x : ℤ) → x ≤ℤ least → x ≤ℤ sum → x ≤ℤ low) → IsDeep count t low
 deep_over count t u least cost price rest shown sum low later there own behind up cheap same is first both =
     let own_low = own.low in
@@ -27,20 +28,23 @@ deep_over count t u least cost price rest shown sum low later there own behind u
     }
 
 -- one trip more is looked at
-pub steps_more : (day : DayFacts) (counts : Bool) (prices : List Price) (pool : Pool) (rests : List ℤ) (t end : ℕ) (least low : ℤ) → low ≤ℤ least →
+pub steps_more : (day : DayFacts) (counts : Bool) (prices : List Price) (pool : Pool) (rests : List ℤ) (t end : ℕ) (least low : ℤ) →
+    low ≤ℤ least →
     ((cost : ℕ) → added day pool t end ≡ Some cost → low ≤ℤ (scaled counts cost -ℤ price_at prices end +ℤ number_at rests end)) →
     StepsAbove day counts prices pool rests t end least → StepsAbove day counts prices pool rests t (end + 1) low
 steps_more day counts prices pool rests t end least low first here before u cost within linked =
     elim (eq-or-lt_of_le {n = u} {m = end} (omega (arith, within))) [
       | inl same ↦
-          let P : ℕ → Type 0 = λ i. added day pool t i ≡ Some cost → low ≤ℤ (scaled counts cost -ℤ price_at prices i +ℤ number_at rests i) in
+          let P : ℕ → Type 0 = λ i. added day pool t i ≡ Some cost →
+          low ≤ℤ (scaled counts cost -ℤ price_at prices i +ℤ number_at rests i) in
           subst P (sym same) (here cost) linked
       | inr other ↦ let old = before u cost other linked in omega (arith, ints, old, first)
     ]
 
 -- What a link adds is at least 0. So where a number is at most each later rest less its price, no link to one of these trips adds less than
 -- that number, with the rest behind it: the trips from there on need no look.
-pub steps_past : (day : DayFacts) (counts : Bool) (prices : List Price) (pool : Pool) (rests : List ℤ) (t from : ℕ) (least low : ℤ) → least ≤ℤ low →
+pub steps_past : (day : DayFacts) (counts : Bool) (prices : List Price) (pool : Pool) (rests : List ℤ) (t from : ℕ) (least low : ℤ) →
+    least ≤ℤ low →
     IsLowOver prices rests from (length day.trips) low → StepsAbove day counts prices pool rests t from least →
     StepsAbove day counts prices pool rests t (length day.trips) least
 steps_past day counts prices pool rests t from least low below over before u cost within linked =
@@ -50,7 +54,8 @@ steps_past day counts prices pool rests t from least low below over before u cos
     ]
 
 -- the rest of one trip more is made, and with it a number that none of the rests less their prices is lower than
-pub low_set : (prices : List Price) (rests : List ℤ) (k end : ℕ) (v low new : ℤ) → k < length rests → new ≤ℤ low → new ≤ℤ (v -ℤ price_at prices k) →
+pub low_set : (prices : List Price) (rests : List ℤ) (k end : ℕ) (v low new : ℤ) → k < length rests → new ≤ℤ low →
+    new ≤ℤ (v -ℤ price_at prices k) →
     IsLowOver prices rests (k + 1) end low → IsLowOver prices (slice_set rests k v) k end new
 low_set prices rests k end v low new there first second over u from before =
     elim (eq-or-lt_of_le {n = k} {m = u} from) [
@@ -64,12 +69,14 @@ low_set prices rests k end v low new there first second over u from before =
           omega (arith, ints, is, old, first)
     ]
 
-pub lows_set : (prices : List Price) (rests lows : List ℤ) (k end : ℕ) (v new : ℤ) → k < length lows → IsLowOver prices (slice_set rests k v) k end new →
+pub lows_set : (prices : List Price) (rests lows : List ℤ) (k end : ℕ) (v new : ℤ) → k < length lows →
+    IsLowOver prices (slice_set rests k v) k end new →
     AreLows prices rests lows (k + 1) end → AreLows prices (slice_set rests k v) (slice_set lows k new) k end
 lows_set prices rests lows k end v new there over are u from before =
     elim (eq-or-lt_of_le {n = k} {m = u} from) [
       | inl same ↦
-          let is : number_at (slice_set lows k new) u ≡ new = ap (number_at (slice_set lows k new)) (sym same) ∙ number_set lows k new there in
+          let is : number_at (slice_set lows k new) u ≡ new =
+          ap (number_at (slice_set lows k new)) (sym same) ∙ number_set lows k new there in
           λ w up within. (let own = over w (omega (arith, up, from)) within in omega (arith, ints, is, own))
       | inr other ↦
           let is = number_other lows k u new (λ same. absurd (omega (arith, other, same))) in

@@ -26,15 +26,20 @@ use Rattle.path_pricing.specs.Blocks.{AreBoundsFrom, IsInRange, block_labels, fl
 
 module _ (day : DayFacts) (counts : Bool) (prices : List Price) (pool : Pool) (first end : ℕ) where
   pub labels_kept : IsKept (block_labels day counts prices pool first end) (GoodAs is_as_good)
-  labels_kept = of_start-kept (opening day counts prices pool) (GoodAs is_as_good) (is_between first end) (opening_kept day counts prices pool)
+  labels_kept = of_start-kept (opening day counts prices pool) (GoodAs is_as_good) (is_between first end)
+      (opening_kept day counts prices pool)
 
-  pub labels_valued : IsValued (block_labels day counts prices pool first end) (GoodAs is_as_good) (λ a. a.value) (closed_open day counts pool)
-  labels_valued = of_start-valued (opening day counts prices pool) (GoodAs is_as_good) (λ a. a.value) (closed_open day counts pool) (is_between first end) (opening_valued day counts prices pool)
+  pub labels_valued : IsValued (block_labels day counts prices pool first end) (GoodAs is_as_good) (λ a. a.value)
+      (closed_open day counts pool)
+  labels_valued = of_start-valued (opening day counts prices pool) (GoodAs is_as_good) (λ a. a.value) (closed_open day counts pool)
+      (is_between first end) (opening_valued day counts prices pool)
 
   pub labels_stepwise : IsStepwise (block_labels day counts prices pool first end) (length day.trips) (λ a. a.trip)
-  labels_stepwise = of_start-stepwise (opening day counts prices pool) (length day.trips) (λ a. a.trip) (is_between first end) (opening_stepwise day counts prices pool)
+  labels_stepwise = of_start-stepwise (opening day counts prices pool) (length day.trips) (λ a. a.trip) (is_between first end)
+      (opening_stepwise day counts prices pool)
 
-  pub labels_safe : All IsDaily day.trips → IsPool pool → AllWithin 10000000000000 prices → IsSafe (block_labels day counts prices pool first end) (IsInRange (length day.trips) first)
+  pub labels_safe : All IsDaily day.trips → IsPool pool → AllWithin 10000000000000 prices →
+      IsSafe (block_labels day counts prices pool first end) (IsInRange (length day.trips) first)
   labels_safe daily ranges moderate =
       let safe = opening_safe day counts prices pool daily ranges moderate in
       let steps = opening_stepwise day counts prices pool in
@@ -66,7 +71,8 @@ module _ (day : DayFacts) (counts : Bool) (prices : List Price) (pool : Pool) (f
   scaled_up cost = elim counts as (λ c. pos 0 ≤ℤ scaled c cost) [ true ↦ omega (arith, ints) | false ↦ omega (arith, ints) ]
 
   module _ (rests : List ℤ) where
-    bounds_floor : AreBoundsFrom day counts prices pool rests first → IsFloor (opening day counts prices pool) (closed_open day counts pool) (IsInRange (length day.trips) first) (floor_of rests)
+    bounds_floor : AreBoundsFrom day counts prices pool rests first →
+        IsFloor (opening day counts prices pool) (closed_open day counts pool) (IsInRange (length day.trips) first) (floor_of rests)
     bounds_floor bounds = record {
       closes = λ a v fits e.
           let (m, is, same) = map_some (λ (cost : ℕ). a.value +ℤ scaled counts cost) (last_step day pool a.driving a.trip) v e in
@@ -82,10 +88,14 @@ module _ (day : DayFacts) (counts : Bool) (prices : List Price) (pool : Pool) (f
           omega (arith, ints, low, value, same);
     }
 
-    pub labels_hide : AreBoundsFrom day counts prices pool rests first → HidesNone (block_labels day counts prices pool first end) is_as_good (closed_open day counts pool) (IsInRange (length day.trips) first) (is_low (floor_of rests))
+    pub labels_hide : AreBoundsFrom day counts prices pool rests first →
+        HidesNone (block_labels day counts prices pool first end) is_as_good (closed_open day counts pool)
+        (IsInRange (length day.trips) first) (is_low (floor_of rests))
     labels_hide bounds =
-        of_start-hides (opening day counts prices pool) is_as_good (closed_open day counts pool) (IsInRange (length day.trips) first) (is_low (floor_of rests)) (is_between first end)
-        (floor-hides (opening day counts prices pool) is_as_good (closed_open day counts pool) (IsInRange (length day.trips) first) (floor_of rests) rises (bounds_floor bounds))
+        of_start-hides (opening day counts prices pool) is_as_good (closed_open day counts pool) (IsInRange (length day.trips) first)
+        (is_low (floor_of rests)) (is_between first end)
+        (floor-hides (opening day counts prices pool) is_as_good (closed_open day counts pool) (IsInRange (length day.trips) first)
+        (floor_of rests) rises (bounds_floor bounds))
       where
         rises : (a b : OpenBlock) → is_as_good a b ≡ true → floor_of rests a ≤ℤ floor_of rests b
         rises a b h =
@@ -99,10 +109,13 @@ module _ (day : DayFacts) (counts : Bool) (prices : List Price) (pool : Pool) (f
         ap (λ t. cond t (Some b) None) test
 
     -- a trip at which no block of a value above the most stays within the limit
-    pub none_reaches : (limit most : ℤ) (u : ℕ) → ((v : ℤ) → IsAbove most v → limit <ℤ (v +ℤ pos 0 -ℤ price_at prices u +ℤ number_at rests u)) →
-        NoneReachesAbove (block_labels day counts prices pool first end) (IsInRange (length day.trips) first) (λ a. a.value) (is_low (floor_of rests) limit) u most
+    pub none_reaches : (limit most : ℤ) (u : ℕ) →
+        ((v : ℤ) → IsAbove most v → limit <ℤ (v +ℤ pos 0 -ℤ price_at prices u +ℤ number_at rests u)) →
+        NoneReachesAbove (block_labels day counts prices pool first end) (IsInRange (length day.trips) first) (λ a. a.value)
+        (is_low (floor_of rests) limit) u most
     none_reaches limit most u high a fits more_than =
-        elim (extended_open day counts prices pool a u) as (λ o. extended_open day counts prices pool a u ≡ o → passed (is_low (floor_of rests) limit) o ≡ None) [
+        elim (extended_open day counts prices pool a u) as (λ o. extended_open day counts prices pool a u ≡ o →
+        passed (is_low (floor_of rests) limit) o ≡ None) [
           | None ↦ λ is. refl
           | Some b ↦ λ is.
               let x = more a b u is in
@@ -114,9 +127,11 @@ module _ (day : DayFacts) (counts : Bool) (prices : List Price) (pool : Pool) (f
 
     -- there is no link to the trip
     pub none_linked : (limit : ℤ) (t u : ℕ) → added day pool t u ≡ None →
-        NoneFollows (block_labels day counts prices pool first end) (IsInRange (length day.trips) first) (λ a. a.trip) (is_low (floor_of rests) limit) t u
+        NoneFollows (block_labels day counts prices pool first end) (IsInRange (length day.trips) first) (λ a. a.trip)
+        (is_low (floor_of rests) limit) t u
     none_linked limit t u none a fits at =
-        elim (extended_open day counts prices pool a u) as (λ o. extended_open day counts prices pool a u ≡ o → passed (is_low (floor_of rests) limit) o ≡ None) [
+        elim (extended_open day counts prices pool a u) as (λ o. extended_open day counts prices pool a u ≡ o →
+        passed (is_low (floor_of rests) limit) o ≡ None) [
           | None ↦ λ is. refl
           | Some b ↦ λ is.
               let x = more a b u is in
@@ -127,9 +142,11 @@ module _ (day : DayFacts) (counts : Bool) (prices : List Price) (pool : Pool) (f
     -- the link to the trip costs so much that no block of a value above the most stays within the limit
     pub none_follows : (limit most : ℤ) (t u cost : ℕ) → added day pool t u ≡ Some cost →
         ((v : ℤ) → IsAbove most v → limit <ℤ (v +ℤ scaled counts cost -ℤ price_at prices u +ℤ number_at rests u)) →
-        NoneFollowsAbove (block_labels day counts prices pool first end) (IsInRange (length day.trips) first) (λ a. a.trip) (λ a. a.value) (is_low (floor_of rests) limit) t u most
+        NoneFollowsAbove (block_labels day counts prices pool first end) (IsInRange (length day.trips) first) (λ a. a.trip) (λ a. a.value)
+        (is_low (floor_of rests) limit) t u most
     none_follows limit most t u cost linked high a fits at more_than =
-        elim (extended_open day counts prices pool a u) as (λ o. extended_open day counts prices pool a u ≡ o → passed (is_low (floor_of rests) limit) o ≡ None) [
+        elim (extended_open day counts prices pool a u) as (λ o. extended_open day counts prices pool a u ≡ o →
+        passed (is_low (floor_of rests) limit) o ≡ None) [
           | None ↦ λ is. refl
           | Some b ↦ λ is.
               let x = more a b u is in

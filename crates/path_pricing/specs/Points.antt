@@ -36,26 +36,31 @@ stood_value day counts prices pool rests u = passed_value prices rests u +ℤ st
 -- no direct way from a trip to a later one of a point that begins late enough adds less than a number
 abbrev pub DirectAbove : DayFacts → Bool → Pool → List ℕ → (ℕ → ℤ) → ℕ → ℕ → ℤ → Type 0
 DirectAbove day counts pool numbers value t number least =
-    (u : ℕ) (trip next : Trip) (move time : ℕ) → t < u → slice_get day.trips t ≡ Some trip → slice_get day.trips u ≡ Some next → slice_index numbers u ≡ number →
+    (u : ℕ) (trip next : Trip) (move time : ℕ) → t < u → slice_get day.trips t ≡ Some trip → slice_get day.trips u ≡ Some next →
+    slice_index numbers u ≡ number →
     dead day trip.to next.from ≡ Some move → pos time ≡ trip.end.0 +ℤ pos move → (pos (time + day.params.settings.turn)) ≤ℤ next.begin.0 →
     least ≤ℤ (scaled counts (pool.dead_rate * move) -ℤ scaled counts (stand_rate_at pool next * time) +ℤ value u)
 
 -- nor does a way via the depot
 abbrev pub DepotAbove : DayFacts → Bool → Pool → List ℕ → (ℕ → ℤ) → ℕ → ℕ → ℤ → Type 0
 DepotAbove day counts pool numbers value t number least =
-    (u : ℕ) (trip next : Trip) (inward outward : ℕ) → t < u → slice_get day.trips t ≡ Some trip → slice_get day.trips u ≡ Some next → slice_index numbers u ≡ number →
-    dead day trip.to pool.depot ≡ Some inward → dead day pool.depot next.from ≡ Some outward → (trip.end.0 +ℤ pos (inward + outward)) ≤ℤ next.begin.0 →
+    (u : ℕ) (trip next : Trip) (inward outward : ℕ) → t < u → slice_get day.trips t ≡ Some trip → slice_get day.trips u ≡ Some next →
+    slice_index numbers u ≡ number →
+    dead day trip.to pool.depot ≡ Some inward → dead day pool.depot next.from ≡ Some outward →
+    (trip.end.0 +ℤ pos (inward + outward)) ≤ℤ next.begin.0 →
     least ≤ℤ (scaled counts (pool.dead_rate * (inward + outward)) +ℤ value u)
 
--- What is known of a trip has one of the points in it: no way to a trip that begins there adds less, or no such trip that begins when it has
--- ended or later and its rest do by themselves.
+-- What is known of a trip has one of the points in it: no way to a trip that begins there adds less, or no such trip that begins when it
+-- has ended or later and its rest do by themselves.
 abbrev pub PointAbove : DayFacts → Bool → Pool → List ℕ → (ℕ → ℤ) → (ℕ → ℤ) → ℕ → ℕ → ℤ → Type 0
 PointAbove day counts pool numbers stood passed t number least =
     (DirectAbove day counts pool numbers stood t number least × DepotAbove day counts pool numbers passed t number least) ⊎
-    ((u : ℕ) (trip next : Trip) → t < u → slice_get day.trips t ≡ Some trip → slice_get day.trips u ≡ Some next → trip.end.0 ≤ℤ next.begin.0 →
+    ((u : ℕ) (trip next : Trip) → t < u → slice_get day.trips t ≡ Some trip → slice_get day.trips u ≡ Some next →
+    trip.end.0 ≤ℤ next.begin.0 →
     slice_index numbers u ≡ number → least ≤ℤ passed u)
 
 -- no link from a trip to one of the points before an end adds less, with the rest behind that
 abbrev pub PointsAbove : DayFacts → Bool → List Price → Pool → List ℤ → List ℕ → ℕ → ℕ → ℤ → Type 0
 PointsAbove day counts prices pool rests numbers t end least =
-    (u cost : ℕ) → slice_index numbers u < end → added day pool t u ≡ Some cost → least ≤ℤ (scaled counts cost -ℤ price_at prices u +ℤ number_at rests u)
+    (u cost : ℕ) → slice_index numbers u < end → added day pool t u ≡ Some cost →
+    least ≤ℤ (scaled counts cost -ℤ price_at prices u +ℤ number_at rests u)

@@ -23,7 +23,8 @@ length_over length_of links =
 -- in the area of the line's variant
 abbrev pub metres_in : Net → ℕ → TripRow → Option ℕ → Option ℕ
 metres_in net version row None = None
-metres_in net version row (Some area) = length_over (section_length net version area) (links_of (course_on net version row.line row.variant))
+metres_in net version row (Some area) =
+    length_over (section_length net version area) (links_of (course_on net version row.line row.variant))
 
 -- the length of a trip's course in metres
 abbrev pub route_metres : Net → ℕ → TripRow → Option ℕ

@@ -40,7 +40,8 @@ counted-back most place below =
     ap next first ∙ (ap (λ (t : Bool). if t then None else Some (place + 1 - 1)) some ∙ ap (λ (n : ℕ). Some n) back)
 
 -- a test that holds at a place and at none before finds it
-pub first-at : {A : Type 0} (test : A → Bool) (xs : List A) (from k : ℕ) (d : A) → k < length xs → test (get_or xs k d) ≡ true → ((j : ℕ) → j < k → test (get_or xs j d) ≡ false) →
+pub first-at : {A : Type 0} (test : A → Bool) (xs : List A) (from k : ℕ) (d : A) → k < length xs → test (get_or xs k d) ≡ true →
+    ((j : ℕ) → j < k → test (get_or xs j d) ≡ false) →
     position_from test from xs ≡ Some (from + k)
 first-at test [] from k d below passes others = absurd (omega arith)
 first-at test (x ∷ xs) from zero d below passes others =
@@ -53,12 +54,14 @@ first-at test (x ∷ xs) from (suc k) d below passes others =
     ∙ (first-at test xs (from + 1) k d (omega arith) passes (λ j low. others (suc j) (omega arith)) ∙ ap (λ (n : ℕ). Some n) same)
 
 -- the class of the number of a class, where numbers rise
-pub class-back : (numbers : List ℕ) (class : ℕ) → AllPairs (λ (earlier later : ℕ). earlier < later) numbers → class < length numbers → class_among numbers (whole (slice_index numbers class)) ≡ Some class
+pub class-back : (numbers : List ℕ) (class : ℕ) → AllPairs (λ (earlier later : ℕ). earlier < later) numbers → class < length numbers →
+    class_among numbers (whole (slice_index numbers class)) ≡ Some class
 class-back numbers class rise below =
     let n = slice_index numbers class in
     let zero' : 0 + class ≡ class = omega arith in
     position_from-zero (λ m. m == n) numbers
-    ∙ (first-at (λ m. m == n) numbers 0 class 0 below (equal n) (λ j low. let less = rise j class 0 low below in other (slice_index numbers j) n less) ∙ ap (λ (k : ℕ). Some k) zero')
+    ∙ (first-at (λ m. m == n) numbers 0 class 0 below (equal n) (λ j low. let less =
+    rise j class 0 low below in other (slice_index numbers j) n less) ∙ ap (λ (k : ℕ). Some k) zero')
   where
     equal : (n : ℕ) → n == n ≡ true
     equal n = grind (arith, nat_tests)
@@ -73,4 +76,5 @@ moderate-back p is =
     let most = is.1 in
     let low : int_le (neg_ℤ (pos 3000000000000000)) p.0 ≡ true = grind (arith, ints) in
     let high : int_le p.0 (pos 3000000000000000) ≡ true = grind (arith, ints) in
-    ap (λ (t : Bool). if t && int_le p.0 (pos 3000000000000000) then Some p.0 else None) low ∙ ap (λ (t : Bool). if true && t then Some p.0 else None) high
+    ap (λ (t : Bool). if t && int_le p.0 (pos 3000000000000000) then Some p.0 else None) low
+    ∙ ap (λ (t : Bool). if true && t then Some p.0 else None) high

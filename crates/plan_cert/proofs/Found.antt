@@ -50,10 +50,11 @@ counted-below most n number e =
 
 position-below : {A : Type 0} (test : A → Bool) (from k : ℕ) (xs : List A) → position_from test from xs ≡ Some k → k < from + length xs
 position-below test from k [] e = absurd (cc)
-position-below test from k (x ∷ xs) e = elim (test x) as (λ t. (if t then Some from else position_from test (from + 1) xs) ≡ Some k → k < from + length (x ∷ xs)) [
-  | true ↦ λ f. let same : from ≡ k = some-same from k f in omega arith
-  | false ↦ λ f. let later = position-below test (from + 1) k xs f in omega arith
-] e
+position-below test from k (x ∷ xs) e =
+    elim (test x) as (λ t. (if t then Some from else position_from test (from + 1) xs) ≡ Some k → k < from + length (x ∷ xs)) [
+      | true ↦ λ f. let same : from ≡ k = some-same from k f in omega arith
+      | false ↦ λ f. let later = position-below test (from + 1) k xs f in omega arith
+    ] e
 
 pub class-below : (numbers : List ℕ) (class : ℕ) (number : Option ℤ) → class_among numbers number ≡ Some class → class < length numbers
 class-below numbers class number e =
@@ -69,11 +70,14 @@ pub record IsModerateNumber (z : ℤ) : Type 0 where
 pub moderate-is : (number : Option ℤ) (z : ℤ) → moderate number ≡ Some z → IsModerateNumber z
 moderate-is None z e = absurd (cc)
 moderate-is (Some y) z e =
-    elim (int_le (neg_ℤ (pos 3000000000000000)) y) as (λ t. int_le (neg_ℤ (pos 3000000000000000)) y ≡ t → (if t && int_le y (pos 3000000000000000) then Some y else None) ≡ Some z → IsModerateNumber z) [
-      | true ↦ λ low. elim (int_le y (pos 3000000000000000)) as (λ t. int_le y (pos 3000000000000000) ≡ t → (if true && t then Some y else None) ≡ Some z → IsModerateNumber z) [
-        | true ↦ λ high f. let P : ℤ → Type 0 = IsModerateNumber in subst P (some-same y z f) (record { least = grind (arith, ints); most = grind (arith, ints) })
-        | false ↦ λ high f. absurd (cc)
-      ] refl
+    elim (int_le (neg_ℤ (pos 3000000000000000)) y) as (λ t. int_le (neg_ℤ (pos 3000000000000000)) y ≡ t →
+    (if t && int_le y (pos 3000000000000000) then Some y else None) ≡ Some z → IsModerateNumber z) [
+      | true ↦ λ low. elim (int_le y (pos 3000000000000000)) as (λ t. int_le y (pos 3000000000000000) ≡ t →
+          (if true && t then Some y else None) ≡ Some z → IsModerateNumber z) [
+            | true ↦ λ high f. let P : ℤ → Type 0 = IsModerateNumber in
+                subst P (some-same y z f) (record { least = grind (arith, ints); most = grind (arith, ints) })
+            | false ↦ λ high f. absurd (cc)
+          ] refl
       | false ↦ λ low f. absurd (cc)
     ] refl e
 
@@ -93,20 +97,26 @@ pub record AreThere {A : Type 0} (P : A → Type 0) (os : List (Option A)) (xs :
   pub long : length xs ≡ length os
   pub each : Each P xs
 
-kept-there : {A : Type 0} (P : A → Type 0) (os : List (Option A)) → list_all is_some os ≡ true → AllSome P os → AreThere P os (filter_map (λ o. o) os)
+kept-there : {A : Type 0} (P : A → Type 0) (os : List (Option A)) → list_all is_some os ≡ true → AllSome P os →
+    AreThere P os (filter_map (λ o. o) os)
 kept-there P [] all each = record { long = refl; each = tt }
 kept-there P (None ∷ os) all each = absurd (cc)
-kept-there P (Some x ∷ os) all each = let rest = kept-there P os all each.1 in let long = rest.long in record { long = omega arith; each = (each.0, rest.each) }
+kept-there P (Some x ∷ os) all each =
+    let rest = kept-there P os all each.1 in let long = rest.long in record { long = omega arith; each = (each.0, rest.each) }
 
-pub there-all : {A : Type 0} (P : A → Type 0) (os : List (Option A)) (xs : List A) → all_there os ≡ Some xs → AllSome P os → AreThere P os xs
+pub there-all : {A : Type 0} (P : A → Type 0) (os : List (Option A)) (xs : List A) → all_there os ≡ Some xs →
+    AllSome P os → AreThere P os xs
 there-all {A} P os xs e each =
-    elim (list_all is_some os) as (λ t. list_all is_some os ≡ t → (if t then Some (filter_map (λ (o : Option A). o) os) else None) ≡ Some xs → AreThere P os xs) [
-      | true ↦ λ all f. let Q : List A → Type 0 = λ l. AreThere P os l in subst Q (some-same (filter_map (λ (o : Option A). o) os) xs f) (kept-there P os all each)
+    elim (list_all is_some os) as (λ t. list_all is_some os ≡ t → (if t then Some (filter_map (λ (o : Option A). o) os) else None)
+    ≡ Some xs → AreThere P os xs) [
+      | true ↦ λ all f. let Q : List A → Type 0 = λ l. AreThere P os l in
+          subst Q (some-same (filter_map (λ (o : Option A). o) os) xs f) (kept-there P os all each)
       | false ↦ λ all f. absurd (cc)
     ] refl e
 
 -- what each row says has what each said entry has
-pub said-each : {A : Type 0} (Q : A → Type 0) (say : List Field → Option A) (rows : List (List Field)) → ((row : List Field) (e : A) → say row ≡ Some e → Q e) → Each Q (filter_map say rows)
+pub said-each : {A : Type 0} (Q : A → Type 0) (say : List Field → Option A) (rows : List (List Field)) →
+    ((row : List Field) (e : A) → say row ≡ Some e → Q e) → Each Q (filter_map say rows)
 said-each Q say [] has = tt
 said-each {A} Q say (row ∷ rows) has = one (say row) refl (said-each Q say rows has)
   where
@@ -115,14 +125,16 @@ said-each {A} Q say (row ∷ rows) has = one (say row) refl (said-each Q say row
     one (Some x) e rest = (has row x e, rest)
 
 -- a price that is found is that of an entry
-found-each : (P : ℤ → Type 0) (pass : Pass) (n : ℕ) (es : List Entry) → Each (λ (e : Entry). P e.price) es → (z : ℤ) → found_price pass n es ≡ Some z → P z
+found-each : (P : ℤ → Type 0) (pass : Pass) (n : ℕ) (es : List Entry) → Each (λ (e : Entry). P e.price) es → (z : ℤ) →
+    found_price pass n es ≡ Some z → P z
 found-each P pass n [] each z e = absurd (cc)
 found-each P pass n (x ∷ xs) each z e = elim (is_of pass n x) as (λ t. (if t then Some x.price else found_price pass n xs) ≡ Some z → P z) [
   | true ↦ λ f. subst P (some-same x.price z f) each.0
   | false ↦ λ f. found-each P pass n xs each.1 z f
 ] e
 
-pub found-all : (P : ℤ → Type 0) (pass : Pass) (from count : ℕ) (es : List Entry) → Each (λ (e : Entry). P e.price) es → AllSome P (map (λ n. found_price pass n es) (range_with_len from count))
+pub found-all : (P : ℤ → Type 0) (pass : Pass) (from count : ℕ) (es : List Entry) → Each (λ (e : Entry). P e.price) es →
+    AllSome P (map (λ n. found_price pass n es) (range_with_len from count))
 found-all P pass from zero es each = tt
 found-all P pass from (suc count) es each = one (found_price pass from es) refl (found-all P pass (from + 1) count es each)
   where
@@ -132,7 +144,8 @@ found-all P pass from (suc count) es each = one (found_price pass from es) refl 
     one (Some z) e rest = (found-each P pass from es each z e, rest)
 
 -- the price of an item is moderate
-pub item-moderate : (s : Shape) (columns : PriceColumns) (row : List Field) (e : Entry) → item_entry s columns row ≡ Some e → IsModerateNumber e.price
+pub item-moderate : (s : Shape) (columns : PriceColumns) (row : List Field) (e : Entry) → item_entry s columns row ≡ Some e →
+    IsModerateNumber e.price
 item-moderate s columns row e is =
     let x = bound (any_pass (number_at row columns.pass)) _ e is in
     let y = bound (counted (items_of s x.value) (number_at row columns.number)) _ e x.made in

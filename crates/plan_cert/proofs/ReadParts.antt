@@ -56,10 +56,12 @@ record IsList (P : ℤ → Type 0) (count : ℕ) (zs : List ℤ) : Type 0 where
   pub long : length zs ≡ count
   pub each : Each P zs
 
-list-is : (P : ℤ → Type 0) (t : CertTable) (pass : Pass) (count : ℕ) (es : List Entry) (zs : List ℤ) → Each (λ (e : Entry). P e.price) es → length (found_prices count pass es) ≡ count →
+list-is : (P : ℤ → Type 0) (t : CertTable) (pass : Pass) (count : ℕ) (es : List Entry) (zs : List ℤ) → Each (λ (e : Entry). P e.price) es →
+    length (found_prices count pass es) ≡ count →
     needed t (all_there (found_prices count pass es)) ≡ Ok zs → IsList P count zs
 list-is P t pass count es zs each long e =
-    let found = there-all P (found_prices count pass es) zs (there t (all_there (found_prices count pass es)) zs e) (found-all P pass 0 count es each) in
+    let found = there-all P (found_prices count pass es) zs (there t (all_there (found_prices count pass es)) zs e)
+    (found-all P pass 0 count es each) in
     record { long = found.long ∙ long; each = found.each }
 
 -- the prices of the four passes
@@ -69,7 +71,8 @@ record AreLists (P : ℤ → Type 0) (count : Pass → ℕ) (four : FourLists) :
   pub three : IsList P (count DutyNumber) four.duty_number
   pub four_is : IsList P (count DutyCost) four.duty_cost
 
-lists-are : (P : ℤ → Type 0) (t : CertTable) (count : Pass → ℕ) (es : List Entry) (four : FourLists) → Each (λ (e : Entry). P e.price) es → four_of t (found_slots count es) ≡ Ok four → AreLists P count four
+lists-are : (P : ℤ → Type 0) (t : CertTable) (count : Pass → ℕ) (es : List Entry) (four : FourLists) → Each (λ (e : Entry). P e.price) es →
+    four_of t (found_slots count es) ≡ Ok four → AreLists P count four
 lists-are P t count es four each e =
     let x = next (needed t (all_there (found_prices (count BlockNumber) BlockNumber es))) _ four e in
     let y = next (needed t (all_there (found_prices (count BlockCost) BlockCost es))) _ four x.made in
@@ -85,13 +88,15 @@ lists-are P t count es four each e =
     })
 
 prices-are : (P : ℤ → Type 0) (kind : Priced) (s : Shape) (tables : List Table) (four : FourLists) →
-    ((columns : PriceColumns) (row : List Field) (e : Entry) → entry_of kind s columns row ≡ Some e → P e.price) → prices_of kind s tables ≡ Ok four → AreLists P (count_for kind s) four
+    ((columns : PriceColumns) (row : List Field) (e : Entry) → entry_of kind s columns row ≡ Some e → P e.price) →
+    prices_of kind s tables ≡ Ok four → AreLists P (count_for kind s) four
 prices-are P kind s tables four has e =
     let x = next (table_of (table_for kind) tables) _ four e in
     let y = next (needed (table_for kind) (price_columns x.value.columns (number_column kind))) _ four x.made in
     let say = entry_of kind s y.value in
     let z = next (no_wrong (table_for kind) (wrong_price say [] 0 x.value.rows)) _ four y.made in
-    lists-are P (table_for kind) (count_for kind s) (filter_map say x.value.rows) four (said-each (λ (e : Entry). P e.price) say x.value.rows (has y.value)) z.made
+    lists-are P (table_for kind) (count_for kind s) (filter_map say x.value.rows) four
+    (said-each (λ (e : Entry). P e.price) say x.value.rows (has y.value)) z.made
 
 record AreDuties (s : Shape) (marks : DutyMarks) : Type 0 where
   pub of_number : Each (IsMarkOf s.pieces (length s.classes.groups)) marks.of_number
@@ -102,7 +107,8 @@ duties-are s tables marks e =
     let x = next (table_of which.DutyMarks tables) _ marks e in
     let y = next (needed which.DutyMarks (duty_columns x.value.columns)) _ marks x.made in
     let z = next (no_wrong which.DutyMarks (first_wrong (duty_entry s y.value) x.value.rows)) _ marks y.made in
-    subst (AreDuties s) (ok-same _ marks z.made) (record { of_number = all-duties s y.value DutyNumber x.value.rows; of_cost = all-duties s y.value DutyCost x.value.rows })
+    subst (AreDuties s) (ok-same _ marks z.made)
+    (record { of_number = all-duties s y.value DutyNumber x.value.rows; of_cost = all-duties s y.value DutyCost x.value.rows })
 
 record AreBlocks (s : Shape) (marks : BlockMarks) : Type 0 where
   pub of_number : Each (IsBlockMarkOf s.trips (length s.classes.pools)) marks.of_number
@@ -113,7 +119,8 @@ blocks-are s tables marks e =
     let x = next (table_of which.BlockMarks tables) _ marks e in
     let y = next (needed which.BlockMarks (block_columns x.value.columns)) _ marks x.made in
     let z = next (no_wrong which.BlockMarks (first_wrong (block_entry s y.value) x.value.rows)) _ marks y.made in
-    subst (AreBlocks s) (ok-same _ marks z.made) (record { of_number = all-blocks s y.value BlockNumber x.value.rows; of_cost = all-blocks s y.value BlockCost x.value.rows })
+    subst (AreBlocks s) (ok-same _ marks z.made)
+    (record { of_number = all-blocks s y.value BlockNumber x.value.rows; of_cost = all-blocks s y.value BlockCost x.value.rows })
 
 all-of : {A : Type 0} (P : A → Type 0) (xs : List A) → Each P xs → All P xs
 all-of P [] each = All-nil P
@@ -121,12 +128,14 @@ all-of P (x ∷ xs) each = All-cons P x xs each.0 (all-of P xs each.1)
 
 moderate-all : (zs : List ℤ) → Each IsModerateNumber zs → All IsModerate (map price zs)
 moderate-all [] each = All-nil IsModerate
-moderate-all (z ∷ zs) each = let head = each.0 in All-cons IsModerate (price z) (map price zs) (head.least, head.most) (moderate-all zs each.1)
+moderate-all (z ∷ zs) each =
+    let head = each.0 in All-cons IsModerate (price z) (map price zs) (head.least, head.most) (moderate-all zs each.1)
 
 abbrev Any : ℤ → Type 0
 Any z = Unit {0}
 
-part-is : (items classes : ℕ) (numbers class_prices : List ℤ) (part-of : IsList IsModerateNumber items numbers) (classes-of : IsList Any classes class_prices) → (length (map price numbers) ≡ items) × All IsModerate (map price numbers)
+part-is : (items classes : ℕ) (numbers class_prices : List ℤ) (part-of : IsList IsModerateNumber items numbers)
+    (classes-of : IsList Any classes class_prices) → (length (map price numbers) ≡ items) × All IsModerate (map price numbers)
 part-is items classes numbers class_prices part-of classes-of = (length-map numbers price ∙ part-of.long, moderate-all numbers part-of.each)
 
 -- what is read has its parts
@@ -146,8 +155,28 @@ parts-are s tables cert e =
     let p4 = part-is s.pieces (length s.classes.groups) x.value.duty_cost y.value.duty_cost ps.four_is cs.four_is in
     let P : Cert → Type 0 = λ c. AreParts s c.parts in
     subst P (ok-same (cert_from x.value y.value z.value w.value) cert w.made) (
-      record { part_is = record { prices = p1.0; moderate = p1.1; class_prices = cs.one.long }; marks = all-of (IsBlockMarkOf s.trips (length s.classes.pools)) w.value.of_number bs.of_number; none = refl },
-      record { part_is = record { prices = p2.0; moderate = p2.1; class_prices = cs.two.long }; marks = all-of (IsBlockMarkOf s.trips (length s.classes.pools)) w.value.of_cost bs.of_cost; none = refl },
-      record { part_is = record { prices = p3.0; moderate = p3.1; class_prices = cs.three.long }; marks = all-of (IsMarkOf s.pieces (length s.classes.groups)) z.value.of_number ds.of_number; none = refl },
-      record { part_is = record { prices = p4.0; moderate = p4.1; class_prices = cs.four_is.long }; marks = all-of (IsMarkOf s.pieces (length s.classes.groups)) z.value.of_cost ds.of_cost; none = refl },
+      record {
+        part_is = record { prices = p1.0; moderate = p1.1; class_prices = cs.one.long };
+        marks =
+            all-of (IsBlockMarkOf s.trips (length s.classes.pools)) w.value.of_number bs.of_number;
+        none = refl;
+      },
+      record {
+        part_is = record { prices = p2.0; moderate = p2.1; class_prices = cs.two.long };
+        marks =
+            all-of (IsBlockMarkOf s.trips (length s.classes.pools)) w.value.of_cost bs.of_cost;
+        none = refl;
+      },
+      record {
+        part_is = record { prices = p3.0; moderate = p3.1; class_prices = cs.three.long };
+        marks =
+            all-of (IsMarkOf s.pieces (length s.classes.groups)) z.value.of_number ds.of_number;
+        none = refl;
+      },
+      record {
+        part_is = record { prices = p4.0; moderate = p4.1; class_prices = cs.four_is.long };
+        marks =
+            all-of (IsMarkOf s.pieces (length s.classes.groups)) z.value.of_cost ds.of_cost;
+        none = refl;
+      },
     )

@@ -23,11 +23,13 @@ item_prices numbers = record { items = map price numbers }
 
 -- the part of a pass over blocks, whose cover of duties is empty
 abbrev pub block_part : List ℤ → List ℤ → List BlockMark → CertPart
-block_part numbers class_prices ms = record { prices = item_prices numbers; class_prices = class_prices; cover = record { marks = [] }; blocks = record { marks = ms } }
+block_part numbers class_prices ms =
+    record { prices = item_prices numbers; class_prices = class_prices; cover = record { marks = [] }; blocks = record { marks = ms } }
 
 -- the part of a pass over duties, whose cover of blocks is empty
 abbrev pub duty_part : List ℤ → List ℤ → List Mark → CertPart
-duty_part numbers class_prices ms = record { prices = item_prices numbers; class_prices = class_prices; cover = record { marks = ms }; blocks = record { marks = [] } }
+duty_part numbers class_prices ms =
+    record { prices = item_prices numbers; class_prices = class_prices; cover = record { marks = ms }; blocks = record { marks = [] } }
 
 -- the four parts, in the order of the passes
 abbrev pub cert_from : FourLists → FourLists → DutyMarks → BlockMarks → Cert

@@ -57,7 +57,11 @@ abbrev pub put_when : {M : Type 0} → List M → Pass → Pass → M → List M
 put_when marks pass own mark = if same_pass own pass then marks ++ mark ∷ [] else marks
 
 abbrev pub with_mark : {M : Type 0} → MarkTable → PassMarks M → PassMark M → PassMarks M
-with_mark kept marks e = record { of_number = put_when marks.of_number kept.by_number e.pass e.mark; of_cost = put_when marks.of_cost kept.by_cost e.pass e.mark }
+with_mark kept marks e = record {
+  of_number = put_when marks.of_number kept.by_number e.pass e.mark;
+  of_cost =
+      put_when marks.of_cost kept.by_cost e.pass e.mark;
+}
 
 -- the marks that rows give, each of which gives one
 abbrev pub marks_in : {M : Type 0} → MarkTable → (List Field → Option (PassMark M)) → List (List Field) → Result (PassMarks M) Place
@@ -72,7 +76,8 @@ abbrev pub block_marks_in : Shape → BlockColumns → List (List Field) → Res
 block_marks_in s columns rows = marks_in block_table (block_entry s columns) rows
 
 -- the marks of a table, which stands once and has its columns
-abbrev pub marks_of : {C M : Type 0} → MarkTable → (List Head → Option C) → (C → List Field → Option (PassMark M)) → List Table → Result (PassMarks M) Place
+abbrev pub marks_of : {C M : Type 0} → MarkTable → (List Head → Option C) → (C → List Field → Option (PassMark M)) →
+    List Table → Result (PassMarks M) Place
 marks_of kept columns_of entry tables = do
   table ← table_of kept.table tables
   columns ← needed kept.table (columns_of table.columns)

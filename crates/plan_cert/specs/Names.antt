@@ -13,5 +13,6 @@ abbrev pub columns_of : CertTable → List (List ℕ)
 columns_of which.Prices = codes "ART" ∷ codes "LFD_NR" ∷ codes "PREIS" ∷ []
 columns_of which.ClassPrices = codes "ART" ∷ codes "KLASSE" ∷ codes "PREIS" ∷ []
 columns_of which.DutyMarks =
-    codes "ART" ∷ codes "GRUPPE_NR" ∷ codes "STUECK" ∷ codes "BEGINN" ∷ codes "LENK" ∷ codes "VIERTEL" ∷ codes "GESAMT" ∷ codes "DREI" ∷ codes "WERT" ∷ []
+    codes "ART" ∷ codes "GRUPPE_NR" ∷ codes "STUECK" ∷ codes "BEGINN" ∷ codes "LENK" ∷ codes "VIERTEL" ∷ codes "GESAMT"
+    ∷ codes "DREI" ∷ codes "WERT" ∷ []
 columns_of which.BlockMarks = codes "ART" ∷ codes "HOF_NR" ∷ codes "LFD_NR" ∷ codes "LENK" ∷ codes "WERT" ∷ []

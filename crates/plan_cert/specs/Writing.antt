@@ -45,12 +45,14 @@ class_row pass number price = pass_field pass ∷ whole number ∷ Some price �
 -- of prices whose classes are counted on from this one, with the numbers of all classes
 abbrev pub class_rows : Pass → List ℕ → ℕ → List ℤ → List Row
 class_rows pass numbers class [] = []
-class_rows pass numbers class (price ∷ prices) = class_row pass (slice_index numbers class) price ∷ class_rows pass numbers (class + 1) prices
+class_rows pass numbers class (price ∷ prices) =
+    class_row pass (slice_index numbers class) price ∷ class_rows pass numbers (class + 1) prices
 
 -- the pass, GRUPPE_NR, the piece from 1, sign-on, driving, quarter, total, three, value
 abbrev pub duty_row : Pass → ℕ → Mark → Row
 duty_row pass number m =
-    pass_field pass ∷ whole number ∷ whole (m.piece + 1) ∷ Some m.start.0 ∷ whole m.driving ∷ bit m.quarter ∷ whole m.total ∷ bit m.three ∷ Some m.value ∷ []
+    pass_field pass ∷ whole number ∷ whole (m.piece + 1) ∷ Some m.start.0 ∷ whole m.driving ∷ bit m.quarter ∷ whole m.total
+    ∷ bit m.three ∷ Some m.value ∷ []
 
 abbrev pub duty_rows : Pass → List ℕ → List Mark → List Row
 duty_rows pass numbers marks = map (λ (m : Mark). duty_row pass (slice_index numbers m.class) m) marks
@@ -74,11 +76,13 @@ cert_table t rows = signed_table (name_of t) (columns_of t) rows
 
 abbrev pub all_price_rows : CertPart → CertPart → CertPart → CertPart → List Row
 all_price_rows one two three four =
-    price_rows BlockNumber 0 one.prices.items ++ price_rows BlockCost 0 two.prices.items ++ price_rows DutyNumber 0 three.prices.items ++ price_rows DutyCost 0 four.prices.items
+    price_rows BlockNumber 0 one.prices.items ++ price_rows BlockCost 0 two.prices.items ++ price_rows DutyNumber 0 three.prices.items
+    ++ price_rows DutyCost 0 four.prices.items
 
 abbrev pub all_class_rows : ClassNumbers → CertPart → CertPart → CertPart → CertPart → List Row
 all_class_rows c one two three four =
-    class_rows BlockNumber c.pools 0 one.class_prices ++ class_rows BlockCost c.pools 0 two.class_prices ++ class_rows DutyNumber c.groups 0 three.class_prices ++ class_rows DutyCost c.groups 0 four.class_prices
+    class_rows BlockNumber c.pools 0 one.class_prices ++ class_rows BlockCost c.pools 0 two.class_prices
+    ++ class_rows DutyNumber c.groups 0 three.class_prices ++ class_rows DutyCost c.groups 0 four.class_prices
 
 abbrev pub all_duty_rows : ClassNumbers → CertPart → CertPart → List Row
 all_duty_rows c three four = duty_rows DutyNumber c.groups three.cover.marks ++ duty_rows DutyCost c.groups four.cover.marks
@@ -107,5 +111,6 @@ pub record HasClasses (c : ClassNumbers) (pass : Pass) (part : CertPart) : Type 
 
 -- four parts, one for each pass, with their classes
 abbrev pub HaveClasses : ClassNumbers → List CertPart → Type 0
-HaveClasses c (one ∷ two ∷ three ∷ four ∷ []) = HasClasses c BlockNumber one × HasClasses c BlockCost two × HasClasses c DutyNumber three × HasClasses c DutyCost four
+HaveClasses c (one ∷ two ∷ three ∷ four ∷ []) =
+    HasClasses c BlockNumber one × HasClasses c BlockCost two × HasClasses c DutyNumber three × HasClasses c DutyCost four
 HaveClasses c _ = ⊥

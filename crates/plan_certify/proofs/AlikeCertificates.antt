@@ -52,9 +52,12 @@ module _ (a : DayFacts) (d : List (Ends × ℕ)) (same : (x y : Point) → dead 
 
   link_same : (pool : Pool) (t u : Trip) → link a pool t u ≡ link told pool t u
   link_same pool t u =
-      ap (λ o. first_of (direct_over a.params.settings t u o) (depot_over t u (dead a t.to pool.depot) (dead a pool.depot u.from))) (same t.to u.from)
-      ∙ ap (λ o. first_of (direct_over a.params.settings t u (dead_on d t.to u.from)) (depot_over t u o (dead a pool.depot u.from))) (same t.to pool.depot)
-      ∙ ap (λ o. first_of (direct_over a.params.settings t u (dead_on d t.to u.from)) (depot_over t u (dead_on d t.to pool.depot) o)) (same pool.depot u.from)
+      ap (λ o. first_of (direct_over a.params.settings t u o) (depot_over t u (dead a t.to pool.depot) (dead a pool.depot u.from)))
+      (same t.to u.from)
+      ∙ ap (λ o. first_of (direct_over a.params.settings t u (dead_on d t.to u.from)) (depot_over t u o (dead a pool.depot u.from)))
+      (same t.to pool.depot)
+      ∙ ap (λ o. first_of (direct_over a.params.settings t u (dead_on d t.to u.from)) (depot_over t u (dead_on d t.to pool.depot) o))
+      (same pool.depot u.from)
 
   links_same : link a ≡ link told
   links_same = fun_ext (λ pool. fun_ext (λ t. fun_ext (λ u. link_same pool t u)))
@@ -62,25 +65,40 @@ module _ (a : DayFacts) (d : List (Ends × ℕ)) (same : (x y : Point) → dead 
   first_same : (counts : Bool) (prices : List Price) → first_mark a counts prices ≡ first_mark told counts prices
   first_same counts prices =
       fun_ext (λ class. fun_ext (λ k.
-      ap (λ (outs : Pool → Trip → Option ℕ). with_pool a class (λ pool. with_trip a k (λ t. given (admits a t.line pool.typ) (option_and_then (λ out.
-      kept (mark class k (out + trip_seconds t) (cond counts (pos 1000) (pos (1000 * (pool.fixed + pool.dead_rate * out))) -ℤ price_at prices k))) (outs pool t))))) outs_same))
+      ap (λ (outs : Pool → Trip → Option ℕ). with_pool a class
+      (λ pool. with_trip a k (λ t. given (admits a t.line pool.typ) (option_and_then (λ out.
+      kept (mark class k (out + trip_seconds t)
+      (cond counts (pos 1000) (pos (1000 * (pool.fixed + pool.dead_rate * out))) -ℤ price_at prices k))) (outs pool t))))) outs_same))
 
   extended_same : (counts : Bool) (prices : List Price) → extended_mark a counts prices ≡ extended_mark told counts prices
   extended_same counts prices =
       fun_ext (λ m. fun_ext (λ k.
-      ap (λ (links : Pool → Trip → Trip → Option Link). with_pool a m.class (λ pool. with_trip a m.trip (λ t. with_trip a k (λ u. given (nat_lt m.trip k && admits a u.line pool.typ)
+      ap (λ (links : Pool → Trip → Trip → Option Link). with_pool a m.class
+      (λ pool. with_trip a m.trip (λ t. with_trip a k (λ u. given (nat_lt m.trip k && admits a u.line pool.typ)
       (option_and_then (extended_over a counts prices pool m k u) (links pool t u)))))) links_same))
 
   closed_same : (counts : Bool) → closed_value a counts ≡ closed_value told counts
   closed_same counts =
       fun_ext (λ m.
       ap (λ (ins : Pool → Trip → Option ℕ). with_pool a m.class (λ pool. with_trip a m.trip (λ t. option_and_then (λ inward.
-      given (nat_le (m.driving + inward) longest_driving) (Some (m.value +ℤ scaled counts (pool.dead_rate * inward)))) (ins pool t)))) ins_same)
+      given (nat_le (m.driving + inward) longest_driving) (Some (m.value +ℤ scaled counts (pool.dead_rate * inward)))) (ins pool t))))
+      ins_same)
 
   pub marking_same : (counts : Bool) (prices : List Price) → block_marking a counts prices ≡ block_marking told counts prices
   marking_same counts prices =
-      let marking : (ℕ → ℕ → Option BlockMark) → (BlockMark → ℕ → Option BlockMark) → (BlockMark → Option ℤ) → Marking BlockMark = λ start extend close.
-      record { items = length a.trips; classes = length a.params.pools; start = start; extend = extend; close = close; good = is_as_good; class_of = λ m. m.class; last = λ m. m.trip } in
+      let marking : (ℕ → ℕ → Option BlockMark) → (BlockMark → ℕ → Option BlockMark) → (BlockMark → Option ℤ) → Marking BlockMark =
+      λ start extend close.
+      record {
+        items = length a.trips;
+        classes = length a.params.pools;
+        start = start;
+        extend = extend;
+        close = close;
+        good =
+            is_as_good;
+        class_of = λ m. m.class;
+        last = λ m. m.trip;
+      } in
       ap (λ start. marking start (extended_mark a counts prices) (closed_value a counts)) (first_same counts prices)
       ∙ ap (λ extend. marking (first_mark told counts prices) extend (closed_value a counts)) (extended_same counts prices)
       ∙ ap (λ close. marking (first_mark told counts prices) (extended_mark told counts prices) close) (closed_same counts)
@@ -98,22 +116,33 @@ module _ (one other : DayFacts) (alike : AreAlike one other) where
 
   duties_alike : (blocks : List Column) (counts : Bool) → duty_facts one blocks counts ≡ duty_facts other blocks counts
   duties_alike blocks counts =
-      let over : (List Column → List WorkPiece) → ParamRows → DutyFacts = λ pieces params. record { pieces = pieces blocks; params = params; counts = counts } in
+      let over : (List Column → List WorkPiece) → ParamRows → DutyFacts =
+      λ pieces params. record { pieces = pieces blocks; params = params; counts = counts } in
       ap (λ pieces. over pieces one.params) (same_pieces one other alike) ∙ ap (λ params. over (pieces_of_plan other) params) alike.params
 
   classes_alike : class_numbers_of one ≡ class_numbers_of other
   classes_alike = ap (λ params. class_numbers_of (record one { params = params })) alike.params
 
-  block_part_alike : (counts : Bool) (offer : Kept) (part : CertPart) → IsBlockPartOf one counts offer part → IsBlockPartOf other counts offer part
+  block_part_alike : (counts : Bool) (offer : Kept) (part : CertPart) → IsBlockPartOf one counts offer part →
+      IsBlockPartOf other counts offer part
   block_part_alike counts offer part h =
       let same = marking_alike counts offer.prices.items in
       let P : Marking BlockMark → Type 0 = λ m. AreMinimal m block_order part.blocks.marks in
       let Q : Marking BlockMark → Type 0 = λ m. IsMarkCover m part.blocks.marks offer.class_prices in
-      record { prices = h.prices; class_prices = h.class_prices; least = subst P same h.least; covers = subst Q same h.covers; none = h.none }
+      record {
+        prices = h.prices;
+        class_prices = h.class_prices;
+        least = subst P same h.least;
+        covers =
+            subst Q same h.covers;
+        none = h.none;
+      }
 
-  duty_part_alike : (blocks : List Column) (counts : Bool) (offer : Kept) (part : CertPart) → IsDutyPartOf (duty_facts one blocks counts) offer part
+  duty_part_alike : (blocks : List Column) (counts : Bool) (offer : Kept) (part : CertPart) →
+      IsDutyPartOf (duty_facts one blocks counts) offer part
       → IsDutyPartOf (duty_facts other blocks counts) offer part
-  duty_part_alike blocks counts offer part h = let P : DutyFacts → Type 0 = λ over. IsDutyPartOf over offer part in subst P (duties_alike blocks counts) h
+  duty_part_alike blocks counts offer part h =
+      let P : DutyFacts → Type 0 = λ over. IsDutyPartOf over offer part in subst P (duties_alike blocks counts) h
 
   certs_alike : (blocks duties : SidePlan) (cert : Cert) → IsCertOf one blocks duties cert → IsCertOf other blocks duties cert
   certs_alike blocks duties cert h = record {

@@ -24,16 +24,22 @@ never status other (inl e) = other e
 never status other (inr p) = p
 
 -- the cause of a refusal of the bytes is one of what is held
-pub page_cause : (held : Option (List ℕ)) (before now : ℕ) (bytes : List ℕ) (status : Status) → IfSome held (λ h. bytes ≡ h) → IsRefused bytes status → IsCause held before now status
+pub page_cause : (held : Option (List ℕ)) (before now : ℕ) (bytes : List ℕ) (status : Status) → IfSome held (λ h. bytes ≡ h) →
+    IsRefused bytes status → IsCause held before now status
 page_cause held before now bytes statuses.Memory same refused = tt
 page_cause held before now bytes statuses.ReadFault same refused = absurd (never statuses.ReadFault (λ e. cc) refused)
-page_cause held before now bytes (statuses.Text fault) same refused = told (λ h. IsRefusal h (statuses.Text fault)) held bytes same (text_of bytes fault refused)
-page_cause held before now bytes (statuses.Form place) same refused = told (λ h. IsRefusal h (statuses.Form place)) held bytes same (form_of bytes place refused)
+page_cause held before now bytes (statuses.Text fault) same refused =
+    told (λ h. IsRefusal h (statuses.Text fault)) held bytes same (text_of bytes fault refused)
+page_cause held before now bytes (statuses.Form place) same refused =
+    told (λ h. IsRefusal h (statuses.Form place)) held bytes same (form_of bytes place refused)
 page_cause held before now bytes statuses.Ok same refused = never statuses.Ok (λ e. cc) refused
 page_cause held before now bytes statuses.Usage same refused = never statuses.Usage (λ e. cc) refused
 page_cause held before now bytes statuses.WriteFault same refused = never statuses.WriteFault (λ e. cc) refused
 
 -- the same of an answer
-pub held_cause : (r : Result (List ℕ) Status) (held : Option (List ℕ)) (before now : ℕ) (bytes slice : List ℕ) → IfSome held (λ h. bytes ≡ h) → slice ≡ bytes → IfErr r (λ status. IsRefused slice status) → IfErr r (λ status. IsCause held before now status)
+pub held_cause : (r : Result (List ℕ) Status) (held : Option (List ℕ)) (before now : ℕ) (bytes slice : List ℕ) →
+    IfSome held (λ h. bytes ≡ h) → slice ≡ bytes → IfErr r (λ status. IsRefused slice status) →
+    IfErr r (λ status. IsCause held before now status)
 held_cause (Ok page) held before now bytes slice same is p = tt
-held_cause (Err e) held before now bytes slice same is p = page_cause held before now bytes e same (let P : List ℕ → Type 0 = λ b. IsRefused b e in subst P is p)
+held_cause (Err e) held before now bytes slice same is p =
+    page_cause held before now bytes e same (let P : List ℕ → Type 0 = λ b. IsRefused b e in subst P is p)

@@ -10,7 +10,8 @@ abbrev pub line_of : Status → List ℕ
 line_of statuses.Ok = []
 line_of statuses.Usage = codes "usage: planner-chart PLAN\n"
 line_of (statuses.Text fault) = joined (codes "file 1 line " ∷ decimal fault.line ∷ codes ": " ∷ text_kind fault.kind ∷ codes "\n" ∷ [])
-line_of (statuses.Form place) = joined (codes "table " ∷ name_of place.table ∷ codes " row " ∷ decimal place.row ∷ codes ": not drawn\n" ∷ [])
+line_of (statuses.Form place) =
+    joined (codes "table " ∷ name_of place.table ∷ codes " row " ∷ decimal place.row ∷ codes ": not drawn\n" ∷ [])
 line_of statuses.ReadFault = codes "read fault: file 1\n"
 line_of statuses.WriteFault = codes "write fault\n"
 line_of statuses.Memory = codes "out of memory\n"

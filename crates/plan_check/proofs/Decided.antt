@@ -21,7 +21,8 @@ record IsFirst (count from k : ℕ) (test : ℕ → Bool) : Type 0 where
 first-some : (count from k : ℕ) (test : ℕ → Bool) → first_of count from test ≡ Some k → IsFirst count from k test
 first-some zero from k test e = absurd (cc)
 first-some (suc count) from k test e =
-    elim (test from) as (λ t. test from ≡ t → cond t (Some from) (first_of count (from + 1) test) ≡ Some k → IsFirst (suc count) from k test) [
+    elim (test from) as (λ t. test from ≡ t → cond t (Some from) (first_of count (from + 1) test) ≡ Some k →
+    IsFirst (suc count) from k test) [
       | true ↦ λ is f.
           let g : Option ℕ → ℕ = λ o. unwrap_or o 0 in
           let same : from ≡ k = ap g f in
@@ -36,7 +37,8 @@ first-some (suc count) from k test e =
             most = omega arith;
             passes = x.passes;
             others = λ j low high. elim (nat_eq j from) as (λ t. nat_eq j from ≡ t → test j ≡ false) [
-              | true ↦ λ equal. let same : from ≡ j = grind (arith, nat_tests) in let P : ℕ → Type 0 = λ n. test n ≡ false in subst P same is
+              | true ↦ λ equal. let same : from ≡ j = grind (arith, nat_tests) in
+                  let P : ℕ → Type 0 = λ n. test n ≡ false in subst P same is
               | false ↦ λ other. let above : from + 1 ≤ j = grind (arith, nat_tests) in x.others j above high
             ] refl;
           }
@@ -75,7 +77,8 @@ pub first-is : (count : ℕ) (test : ℕ → Bool) (o : Option ℕ) → IsFirstO
 first-is count test o h = elim (first_of count 0 test) as (λ r. first_of count 0 test ≡ r → r ≡ o) [
   | None ↦ λ e. elim o as (λ o. IsFirstOf count test o → None ≡ o) [
     | None ↦ λ h. refl
-    | Some k ↦ λ h. let passes = h.1 in let below = h.0 in let fails = first-none count 0 test e k (omega arith) (omega arith) in absurd (cc)
+    | Some k ↦ λ h. let passes = h.1 in let below = h.0 in
+        let fails = first-none count 0 test e k (omega arith) (omega arith) in absurd (cc)
   ] h
   | Some k ↦ λ e. first-one count k test o (first-some count 0 k test e) h
 ] refl
@@ -95,7 +98,8 @@ off : (lists : List Column) (item : ℕ) → is_off lists item ≡ true → time
 off lists item h = λ one. let other = not-true (nat_eq (times item (all_items lists)) 1) h in grind (arith, nat_tests)
 
 -- a list has a worth exactly where it is found
-worth-from : (p : Problem) (c : Column) (worth : ℕ) → worth_in p c ≡ Some worth → (c.class < length p.caps) × (p.worth c.class c.items ≡ Some worth)
+worth-from : (p : Problem) (c : Column) (worth : ℕ) → worth_in p c ≡ Some worth →
+    (c.class < length p.caps) × (p.worth c.class c.items ≡ Some worth)
 worth-from p c worth e =
     elim (nat_lt c.class (length p.caps)) as (λ t. nat_lt c.class (length p.caps) ≡ t → cond t (p.worth c.class c.items) None ≡ Some worth →
     (c.class < length p.caps) × (p.worth c.class c.items ≡ Some worth)) [
@@ -123,7 +127,8 @@ record AreFound (p : Problem) (lists : List Column) : Type 0 where
 worthy : (p : Problem) (from : ℕ) (lists : List Column) → first_worthless p from lists ≡ None → AreFound p lists
 worthy p from [] e = record { columns = tt; worths = λ spot list at. absurd (cc) }
 worthy p from (c ∷ cs) e =
-    elim (worth_in p c) as (λ o. worth_in p c ≡ o → (elim o as (λ x. Option ℕ) [ None ↦ Some from | Some worth ↦ first_worthless p (from + 1) cs ]) ≡ None → AreFound p (c ∷ cs)) [
+    elim (worth_in p c) as (λ o. worth_in p c ≡ o →
+    (elim o as (λ x. Option ℕ) [ None ↦ Some from | Some worth ↦ first_worthless p (from + 1) cs ]) ≡ None → AreFound p (c ∷ cs)) [
       | None ↦ λ is f. absurd (cc)
       | Some worth ↦ λ is f.
           let rest = worthy p (from + 1) cs f in
@@ -151,10 +156,20 @@ record IsWorthless (p : Problem) (from spot : ℕ) (lists : List Column) : Type 
 worthless : (p : Problem) (from spot : ℕ) (lists : List Column) → first_worthless p from lists ≡ Some spot → IsWorthless p from spot lists
 worthless p from spot [] e = absurd (cc)
 worthless p from spot (c ∷ cs) e =
-    elim (worth_in p c) as (λ o. worth_in p c ≡ o → (elim o as (λ x. Option ℕ) [ None ↦ Some from | Some worth ↦ first_worthless p (from + 1) cs ]) ≡ Some spot → IsWorthless p from spot (c ∷ cs)) [
+    elim (worth_in p c) as (λ o. worth_in p c ≡ o →
+    (elim o as (λ x. Option ℕ) [ None ↦ Some from | Some worth ↦ first_worthless p (from + 1) cs ]) ≡ Some spot →
+    IsWorthless p from spot (c ∷ cs)) [
       | None ↦ λ is f.
           let same : from ≡ spot = some-same from spot f in
-          record { gap = 0; spot_is = omega arith; list = c; at = refl; none = worth-none p c is; before = λ k l below at. absurd (omega arith) }
+          record {
+            gap = 0;
+            spot_is = omega arith;
+            list = c;
+            at = refl;
+            none = worth-none p c is;
+            before =
+                λ k l below at. absurd (omega arith);
+          }
       | Some worth ↦ λ is f.
           let x = worthless p (from + 1) spot cs f in
           let shifted = x.spot_is in
@@ -176,14 +191,17 @@ same-lists : (p : Problem) (lists : List Column) → HaveSameLists lists (map (w
 same-lists p [] = tt
 same-lists p (c ∷ cs) = (refl, refl, same-lists p cs)
 
-within-cap : (p : Problem) (lists : List Column) (class : ℕ) → is_over p lists class ≡ false → times class (all_classes lists) ≤ slice_index p.caps class
+within-cap : (p : Problem) (lists : List Column) (class : ℕ) → is_over p lists class ≡ false →
+    times class (all_classes lists) ≤ slice_index p.caps class
 within-cap p lists class h = grind (arith, nat_tests)
 
-over-cap : (p : Problem) (lists : List Column) (class : ℕ) → is_over p lists class ≡ true → slice_index p.caps class < times class (all_classes lists)
+over-cap : (p : Problem) (lists : List Column) (class : ℕ) → is_over p lists class ≡ true →
+    slice_index p.caps class < times class (all_classes lists)
 over-cap p lists class h = grind (arith, nat_tests)
 
 -- by the classes
-classes-verdict : (p : Problem) (lists : List Column) (o : Option ℕ) → StandOnce p lists → AreFound p lists → first_of (length p.caps) 0 (is_over p lists) ≡ o → IsVerdict p lists (by_classes p lists o)
+classes-verdict : (p : Problem) (lists : List Column) (o : Option ℕ) → StandOnce p lists → AreFound p lists →
+    first_of (length p.caps) 0 (is_over p lists) ≡ o → IsVerdict p lists (by_classes p lists o)
 classes-verdict p lists (Some class) stand found e =
     let x = first-some (length p.caps) 0 class (is_over p lists) e in
     let most = x.most in (
@@ -222,17 +240,26 @@ unlawful-found p lists (Some spot) e =
     record { list = x.list; at = subst P same x.at; none = x.none; first = subst Q same x.before }
 unlawful-found p lists None e = λ spot list below at. (worthy p 0 lists e).worths spot list at
 
-worths-verdict : (p : Problem) (lists : List Column) (o : Option ℕ) → StandOnce p lists → first_worthless p 0 lists ≡ o → IsVerdict p lists (by_worths p lists o)
+worths-verdict : (p : Problem) (lists : List Column) (o : Option ℕ) → StandOnce p lists → first_worthless p 0 lists ≡ o →
+    IsVerdict p lists (by_worths p lists o)
 worths-verdict p lists (Some spot) stand e = (stand, unlawful-found p lists (Some spot) e)
 worths-verdict p lists None stand e = classes-verdict p lists (first_of (length p.caps) 0 (is_over p lists)) stand (worthy p 0 lists e) refl
 
-items-verdict : (p : Problem) (lists : List Column) (o : Option ℕ) → first_of p.items 0 (is_off lists) ≡ o → IsVerdict p lists (by_items p lists o)
+items-verdict : (p : Problem) (lists : List Column) (o : Option ℕ) → first_of p.items 0 (is_off lists) ≡ o →
+    IsVerdict p lists (by_items p lists o)
 items-verdict p lists (Some item) e =
     let x = first-some p.items 0 item (is_off lists) e in
     let most = x.most in
-    record { there = omega arith; count_is = refl; other = off lists item x.passes; first = λ earlier below. once lists earlier (x.others earlier (omega arith) below) }
+    record {
+      there = omega arith;
+      count_is = refl;
+      other = off lists item x.passes;
+      first =
+          λ earlier below. once lists earlier (x.others earlier (omega arith) below);
+    }
 items-verdict p lists None e =
-    worths-verdict p lists (first_worthless p 0 lists) (λ item below. once lists item (first-none p.items 0 (is_off lists) e item (omega arith) (omega arith))) refl
+    worths-verdict p lists (first_worthless p 0 lists)
+    (λ item below. once lists item (first-none p.items 0 (is_off lists) e item (omega arith) (omega arith))) refl
 
 -- the computed verdict is one
 pub verdict-is : (p : Problem) (lists : List Column) → IsVerdict p lists (verdict_of p lists)

@@ -33,7 +33,8 @@ some-same : {A : Type 0} (x y : A) → Some x ≡ Some y → x ≡ y
 some-same {A = A} x y e = let f : Option A → A = λ o. unwrap_or o x in ap f e
 
 -- so a list at a place has a worth where the lists are the same as columns
-pub worth-at : (p : Problem) (as' bs : List Column) (place : ℕ) (list : Column) → HaveSameLists as' bs → AreColumns p bs → slice_get as' place ≡ Some list → HasWorth p list
+pub worth-at : (p : Problem) (as' bs : List Column) (place : ℕ) (list : Column) → HaveSameLists as' bs → AreColumns p bs →
+    slice_get as' place ≡ Some list → HasWorth p list
 worth-at p [] [] place list h columns at = absurd (cc)
 worth-at p [] (b ∷ bs) place list h columns at = absurd h
 worth-at p (a ∷ as') [] place list h columns at = absurd h
@@ -48,11 +49,13 @@ one-column : (p : Problem) (l a b : Column) → l.class ≡ a.class → l.items 
 one-column p l a b ca ia cb ib wa wb =
     let class : a.class ≡ b.class = sym ca ∙ cb in
     let items : a.items ≡ b.items = sym ia ∙ ib in
-    let worth : a.worth ≡ b.worth = some-same a.worth b.worth (sym wa ∙ (ap (λ k. p.worth k a.items) class ∙ (ap (λ xs. p.worth b.class xs) items ∙ wb))) in
+    let worth : a.worth ≡ b.worth =
+    some-same a.worth b.worth (sym wa ∙ (ap (λ k. p.worth k a.items) class ∙ (ap (λ xs. p.worth b.class xs) items ∙ wb))) in
     let make : ℕ → ℕ → List ℕ → Column = λ c w is. record { class = c; worth = w; items = is } in
     ap (λ c. make c a.worth a.items) class ∙ (ap (λ w. make b.class w a.items) worth ∙ ap (λ is. make b.class b.worth is) items)
 
-one-plan : (p : Problem) (lists as' bs : List Column) → HaveSameLists lists as' → HaveSameLists lists bs → AreColumns p as' → AreColumns p bs → as' ≡ bs
+one-plan : (p : Problem) (lists as' bs : List Column) → HaveSameLists lists as' → HaveSameLists lists bs → AreColumns p as' →
+    AreColumns p bs → as' ≡ bs
 one-plan p [] [] [] h k ca cb = refl
 one-plan p [] [] (b ∷ bs) h k ca cb = absurd k
 one-plan p [] (a ∷ as') bs h k ca cb = absurd h
@@ -84,12 +87,13 @@ plans-found p lists plan (Over class used) same is_plan verdict =
     absurd (omega arith)
 
 pub shows : (p : Problem) → WeakDuality p → CountDuality p → ShowsPlans p
-shows p weak count counted plan prices prices' class_prices class_prices' fewest cheapest is_count is_plan counted_paid paid low low' = record {
-  is_plan = is_plan;
-  number = λ other is.
-      let items = counted_paid.items ∙ is_count.items in
-      let classes = counted_paid.classes ∙ ap length is_count.caps in
-      let bound = count counted prices class_prices is_count items classes counted_paid.paid other is in
-      omega arith;
-  costs = λ other is. let bound = weak prices' class_prices' paid.items paid.classes paid.paid other is in omega arith;
-}
+shows p weak count counted plan prices prices' class_prices class_prices' fewest cheapest is_count is_plan counted_paid paid low low' =
+    record {
+      is_plan = is_plan;
+      number = λ other is.
+          let items = counted_paid.items ∙ is_count.items in
+          let classes = counted_paid.classes ∙ ap length is_count.caps in
+          let bound = count counted prices class_prices is_count items classes counted_paid.paid other is in
+          omega arith;
+      costs = λ other is. let bound = weak prices' class_prices' paid.items paid.classes paid.paid other is in omega arith;
+    }

@@ -15,7 +15,8 @@ use Rattle.plan_check.specs.Judged.{verdict_of, with_worth}
 use Rattle.plan_check.specs.Verdicts.{HasFewLists, IsVerdict}
 use Rattle.plan_check.proofs.Decided.{verdict-is}
 
-few-found : (p : Problem) (lists : List Column) (v : PlanVerdict) → HasListedColumns p → p.items ≤ 3000 → IsVerdict p lists v → HasFewLists v
+few-found : (p : Problem) (lists : List Column) (v : PlanVerdict) → HasListedColumns p → p.items ≤ 3000 →
+    IsVerdict p lists v → HasFewLists v
 few-found p lists (Lawful plan) listed few is = omega (arith, few, has_few_columns p listed plan.columns is.1)
 few-found p lists (Times item count) listed few is = tt
 few-found p lists (Unlawful place) listed few is = tt
@@ -24,7 +25,8 @@ few-found p lists (Over class used) listed few is = tt
 -- so the computed verdict names few lists
 pub few-judged : {E : Type 0} (p : Problem) (lists : List Column) (r : Result PlanVerdict E) → HasListedColumns p → p.items ≤ 3000 →
     IfOk r (λ verdict. verdict ≡ verdict_of p lists) → IfOk r HasFewLists
-few-judged p lists (Ok v) listed few is = subst HasFewLists (sym is) (few-found p lists (verdict_of p lists) listed few (verdict-is p lists))
+few-judged p lists (Ok v) listed few is =
+    subst HasFewLists (sym is) (few-found p lists (verdict_of p lists) listed few (verdict-is p lists))
 few-judged p lists (Err e) listed few is = tt
 
 or-zero : (o : Option ℕ) → IfSome o (λ worth. worth ≤ 4000000000) → unwrap_or o 0 ≤ 4000000000

@@ -22,7 +22,8 @@ below-to n (x ∷ xs) all =
     let below = all.0 in
     and_from (nat_lt x n) (list_all (λ item. nat_lt item n) xs) (grind (arith, nat_tests)) (below-to n xs all.1)
 
-pub no-worth : (p : Problem) (c : Column) → HasListedColumns p → list_all (λ item. nat_lt item p.items) c.items ≡ false → worth_in p c ≡ None
+pub no-worth : (p : Problem) (c : Column) → HasListedColumns p → list_all (λ item. nat_lt item p.items) c.items ≡ false →
+    worth_in p c ≡ None
 no-worth p c listed off =
     elim (nat_lt c.class (length p.caps)) as (λ t. cond t (p.worth c.class c.items) None ≡ None) [
       | true ↦ elim (p.worth c.class c.items) as (λ o. p.worth c.class c.items ≡ o → o ≡ None) [

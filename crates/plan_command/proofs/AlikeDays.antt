@@ -49,7 +49,8 @@ module _ (one other : DayFacts) (alike : AreAlike one other) where
 
   blocks_alike : (counts : Bool) → blocks_of one counts ≡ blocks_of other counts
   blocks_alike counts =
-      let problem : List DayTrip → ParamRows → (ℕ → List ℕ → Option ℕ) → Problem = λ trips params worth. record { items = length trips; caps = caps_of params.pools; worth = worth } in
+      let problem : List DayTrip → ParamRows → (ℕ → List ℕ → Option ℕ) → Problem =
+      λ trips params worth. record { items = length trips; caps = caps_of params.pools; worth = worth } in
       ap (λ trips. problem trips one.params (block_worth one counts)) alike.trips
       ∙ ap (λ params. problem other.trips params (block_worth one counts)) alike.params
       ∙ ap (λ worth. problem other.trips other.params worth) (same_worth one other counts alike.trips alike.params alike.deads)
@@ -64,19 +65,23 @@ module _ (one other : DayFacts) (alike : AreAlike one other) where
       ∙ ap (λ params. legs_of (with other.trips params) pool list) alike.params
 
   parts_alike : (pool : Pool) (legs : List Leg) → parts one pool legs ≡ parts other pool legs
-  parts_alike pool legs = parts_same one other.deads alike.deads pool legs ∙ ap (λ params. parts (with other.trips params) pool legs) alike.params
+  parts_alike pool legs =
+      parts_same one other.deads alike.deads pool legs ∙ ap (λ params. parts (with other.trips params) pool legs) alike.params
 
   -- a list has the same legs, and they are cut alike
   pieces_alike : (pool : Pool) (number : ℕ) (list : List ℕ) → pieces_of one pool number list ≡ pieces_of other pool number list
   pieces_alike pool number list =
       let cuts : parts one pool ≡ parts other pool = fun_ext (λ legs. parts_alike pool legs) in
-      let pieces : (List Leg → List (List Leg)) → Option (List Leg) → Option (List WorkPiece) = λ cut legs. option_and_then (λ (ls : List Leg). Some (pieces_from number 1 (cut ls))) legs in
+      let pieces : (List Leg → List (List Leg)) → Option (List Leg) → Option (List WorkPiece) =
+      λ cut legs. option_and_then (λ (ls : List Leg). Some (pieces_from number 1 (cut ls))) legs in
       ap (λ cut. pieces cut (legs_of one pool list)) cuts ∙ ap (λ legs. pieces (parts other pool) legs) (legs_alike pool list)
 
   block_legs_alike : (block : Column) → block_legs one block ≡ block_legs other block
   block_legs_alike block =
-      let legs : (ParamRows → (Pool → Option (List Leg)) → List Leg) = λ params value. legs_or (option_and_then value (slice_get params.pools block.class)) in
-      let same : (λ (pool : Pool). legs_of one pool block.items) ≡ (λ (pool : Pool). legs_of other pool block.items) = fun_ext (λ pool. legs_alike pool block.items) in
+      let legs : (ParamRows → (Pool → Option (List Leg)) → List Leg) =
+      λ params value. legs_or (option_and_then value (slice_get params.pools block.class)) in
+      let same : (λ (pool : Pool). legs_of one pool block.items) ≡ (λ (pool : Pool). legs_of other pool block.items) =
+      fun_ext (λ pool. legs_alike pool block.items) in
       ap (λ params. legs params (λ (pool : Pool). legs_of one pool block.items)) alike.params ∙ ap (λ value. legs other.params value) same
 
   same_legs : block_legs one ≡ block_legs other
@@ -84,9 +89,12 @@ module _ (one other : DayFacts) (alike : AreAlike one other) where
 
   block_pieces_alike : (number : ℕ) (block : Column) → block_pieces one number block ≡ block_pieces other number block
   block_pieces_alike number block =
-      let pieces : (ParamRows → (Pool → Option (List WorkPiece)) → List WorkPiece) = λ params value. unwrap_or (option_and_then value (slice_get params.pools block.class)) [] in
-      let same : (λ (pool : Pool). pieces_of one pool number block.items) ≡ (λ (pool : Pool). pieces_of other pool number block.items) = fun_ext (λ pool. pieces_alike pool number block.items) in
-      ap (λ params. pieces params (λ (pool : Pool). pieces_of one pool number block.items)) alike.params ∙ ap (λ value. pieces other.params value) same
+      let pieces : (ParamRows → (Pool → Option (List WorkPiece)) → List WorkPiece) =
+      λ params value. unwrap_or (option_and_then value (slice_get params.pools block.class)) [] in
+      let same : (λ (pool : Pool). pieces_of one pool number block.items) ≡ (λ (pool : Pool). pieces_of other pool number block.items) =
+      fun_ext (λ pool. pieces_alike pool number block.items) in
+      ap (λ params. pieces params (λ (pool : Pool). pieces_of one pool number block.items)) alike.params
+      ∙ ap (λ value. pieces other.params value) same
 
   by_block_alike : (number : ℕ) (blocks : List Column) → pieces_by_block one number blocks ≡ pieces_by_block other number blocks
   by_block_alike number [] = refl
@@ -99,7 +107,8 @@ module _ (one other : DayFacts) (alike : AreAlike one other) where
 
   same_duties : duties_over one ≡ duties_over other
   same_duties =
-      let over : (List Column → List WorkPiece) → ParamRows → List Column → Bool → Problem = λ pieces params blocks counts. duties (record { pieces = pieces blocks; params = params; counts = counts }) in
+      let over : (List Column → List WorkPiece) → ParamRows → List Column → Bool → Problem =
+      λ pieces params blocks counts. duties (record { pieces = pieces blocks; params = params; counts = counts }) in
       ap (λ pieces. over pieces one.params) same_pieces ∙ ap (λ params. over (pieces_of_plan other) params) alike.params
 
   same_problems : (known : Option KnownPlan) → day_problems one known ≡ day_problems other known
@@ -120,7 +129,14 @@ module _ (one other : DayFacts) (alike : AreAlike one other) where
   pub tables_alike : (table : Table) (answer : Answer) → answer_tables one table answer ≡ answer_tables other table answer
   tables_alike table answer =
       let day : ℕ → ℕ → List DayTrip → ParamRows → DayFacts = λ version kind trips params.
-      record { kind = record { version = version; kind = kind; day = one.kind.day; weekday = one.kind.weekday }; rows = one.rows; trips = trips; params = params; deads = one.deads } in
+      record {
+        kind = record { version = version; kind = kind; day = one.kind.day; weekday = one.kind.weekday };
+        rows = one.rows;
+        trips =
+            trips;
+        params = params;
+        deads = one.deads;
+      } in
       ap (λ version. answer_tables (day version one.kind.kind one.trips one.params) table answer) alike.versions
       ∙ ap (λ kind. answer_tables (day other.kind.version kind one.trips one.params) table answer) alike.kinds
       ∙ ap (λ trips. answer_tables (day other.kind.version other.kind.kind trips one.params) table answer) alike.trips
@@ -149,13 +165,17 @@ module _ (one other : DayFacts) (alike : AreAlike one other) where
 
   planned_blocks_alike : (asked : Asked) (blocks : SidePlan) → ArePlannedBlocks one asked blocks → ArePlannedBlocks other asked blocks
   planned_blocks_alike asked blocks h =
-      let P : (Bool → Problem) → Type 0 = λ problem. IsPlannedSide (problem true) (problem false) asked.numbers (AreKnownBlocks one asked.flow) blocks in
-      side_where (blocks_of other true) (blocks_of other false) asked.numbers (AreKnownBlocks one asked.flow) (AreKnownBlocks other asked.flow) blocks
+      let P : (Bool → Problem) → Type 0 =
+      λ problem. IsPlannedSide (problem true) (problem false) asked.numbers (AreKnownBlocks one asked.flow) blocks in
+      side_where (blocks_of other true) (blocks_of other false) asked.numbers (AreKnownBlocks one asked.flow)
+      (AreKnownBlocks other asked.flow) blocks
       (known_alike one other alike.trips alike.params alike.deads asked.flow) (subst P same_blocks h)
 
-  planned_duties_alike : (asked : Asked) (blocks : List Column) (duties : SidePlan) → ArePlannedDuties one asked blocks duties → ArePlannedDuties other asked blocks duties
+  planned_duties_alike : (asked : Asked) (blocks : List Column) (duties : SidePlan) → ArePlannedDuties one asked blocks duties →
+      ArePlannedDuties other asked blocks duties
   planned_duties_alike asked blocks duties h =
-      let P : (List Column → Bool → Problem) → Type 0 = λ problem. IsPlannedSide (problem blocks true) (problem blocks false) asked.numbers (IsThis None) duties in
+      let P : (List Column → Bool → Problem) → Type 0 =
+      λ problem. IsPlannedSide (problem blocks true) (problem blocks false) asked.numbers (IsThis None) duties in
       subst P same_duties h
 
   pub plans_alike : (asked : Asked) (blocks duties : SidePlan) → IsDayPlan one asked blocks duties → IsDayPlan other asked blocks duties
@@ -171,14 +191,17 @@ module _ (one other : DayFacts) (alike : AreAlike one other) where
     blocks = h.blocks;
     duties = h.duties;
     plan = plans_alike asked h.blocks h.duties h.plan;
-    written = h.written ∙ (ap text (tables_alike table (answer_of one h.blocks h.duties)) ∙ ap (λ answer. text (answer_tables other table answer)) (answers_alike h.blocks h.duties));
+    written = h.written ∙ (ap text (tables_alike table (answer_of one h.blocks h.duties))
+        ∙ ap (λ answer. text (answer_tables other table answer)) (answers_alike h.blocks h.duties));
   }
 
   shorts_alike : (blocks duties : SidePlan) → short_tables one blocks duties ≡ short_tables other blocks duties
   shorts_alike blocks duties =
       let tables : List DayTrip → List WorkPiece → List Table = λ trips pieces.
-      count_table (length trips) (length blocks.columns) (length pieces) (length duties.columns) ∷ bound_table blocks.columns duties.columns (four_bounds blocks duties) ∷ [] in
-      ap (λ trips. tables trips (pieces_of_plan one blocks.columns)) alike.trips ∙ ap (λ pieces. tables other.trips (pieces blocks.columns)) same_pieces
+      count_table (length trips) (length blocks.columns) (length pieces) (length duties.columns) ∷ bound_table blocks.columns duties.columns
+      (four_bounds blocks duties) ∷ [] in
+      ap (λ trips. tables trips (pieces_of_plan one blocks.columns)) alike.trips
+      ∙ ap (λ pieces. tables other.trips (pieces blocks.columns)) same_pieces
 
   pub same_short_texts : HaveSameShortTexts one other
   same_short_texts = λ asked bytes h. record {
@@ -194,14 +217,16 @@ module _ (one other : DayFacts) (alike : AreAlike one other) where
       let P : (List Column → Bool → Problem) → Type 0 = λ problem. HasNone (problem h.0.columns false) in
       (h.0, planned_blocks_alike asked h.0 h.1, subst P same_duties h.2)
 
-  left_alike : (asked : Asked) (side : Side) (item : ℕ) (name : ItemName) (partial : List Column) → IsLeftItem one asked side item name partial → IsLeftItem other asked side item name partial
+  left_alike : (asked : Asked) (side : Side) (item : ℕ) (name : ItemName) (partial : List Column) →
+      IsLeftItem one asked side item name partial → IsLeftItem other asked side item name partial
   left_alike asked Vehicles item name partial h =
       let P : (Bool → Problem) → Type 0 = λ problem. IsLeft (problem false) item partial in
       let Q : List DayTrip → Type 0 = λ trips. IsSomeAnd (slice_get trips item) (λ (trip : DayTrip). name ≡ Trip trip.fid) in
       (subst P same_blocks h.0, subst Q alike.trips h.1)
   left_alike asked Drivers item name partial h =
       let P : (List Column → Bool → Problem) → Type 0 = λ problem. IsLeft (problem h.blocks.columns false) item partial in
-      let Q : (List Column → List WorkPiece) → Type 0 = λ pieces. IsSomeAnd (slice_get (pieces h.blocks.columns) item) (λ (piece : WorkPiece). name ≡ Piece piece.block piece.index) in
+      let Q : (List Column → List WorkPiece) → Type 0 =
+      λ pieces. IsSomeAnd (slice_get (pieces h.blocks.columns) item) (λ (piece : WorkPiece). name ≡ Piece piece.block piece.index) in
       record {
         blocks = h.blocks;
         blocks_are = planned_blocks_alike asked h.blocks h.blocks_are;
@@ -211,7 +236,8 @@ module _ (one other : DayFacts) (alike : AreAlike one other) where
 
   cause_alike : (asked : Asked) (fault : PlanFault) → IsPlanCauseOver one asked fault → IsPlanCauseOver other asked fault
   cause_alike asked (faults.NoPlan side bound places) h = (ends_alike asked (refused side bound places) h.0, none_alike asked side h.1)
-  cause_alike asked (faults.NotPlaced side item name partial) h = (ends_alike asked (left_out side item partial.columns) h.0, left_alike asked side item name partial.columns h.1)
+  cause_alike asked (faults.NotPlaced side item name partial) h =
+      (ends_alike asked (left_out side item partial.columns) h.0, left_alike asked side item name partial.columns h.1)
   cause_alike asked faults.Memory h = h
 
   pub same_causes : HaveSameCauses one other

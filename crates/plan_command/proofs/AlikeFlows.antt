@@ -39,15 +39,20 @@ module _ (a : DayFacts) (d : List (Ends × ℕ)) (same : (x y : Point) → dead 
 
   link_moved : (pool : Pool) (t u : Trip) → link a pool t u ≡ link moved pool t u
   link_moved pool t u =
-      ap (λ o. first_of (direct_over a.params.settings t u o) (depot_over t u (dead a t.to pool.depot) (dead a pool.depot u.from))) (same t.to u.from)
-      ∙ ap (λ o. first_of (direct_over a.params.settings t u (dead_on d t.to u.from)) (depot_over t u o (dead a pool.depot u.from))) (same t.to pool.depot)
-      ∙ ap (λ o. first_of (direct_over a.params.settings t u (dead_on d t.to u.from)) (depot_over t u (dead_on d t.to pool.depot) o)) (same pool.depot u.from)
+      ap (λ o. first_of (direct_over a.params.settings t u o) (depot_over t u (dead a t.to pool.depot) (dead a pool.depot u.from)))
+      (same t.to u.from)
+      ∙ ap (λ o. first_of (direct_over a.params.settings t u (dead_on d t.to u.from)) (depot_over t u o (dead a pool.depot u.from)))
+      (same t.to pool.depot)
+      ∙ ap (λ o. first_of (direct_over a.params.settings t u (dead_on d t.to u.from)) (depot_over t u (dead_on d t.to pool.depot) o))
+      (same pool.depot u.from)
 
   cost_moved : (pool : Pool) (t : Trip) (ts : List Trip) → cost_from a pool t ts ≡ cost_from moved pool t ts
   cost_moved pool t [] = ap (λ o. option_and_then (λ (inward : ℕ). Some (pool.dead_rate * inward)) o) (same t.to pool.depot)
   cost_moved pool t (u ∷ us) =
-      ap (λ o. option_and_then (λ (l : Link). option_and_then (λ (rest : ℕ). Some (link_cost pool u l + rest)) (cost_from a pool u us)) o) (link_moved pool t u)
-      ∙ ap (λ c. option_and_then (λ (l : Link). option_and_then (λ (rest : ℕ). Some (link_cost pool u l + rest)) c) (link moved pool t u)) (cost_moved pool u us)
+      ap (λ o. option_and_then (λ (l : Link). option_and_then (λ (rest : ℕ). Some (link_cost pool u l + rest)) (cost_from a pool u us)) o)
+      (link_moved pool t u)
+      ∙ ap (λ c. option_and_then (λ (l : Link). option_and_then (λ (rest : ℕ). Some (link_cost pool u l + rest)) c) (link moved pool t u))
+      (cost_moved pool u us)
 
   admitted_moved : (pool : Pool) (ts : List Trip) → all_admitted a pool ts ≡ all_admitted moved pool ts
   admitted_moved pool [] = refl
@@ -56,34 +61,48 @@ module _ (a : DayFacts) (d : List (Ends × ℕ)) (same : (x y : Point) → dead 
   block_moved : (pool : Pool) (ts : List Trip) → block_cost a pool ts ≡ block_cost moved pool ts
   block_moved pool [] = refl
   block_moved pool (t ∷ ts) =
-      ap (λ b. given (admits a t.line pool.typ && b) (option_and_then (λ (out : ℕ). option_and_then (λ (rest : ℕ). Some (pool.fixed + pool.dead_rate * out + rest)) (cost_from a pool t ts)) (pull_out a pool t))) (admitted_moved pool ts)
-      ∙ ap (λ c. given (all_admitted moved pool (t ∷ ts)) (option_and_then (λ (out : ℕ). option_and_then (λ (rest : ℕ). Some (pool.fixed + pool.dead_rate * out + rest)) c) (pull_out a pool t))) (cost_moved pool t ts)
-      ∙ ap (λ o. given (all_admitted moved pool (t ∷ ts)) (option_and_then (λ (out : ℕ). option_and_then (λ (rest : ℕ). Some (pool.fixed + pool.dead_rate * out + rest)) (cost_from moved pool t ts)) (pull_out_over t o))) (same pool.depot t.from)
+      ap (λ b. given (admits a t.line pool.typ && b)
+      (option_and_then (λ (out : ℕ). option_and_then (λ (rest : ℕ). Some (pool.fixed + pool.dead_rate * out + rest))
+      (cost_from a pool t ts)) (pull_out a pool t))) (admitted_moved pool ts)
+      ∙ ap (λ c. given (all_admitted moved pool (t ∷ ts))
+      (option_and_then (λ (out : ℕ). option_and_then (λ (rest : ℕ). Some (pool.fixed + pool.dead_rate * out + rest)) c)
+      (pull_out a pool t))) (cost_moved pool t ts)
+      ∙ ap (λ o. given (all_admitted moved pool (t ∷ ts))
+      (option_and_then (λ (out : ℕ). option_and_then (λ (rest : ℕ). Some (pool.fixed + pool.dead_rate * out + rest))
+      (cost_from moved pool t ts)) (pull_out_over t o))) (same pool.depot t.from)
 
   path_moved : path_cost a ≡ path_cost moved
   path_moved =
       let costs : block_cost a ≡ block_cost moved = fun_ext (λ pool. fun_ext (λ ts. block_moved pool ts)) in
       let path : (Pool → List Trip → Option ℕ) → ℕ → List ℕ → Option ℕ = λ cost class list.
-      given (rises list) (option_and_then (λ (pool : Pool). option_and_then (λ (ts : List Trip). cost pool ts) (trips_at a.trips list)) (slice_get a.params.pools class)) in
+      given (rises list) (option_and_then (λ (pool : Pool). option_and_then (λ (ts : List Trip). cost pool ts) (trips_at a.trips list))
+      (slice_get a.params.pools class)) in
       ap path costs
 
   begun_moved : (pool : Pool) (t : ℕ) → begun a pool t ≡ begun moved pool t
   begun_moved pool t =
-      let outs : (λ (trip : Trip). pull_out a pool trip) ≡ (λ (trip : Trip). pull_out moved pool trip) = fun_ext (λ trip. ap (λ o. pull_out_over trip o) (same pool.depot trip.from)) in
-      let first : (Trip → Option ℕ) → Option ℕ = λ out. with_trip a t (λ trip. given (admits a trip.line pool.typ) (option_map (λ (o : ℕ). pool.fixed + pool.dead_rate * o) (out trip))) in
+      let outs : (λ (trip : Trip). pull_out a pool trip) ≡ (λ (trip : Trip). pull_out moved pool trip) =
+      fun_ext (λ trip. ap (λ o. pull_out_over trip o) (same pool.depot trip.from)) in
+      let first : (Trip → Option ℕ) → Option ℕ =
+      λ out. with_trip a t (λ trip. given (admits a trip.line pool.typ)
+      (option_map (λ (o : ℕ). pool.fixed + pool.dead_rate * o) (out trip))) in
       ap first outs
 
   added_moved : (pool : Pool) (t u : ℕ) → added a pool t u ≡ added moved pool t u
   added_moved pool t u =
       let links : link a pool ≡ link moved pool = fun_ext (λ trip. fun_ext (λ next. link_moved pool trip next)) in
       let between : (Trip → Trip → Option Link) → Option ℕ = λ f.
-      with_trip a t (λ trip. with_trip a u (λ next. given (nat_lt t u) (given (admits a next.line pool.typ) (option_map (λ (l : Link). link_cost pool next l) (f trip next))))) in
+      with_trip a t (λ trip. with_trip a u
+      (λ next. given (nat_lt t u)
+      (given (admits a next.line pool.typ) (option_map (λ (l : Link). link_cost pool next l) (f trip next))))) in
       ap between links
 
   ended_moved : (pool : Pool) (t : ℕ) → ended a pool t ≡ ended moved pool t
   ended_moved pool t =
-      let ins : (λ (trip : Trip). pull_in a pool trip) ≡ (λ (trip : Trip). pull_in moved pool trip) = fun_ext (λ trip. same trip.to pool.depot) in
-      let last : (Trip → Option ℕ) → Option ℕ = λ inward. with_trip a t (λ trip. option_map (λ (o : ℕ). pool.dead_rate * o) (inward trip)) in
+      let ins : (λ (trip : Trip). pull_in a pool trip) ≡ (λ (trip : Trip). pull_in moved pool trip) =
+      fun_ext (λ trip. same trip.to pool.depot) in
+      let last : (Trip → Option ℕ) → Option ℕ =
+      λ inward. with_trip a t (λ trip. option_map (λ (o : ℕ). pool.dead_rate * o) (inward trip)) in
       ap last ins
 
   arc_moved : (pool : Pool) → arc_of a pool ≡ arc_of moved pool
@@ -92,8 +111,10 @@ module _ (a : DayFacts) (d : List (Ends × ℕ)) (same : (x y : Point) → dead 
       let ends : ended a pool ≡ ended moved pool = fun_ext (λ t. ended_moved pool t) in
       let begins : begun a pool ≡ begun moved pool = fun_ext (λ t. begun_moved pool t) in
       let arc : (ℕ → ℕ → Option ℕ) → (ℕ → Option ℕ) → (ℕ → Option ℕ) → ℕ → ℕ → Option ℕ = λ add end begin x v.
-      cond (nat_lt x (length a.trips)) (cond (nat_lt v (length a.trips)) (add x v) (end x)) (cond (nat_lt v (length a.trips)) (begin v) (Some 0)) in
-      ap (λ f. arc f (ended a pool) (begun a pool)) adds ∙ ap (λ f. arc (added moved pool) f (begun a pool)) ends ∙ ap (λ f. arc (added moved pool) (ended moved pool) f) begins
+      cond (nat_lt x (length a.trips)) (cond (nat_lt v (length a.trips)) (add x v) (end x))
+      (cond (nat_lt v (length a.trips)) (begin v) (Some 0)) in
+      ap (λ f. arc f (ended a pool) (begun a pool)) adds ∙ ap (λ f. arc (added moved pool) f (begun a pool)) ends
+      ∙ ap (λ f. arc (added moved pool) (ended moved pool) f) begins
 
 module _ (a b : DayFacts) (trips : a.trips ≡ b.trips) (params : a.params ≡ b.params) (deads : (x y : Point) → dead a x y ≡ dead b x y) where
   -- the one day with trips and settings, and with the deadheads of the other
@@ -105,22 +126,27 @@ module _ (a b : DayFacts) (trips : a.trips ≡ b.trips) (params : a.params ≡ b
 
   nets_alike : (pool : Pool) → net_of a pool ≡ net_of b pool
   nets_alike pool =
-      let arcs : arc_of a pool ≡ arc_of b pool = arc_moved a b.deads deads pool ∙ ap (λ ts. arc_of (with ts a.params) pool) trips ∙ ap (λ ps. arc_of (with b.trips ps) pool) params in
+      let arcs : arc_of a pool ≡ arc_of b pool = arc_moved a b.deads deads pool ∙ ap (λ ts. arc_of (with ts a.params) pool) trips
+      ∙ ap (λ ps. arc_of (with b.trips ps) pool) params in
       let net : ℕ → (ℕ → ℕ → Option ℕ) → Net = λ n arc. record { nodes = n; most = pool.cap; arc = arc } in
       ap (λ (ts : List Trip). net (length ts) (arc_of a pool)) trips ∙ ap (net (length b.trips)) arcs
 
   problems_alike : paths_of a ≡ paths_of b
   problems_alike =
-      let problem : List Trip → ParamRows → (ℕ → List ℕ → Option ℕ) → Problem = λ ts ps worth. record { items = length ts; caps = caps_of ps.pools; worth = worth } in
-      ap (λ ts. problem ts a.params (path_cost a)) trips ∙ ap (λ ps. problem b.trips ps (path_cost a)) params ∙ ap (problem b.trips b.params) costs_alike
+      let problem : List Trip → ParamRows → (ℕ → List ℕ → Option ℕ) → Problem =
+      λ ts ps worth. record { items = length ts; caps = caps_of ps.pools; worth = worth } in
+      ap (λ ts. problem ts a.params (path_cost a)) trips ∙ ap (λ ps. problem b.trips ps (path_cost a)) params
+      ∙ ap (problem b.trips b.params) costs_alike
 
   columns_alike : columns_of a ≡ columns_of b
   columns_alike =
-      let columns : (ℕ → List ℕ → Option ℕ) → List (List ℕ) → List Column = λ cost lists. map (λ (list : List ℕ). record { class = 0; worth = unwrap_or (cost 0 list) 0; items = list }) lists in
+      let columns : (ℕ → List ℕ → Option ℕ) → List (List ℕ) → List Column =
+      λ cost lists. map (λ (list : List ℕ). record { class = 0; worth = unwrap_or (cost 0 list) 0; items = list }) lists in
       ap columns costs_alike
 
   flow_days_alike : is_flow_day a ≡ is_flow_day b
-  flow_days_alike = ap (λ (ts : List Trip). is_flow_of (length ts) a.params.pools) trips ∙ ap (λ (ps : ParamRows). is_flow_of (length b.trips) ps.pools) params
+  flow_days_alike = ap (λ (ts : List Trip). is_flow_of (length ts) a.params.pools) trips
+      ∙ ap (λ (ps : ParamRows). is_flow_of (length b.trips) ps.pools) params
 
   plans_alike : (lists : List (List ℕ)) → IsPathPlan a lists → IsPathPlan b lists
   plans_alike lists plan =
@@ -137,7 +163,8 @@ module _ (a b : DayFacts) (trips : a.trips ≡ b.trips) (params : a.params ≡ b
       ap (λ (worth : ℕ → List ℕ → Option ℕ). is_some (worth 0 list) && all_blocks a lists) (same_worth a b false trips params deads)
       ∙ ap (λ (rest : Bool). is_some (block_worth b false 0 list) && rest) (all_blocks_alike lists)
 
-  prices_alike : (lists : List (List ℕ)) (prices : List Price) (class_price : ℤ) → AreFlowPrices a lists prices class_price → AreFlowPrices b lists prices class_price
+  prices_alike : (lists : List (List ℕ)) (prices : List Price) (class_price : ℤ) → AreFlowPrices a lists prices class_price →
+      AreFlowPrices b lists prices class_price
   prices_alike lists prices class_price (pool, one, p, greatest, are) =
       let P : Net → Type 0 = λ net. AreGreatest net lists p in
       let Q : Net → Type 0 = λ net. ArePricesOf net p prices class_price in
@@ -180,7 +207,8 @@ module _ (a b : DayFacts) (trips : a.trips ≡ b.trips) (params : a.params ≡ b
   no_flow_alike : HasNoFlow a → HasNoFlow b
   no_flow_alike (inl other) = inl (sym (flow_days_alike a b trips params deads) ∙ other)
   no_flow_alike (inr (inl none)) = inr (inl (λ paths plan. none paths (back paths plan)))
-  no_flow_alike (inr (inr (paths, flow, some))) = inr (inr (paths, flow_plans_alike paths flow, sym (all_blocks_alike a b trips params deads paths) ∙ some))
+  no_flow_alike (inr (inr (paths, flow, some))) =
+      inr (inr (paths, flow_plans_alike paths flow, sym (all_blocks_alike a b trips params deads paths) ∙ some))
 
   pub known_alike : (flow : Bool) (known : Option KnownPlan) → AreKnownBlocks a flow known → AreKnownBlocks b flow known
   known_alike false known h = h
@@ -194,6 +222,7 @@ module _ (a b : DayFacts) (trips : a.trips ≡ b.trips) (params : a.params ≡ b
       let back_trips = sym trips in
       let back_params = sym params in
       let back_deads : (x y : Point) → dead b x y ≡ dead a x y = λ x y. sym (deads x y) in
-      let said = exact asked (flow_days_alike a b trips params deads ∙ day) paths (flow_plans_alike b a back_trips back_params back_deads paths plan)
+      let said = exact asked (flow_days_alike a b trips params deads ∙ day) paths
+      (flow_plans_alike b a back_trips back_params back_deads paths plan)
       (all_blocks_alike a b trips params deads paths ∙ are) in
       (said.0 ∙ ap (λ (columns : List (List ℕ) → List Column). printed (columns paths)) (columns_alike a b trips params deads), said.1)

@@ -8,7 +8,8 @@ use Rattle.number_tables.specs.Numbers.{AreFull}
 use Rattle.plan_command.specs.ShortText.{count_columns, count_row}
 
 -- a table that is the one meant is plain where that one is
-pub ok_plain : {E : Type 0} (r : Result Table E) (meant : Table) → IfOk r (λ table. table ≡ meant) → is_plain_table meant ≡ true → IfOk r (λ table. is_plain_table table ≡ true)
+pub ok_plain : {E : Type 0} (r : Result Table E) (meant : Table) → IfOk r (λ table. table ≡ meant) → is_plain_table meant ≡ true →
+    IfOk r (λ table. is_plain_table table ≡ true)
 ok_plain (Ok table) meant same plain = subst (λ t. is_plain_table t ≡ true) (sym same) plain
 ok_plain (Err e) meant same plain = tt
 

@@ -15,7 +15,10 @@ pub known_once : (facts : DayFacts) → HasOneKnown facts
 known_once facts = one_known facts (flow_plan_is_one facts) (flow_prices_are_one facts)
 
 pub planning_ends_once : (facts : DayFacts) → PlanEndsOnce facts
-planning_ends_once facts = plan_ends_once facts (known_once facts) (λ known numbers fixed one other h k. one_day (day_problems facts known) numbers fixed one other h k)
+planning_ends_once facts =
+    plan_ends_once facts (known_once facts)
+    (λ known numbers fixed one other h k. one_day (day_problems facts known) numbers fixed one other h k)
 
 pub blocks_end_once : (facts : DayFacts) → EndsOnce (blocks_of facts true) (blocks_of facts false)
-blocks_end_once facts = λ numbers fixed known one other h k. one_ending_by (blocks_of facts true) (blocks_of facts false) numbers fixed known one other h k
+blocks_end_once facts =
+    λ numbers fixed known one other h k. one_ending_by (blocks_of facts true) (blocks_of facts false) numbers fixed known one other h k

@@ -22,29 +22,34 @@ use Rattle.plan_command.specs.Flow.{IsFoundFlow, IsKnownFlow, block_column}
 use Rattle.plan_command.specs.Planning.{IsDualFeasible}
 
 -- the trips of paths of a plan are there
-pub paths_below : (facts : DayFacts) (paths : List (List ℕ)) → AreColumns (paths_of facts) (columns_of facts paths) → All (AllBelow (length facts.trips)) paths
+pub paths_below : (facts : DayFacts) (paths : List (List ℕ)) → AreColumns (paths_of facts) (columns_of facts paths) →
+    All (AllBelow (length facts.trips)) paths
 paths_below facts [] are = All-nil (AllBelow (length facts.trips))
 paths_below facts (path ∷ paths) are =
     let listed = path_listed facts 0 path (unwrap_or (path_cost facts 0 path) 0) are.0.1 in
     All-cons (AllBelow (length facts.trips)) path paths listed.2 (paths_below facts paths are.1)
 
 -- there is a pool
-pub one_pool : (facts : DayFacts) (paths : List (List ℕ)) (prices : List Price) (class_price : ℤ) → AreFlowPrices facts paths prices class_price → length facts.params.pools ≡ 1
+pub one_pool : (facts : DayFacts) (paths : List (List ℕ)) (prices : List Price) (class_price : ℤ) →
+    AreFlowPrices facts paths prices class_price → length facts.params.pools ≡ 1
 one_pool facts paths prices class_price are = ap (λ (pools : List Pool). length pools) are.1
 
 -- a block costs as a path what it is worth
-same_column : (facts : DayFacts) (path : List ℕ) (o : Option ℕ) → block_worth facts false 0 path ≡ o → is_some o ≡ true → block_column facts path ≡ path_column facts path
+same_column : (facts : DayFacts) (path : List ℕ) (o : Option ℕ) → block_worth facts false 0 path ≡ o → is_some o ≡ true →
+    block_column facts path ≡ path_column facts path
 same_column facts path None is some = absurd (let bad : false ≡ true = some in cc)
 same_column facts path (Some worth) is some =
     let column : ℕ → Column = λ n. record { class = 0; worth = n; items = path } in
-    ap (λ (o : Option ℕ). column (unwrap_or o 0)) is ∙ sym (ap (λ (o : Option ℕ). column (unwrap_or o 0)) (block_is_path facts 0 path worth is))
+    ap (λ (o : Option ℕ). column (unwrap_or o 0)) is
+    ∙ sym (ap (λ (o : Option ℕ). column (unwrap_or o 0)) (block_is_path facts 0 path worth is))
 
 both_true : (a b : Bool) → (a && b) ≡ true → (a ≡ true) × (b ≡ true)
 both_true true true h = (refl, refl)
 both_true true false h = absurd (let bad : false ≡ true = h in cc)
 both_true false b h = absurd (let bad : false ≡ true = h in cc)
 
-pub same_columns : (facts : DayFacts) (paths : List (List ℕ)) → all_blocks facts paths ≡ true → map (block_column facts) paths ≡ columns_of facts paths
+pub same_columns : (facts : DayFacts) (paths : List (List ℕ)) → all_blocks facts paths ≡ true →
+    map (block_column facts) paths ≡ columns_of facts paths
 same_columns facts [] all = refl
 same_columns facts (path ∷ paths) all =
     let both = both_true (is_some (block_worth facts false 0 path)) (all_blocks facts paths) all in
@@ -61,7 +66,8 @@ cheap_more [] c cheap one = (one, tt)
 cheap_more (d ∷ ds) c cheap one = (cheap.0, cheap_more ds c cheap.1 one)
 
 -- one more path as a column
-pub blocks_so_far : (f : List ℕ → Column) (paths : List (List ℕ)) (i : ℕ) (path : List ℕ) (cs new : List Column) (c : Column) → i < length paths → path ≡ get_or paths i path →
+pub blocks_so_far : (f : List ℕ → Column) (paths : List (List ℕ)) (i : ℕ) (path : List ℕ) (cs new : List Column) (c : Column) →
+    i < length paths → path ≡ get_or paths i path →
     map f paths ≡ cs ++ map f (drop i paths) → c ≡ f path → new ≡ cs ++ c ∷ [] → map f paths ≡ new ++ map f (drop (i + 1) paths)
 blocks_so_far f paths i path cs new c within is so_far column pushed =
     let at : drop i paths ≡ path ∷ drop (i + 1) paths = drop_item paths i path within is in
@@ -73,7 +79,8 @@ blocks_so_far f paths i path cs new c within is so_far column pushed =
     ∙ ap (λ (ds : List Column). ds ++ rest) (sym pushed)
 
 -- prices of a flow plan over blocks
-module _ (facts : DayFacts) (paths : List (List ℕ)) (prices : List Price) (class_price : ℤ) (found : IsFoundFlow facts paths prices class_price) (blocks : PathsAreBlocks facts) (all : all_blocks facts paths ≡ true) where
+module _ (facts : DayFacts) (paths : List (List ℕ)) (prices : List Price) (class_price : ℤ)
+    (found : IsFoundFlow facts paths prices class_price) (blocks : PathsAreBlocks facts) (all : all_blocks facts paths ≡ true) where
   over : AreBlockBound facts paths prices class_price
   over = blocks paths prices class_price found.plan.plan all found.bound
 
@@ -92,7 +99,8 @@ module _ (facts : DayFacts) (paths : List (List ℕ)) (prices : List Price) (cla
   offer bound = record { prices = record { items = prices }; class_prices = class_price ∷ []; bound = bound }
 
   -- the columns with the flow prices, whose bound is their cost
-  module _ (columns : List Column) (bound : ℕ) (are : columns ≡ map (block_column facts) paths) (is : bound ≡ cost columns) (kept : Kept) (same : kept ≡ offer bound) where
+  module _ (columns : List Column) (bound : ℕ) (are : columns ≡ map (block_column facts) paths) (is : bound ≡ cost columns) (kept : Kept)
+      (same : kept ≡ offer bound) where
     pub is_feasible : IsDualFeasible (blocks_of facts false) kept
     is_feasible = subst (λ k. IsDualFeasible (blocks_of facts false) k) (sym same) (record {
       prices = (found.moderate.count, found.moderate.within);

@@ -41,14 +41,16 @@ module _ (facts : DayFacts) (one_plan : FlowPlanIsOne facts) (one_prices : FlowP
       ∙ ap (λ n. known_of other.plan.columns other.cost.prices.items other.cost.class_prices n) bounds
 
   -- where the flow has blocks it does not lack them
-  not_without : (paths : List (List ℕ)) → is_flow_day facts ≡ true → IsFlowPlan facts paths → all_blocks facts paths ≡ true → HasNoFlow facts → ⊥
+  not_without : (paths : List (List ℕ)) → is_flow_day facts ≡ true → IsFlowPlan facts paths →
+      all_blocks facts paths ≡ true → HasNoFlow facts → ⊥
   not_without paths day plan blocks (inl other) = not_true (is_flow_day facts) day other
   not_without paths day plan blocks (inr (inl none)) = none paths plan.plan
   not_without paths day plan blocks (inr (inr (others, flow, some))) =
       let P : List (List ℕ) → Type 0 = λ l. all_blocks facts l ≡ true in
       not_true (all_blocks facts others) (subst P (one_plan paths others plan flow) blocks) some
 
-  pub one_known : (flow : Bool) (one other : Option KnownPlan) → AreKnownBlocks facts flow one → AreKnownBlocks facts flow other → one ≡ other
+  pub one_known : (flow : Bool) (one other : Option KnownPlan) → AreKnownBlocks facts flow one →
+      AreKnownBlocks facts flow other → one ≡ other
   one_known false one other h k = h ∙ sym k
   one_known true None None h k = refl
   one_known true None (Some other) h (paths, k) = absurd (not_without paths k.flow_day k.plan k.blocks h)
@@ -56,7 +58,8 @@ module _ (facts : DayFacts) (one_plan : FlowPlanIsOne facts) (one_prices : FlowP
   one_known true (Some one) (Some other) (a, h) (b, k) = ap (λ (p : KnownPlan). Some p) (same_flow a b one other h k)
 
   -- the flow plan is known, where it is asked for
-  flow_known : (flow : Bool) (known : Option KnownPlan) (paths : List (List ℕ)) → flow ≡ true → is_flow_day facts ≡ true → IsFlowPlan facts paths → all_blocks facts paths ≡ true →
+  flow_known : (flow : Bool) (known : Option KnownPlan) (paths : List (List ℕ)) → flow ≡ true → is_flow_day facts ≡ true →
+      IsFlowPlan facts paths → all_blocks facts paths ≡ true →
       AreKnownBlocks facts flow known → (this : KnownPlan) × (known ≡ Some this) × IsKnownFlow facts paths this
   flow_known false known paths asked day plan blocks h = absurd (let bad : false ≡ true = asked in cc)
   flow_known true None paths asked day plan blocks h = absurd (not_without paths day plan blocks h)
@@ -79,7 +82,8 @@ printed_cost [] = refl
 printed_cost (c ∷ cs) = omega (arith, put_cost c (printed cs), printed_cost cs)
 
 -- where a plan is known, planning gives it
-as_known : (counted costed : Problem) (numbers : Numbers) (this : KnownPlan) (count kept : Kept) (columns : List Column) (known : Option KnownPlan) → known ≡ Some this →
+as_known : (counted costed : Problem) (numbers : Numbers) (this : KnownPlan) (count kept : Kept) (columns : List Column)
+    (known : Option KnownPlan) → known ≡ Some this →
     EndsBy counted costed numbers known (planned count kept columns) → (kept ≡ this.cost) × (columns ≡ this.plan.columns)
 as_known counted costed numbers this count kept columns known is ends =
     let P : Option KnownPlan → Type 0 = λ k. EndsBy counted costed numbers k (planned count kept columns) in

@@ -73,7 +73,8 @@ pub same_duties : (a b c d : SidePlan) → answered a b ≡ answered c d → b �
 unfolding duties_in
 same_duties a b c d h = ap (duties_in b) h
 
-pub same_refusal : (side other : Side) (bound places bound' places' : ℕ) → refused side bound places ≡ refused other bound' places' → faults.NoPlan side bound places ≡ faults.NoPlan other bound' places'
+pub same_refusal : (side other : Side) (bound places bound' places' : ℕ) → refused side bound places ≡ refused other bound' places' →
+    faults.NoPlan side bound places ≡ faults.NoPlan other bound' places'
 unfolding side_in number_in places_in
 same_refusal side other bound places bound' places' h =
     ap (λ (s : Side). faults.NoPlan s bound places) (ap (side_in side) h)
@@ -99,7 +100,8 @@ pub not_left : (a b : SidePlan) (side : Side) (item : ℕ) (columns : List Colum
 unfolding kind_in
 not_left a b side item columns h = omega (arith, ap kind_in h)
 
-pub not_both : (side other : Side) (bound places item : ℕ) (columns : List Column) → refused side bound places ≡ left_out other item columns → ⊥
+pub not_both : (side other : Side) (bound places item : ℕ) (columns : List Column) →
+    refused side bound places ≡ left_out other item columns → ⊥
 unfolding kind_in
 not_both side other bound places item columns h = omega (arith, ap kind_in h)
 
@@ -113,40 +115,52 @@ unfolding columns_of
 same_planned c k d l a b h = ap (columns_of a) h
 
 -- names
-trip_name : (o : Option DayTrip) (name other : ItemName) → IsSomeAnd o (λ (trip : DayTrip). name ≡ Trip trip.fid) → IsSomeAnd o (λ (trip : DayTrip). other ≡ Trip trip.fid) → name ≡ other
+trip_name : (o : Option DayTrip) (name other : ItemName) → IsSomeAnd o (λ (trip : DayTrip). name ≡ Trip trip.fid) →
+    IsSomeAnd o (λ (trip : DayTrip). other ≡ Trip trip.fid) → name ≡ other
 trip_name None name other h k = absurd h
 trip_name (Some trip) name other h k = h ∙ sym k
 
 piece_name : (o : Option WorkPiece) (name other : ItemName) →
-    IsSomeAnd o (λ (piece : WorkPiece). name ≡ Piece piece.block piece.index) → IsSomeAnd o (λ (piece : WorkPiece). other ≡ Piece piece.block piece.index) → name ≡ other
+    IsSomeAnd o (λ (piece : WorkPiece). name ≡ Piece piece.block piece.index) →
+    IsSomeAnd o (λ (piece : WorkPiece). other ≡ Piece piece.block piece.index) → name ≡ other
 piece_name None name other h k = absurd h
 piece_name (Some piece) name other h k = h ∙ sym k
 
 -- a day has no two plans of blocks that are known, nor one and none
 abbrev pub HasOneKnown : DayFacts → Type 0
-HasOneKnown facts = (flow : Bool) (one other : Option KnownPlan) → AreKnownBlocks facts flow one → AreKnownBlocks facts flow other → one ≡ other
+HasOneKnown facts = (flow : Bool) (one other : Option KnownPlan) → AreKnownBlocks facts flow one →
+    AreKnownBlocks facts flow other → one ≡ other
 
-pub plan_ends_once : (facts : DayFacts) → HasOneKnown facts → ((known : Option KnownPlan) → DayEndsOnce (day_problems facts known)) → PlanEndsOnce facts
+pub plan_ends_once : (facts : DayFacts) → HasOneKnown facts → ((known : Option KnownPlan) → DayEndsOnce (day_problems facts known)) →
+    PlanEndsOnce facts
 plan_ends_once facts known once asked fixed one other h k =
     let P : Option KnownPlan → Type 0 = λ p. DayEndsAs (day_problems facts p) asked.numbers one in
     once k.known asked.numbers fixed one other (subst P (known asked.flow h.known k.known h.known_is k.known_is) h.ends) k.ends
 
-module _ (facts : DayFacts) (known : HasOneKnown facts) (asked : Asked) (fixed : asked.numbers.climb ≡ false) (ends : EndsOnce (blocks_of facts true) (blocks_of facts false)) where
+module _ (facts : DayFacts) (known : HasOneKnown facts) (asked : Asked) (fixed : asked.numbers.climb ≡ false)
+    (ends : EndsOnce (blocks_of facts true) (blocks_of facts false)) where
   one_blocks : (a b : SidePlan) → ArePlannedBlocks facts asked a → ArePlannedBlocks facts asked b → a.columns ≡ b.columns
   one_blocks a b h k =
-      let P : Option KnownPlan → Type 0 = λ p. EndsBy (blocks_of facts true) (blocks_of facts false) asked.numbers p (planned a.count a.cost h.columns) in
+      let P : Option KnownPlan → Type 0 =
+      λ p. EndsBy (blocks_of facts true) (blocks_of facts false) asked.numbers p (planned a.count a.cost h.columns) in
       let same : planned a.count a.cost h.columns ≡ planned b.count b.cost k.columns =
-      ends asked.numbers fixed k.known (planned a.count a.cost h.columns) (planned b.count b.cost k.columns) (subst P (known asked.flow h.known k.known h.known_is k.known_is) h.planned) k.planned in
+      ends asked.numbers fixed k.known (planned a.count a.cost h.columns) (planned b.count b.cost k.columns)
+      (subst P (known asked.flow h.known k.known h.known_is k.known_is) h.planned) k.planned in
       h.order ∙ (ap printed (same_planned a.count a.cost b.count b.cost h.columns k.columns same) ∙ sym k.order)
 
-  one_name : (side : Side) (item : ℕ) (name other : ItemName) (columns : List Column) → IsLeftItem facts asked side item name columns → IsLeftItem facts asked side item other columns → name ≡ other
+  one_name : (side : Side) (item : ℕ) (name other : ItemName) (columns : List Column) → IsLeftItem facts asked side item name columns →
+      IsLeftItem facts asked side item other columns → name ≡ other
   one_name Vehicles item name other columns h k = trip_name (slice_get facts.trips item) name other h.1 k.1
   one_name Drivers item name other columns h k =
-      let P : List Column → Type 0 = λ blocks. IsSomeAnd (slice_get (pieces_of_plan facts blocks) item) (λ (piece : WorkPiece). name ≡ Piece piece.block piece.index) in
-      piece_name (slice_get (pieces_of_plan facts k.blocks.columns) item) name other (subst P (one_blocks h.blocks k.blocks h.blocks_are k.blocks_are) h.named) k.named
+      let P : List Column → Type 0 =
+      λ blocks. IsSomeAnd (slice_get (pieces_of_plan facts blocks) item) (λ (piece : WorkPiece). name ≡ Piece piece.block piece.index) in
+      piece_name (slice_get (pieces_of_plan facts k.blocks.columns) item) name other
+      (subst P (one_blocks h.blocks k.blocks h.blocks_are k.blocks_are) h.named) k.named
 
-  one_left : (side other : Side) (i j : ℕ) (name other_name : ItemName) (a b : Plan) → left_out side i a.columns ≡ left_out other j b.columns →
-      IsLeftItem facts asked side i name a.columns → IsLeftItem facts asked other j other_name b.columns → faults.NotPlaced side i name a ≡ faults.NotPlaced other j other_name b
+  one_left : (side other : Side) (i j : ℕ) (name other_name : ItemName) (a b : Plan) →
+      left_out side i a.columns ≡ left_out other j b.columns →
+      IsLeftItem facts asked side i name a.columns → IsLeftItem facts asked other j other_name b.columns →
+      faults.NotPlaced side i name a ≡ faults.NotPlaced other j other_name b
   one_left side other i j name other_name a b same h k =
       let sides : side ≡ other = same_side side other i j a.columns b.columns same in
       let items : i ≡ j = same_item side other i j a.columns b.columns same in
@@ -157,29 +171,38 @@ module _ (facts : DayFacts) (known : HasOneKnown facts) (asked : Asked) (fixed :
       let names : name ≡ other_name = one_name other j name other_name b.columns (subst R columns (subst Q items (subst P sides h))) k in
       ap (λ (s : Side). faults.NotPlaced s i name a) sides
       ∙ (ap (λ (n : ℕ). faults.NotPlaced other n name a) items
-      ∙ (ap (λ (n : ItemName). faults.NotPlaced other j n a) names ∙ ap (λ (cs : List Column). faults.NotPlaced other j other_name (record { columns = cs })) columns))
+      ∙ (ap (λ (n : ItemName). faults.NotPlaced other j n a) names
+      ∙ ap (λ (cs : List Column). faults.NotPlaced other j other_name (record { columns = cs })) columns))
 
 module _ (facts : DayFacts) (once : PlanEndsOnce facts) where
   pub one_text : HasOneText facts
   one_text = λ asked fixed table one other h k.
-      let same : answered h.blocks h.duties ≡ answered k.blocks k.duties = once asked fixed (answered h.blocks h.duties) (answered k.blocks k.duties) h.plan.ends k.plan.ends in
+      let same : answered h.blocks h.duties ≡ answered k.blocks k.duties =
+      once asked fixed (answered h.blocks h.duties) (answered k.blocks k.duties) h.plan.ends k.plan.ends in
       h.written
-      ∙ (ap (λ (s : SidePlan). text (answer_tables facts table (answer_of facts s h.duties))) (same_blocks h.blocks h.duties k.blocks k.duties same)
-      ∙ (ap (λ (s : SidePlan). text (answer_tables facts table (answer_of facts k.blocks s))) (same_duties h.blocks h.duties k.blocks k.duties same) ∙ sym k.written))
+      ∙ (ap (λ (s : SidePlan). text (answer_tables facts table (answer_of facts s h.duties)))
+      (same_blocks h.blocks h.duties k.blocks k.duties same)
+      ∙ (ap (λ (s : SidePlan). text (answer_tables facts table (answer_of facts k.blocks s)))
+      (same_duties h.blocks h.duties k.blocks k.duties same) ∙ sym k.written))
 
   pub one_short_text : HasOneShortText facts
   one_short_text = λ asked fixed one other h k.
-      let same : answered h.blocks h.duties ≡ answered k.blocks k.duties = once asked fixed (answered h.blocks h.duties) (answered k.blocks k.duties) h.plan.ends k.plan.ends in
+      let same : answered h.blocks h.duties ≡ answered k.blocks k.duties =
+      once asked fixed (answered h.blocks h.duties) (answered k.blocks k.duties) h.plan.ends k.plan.ends in
       h.written
       ∙ (ap (λ (s : SidePlan). text (short_tables facts s h.duties)) (same_blocks h.blocks h.duties k.blocks k.duties same)
-      ∙ (ap (λ (s : SidePlan). text (short_tables facts k.blocks s)) (same_duties h.blocks h.duties k.blocks k.duties same) ∙ sym k.written))
+      ∙ (ap (λ (s : SidePlan). text (short_tables facts k.blocks s)) (same_duties h.blocks h.duties k.blocks k.duties same)
+      ∙ sym k.written))
 
   -- a day that is planned has no cause for a refusal
-  plan_or_cause : (asked : Asked) → asked.numbers.climb ≡ false → (blocks duties : SidePlan) (fault : PlanFault) → PlanEndsAs facts asked (answered blocks duties) → IsPlanCauseOver facts asked fault → fault ≡ faults.Memory
+  plan_or_cause : (asked : Asked) → asked.numbers.climb ≡ false → (blocks duties : SidePlan) (fault : PlanFault) →
+      PlanEndsAs facts asked (answered blocks duties) → IsPlanCauseOver facts asked fault → fault ≡ faults.Memory
   plan_or_cause asked fixed blocks duties (faults.NoPlan side bound places) ends cause =
-      absurd (not_refused blocks duties side bound places (once asked fixed (answered blocks duties) (refused side bound places) ends cause.0))
+      absurd (not_refused blocks duties side bound places
+      (once asked fixed (answered blocks duties) (refused side bound places) ends cause.0))
   plan_or_cause asked fixed blocks duties (faults.NotPlaced side item name partial) ends cause =
-      absurd (not_left blocks duties side item partial.columns (once asked fixed (answered blocks duties) (left_out side item partial.columns) ends cause.0))
+      absurd (not_left blocks duties side item partial.columns
+      (once asked fixed (answered blocks duties) (left_out side item partial.columns) ends cause.0))
   plan_or_cause asked fixed blocks duties faults.Memory ends cause = refl
 
   pub text_or_cause : HasTextOrCause facts
@@ -192,15 +215,20 @@ module _ (facts : DayFacts) (once : PlanEndsOnce facts) where
     pub one_cause : HasOneCause facts
     one_cause = λ asked fixed one other h k. go asked fixed one other h k
       where
-        go : (asked : Asked) → asked.numbers.climb ≡ false → (one other : PlanFault) → IsPlanCauseOver facts asked one → IsPlanCauseOver facts asked other → (one ≡ other) ⊎ ((one ≡ faults.Memory) ⊎ (other ≡ faults.Memory))
+        go : (asked : Asked) → asked.numbers.climb ≡ false → (one other : PlanFault) → IsPlanCauseOver facts asked one →
+            IsPlanCauseOver facts asked other → (one ≡ other) ⊎ ((one ≡ faults.Memory) ⊎ (other ≡ faults.Memory))
         go asked fixed faults.Memory other h k = inr (inl refl)
         go asked fixed (faults.NoPlan side bound places) faults.Memory h k = inr (inr refl)
         go asked fixed (faults.NotPlaced side item name partial) faults.Memory h k = inr (inr refl)
         go asked fixed (faults.NoPlan side bound places) (faults.NoPlan side' bound' places') h k =
-            inl (same_refusal side side' bound places bound' places' (once asked fixed (refused side bound places) (refused side' bound' places') h.0 k.0))
+            inl (same_refusal side side' bound places bound' places'
+            (once asked fixed (refused side bound places) (refused side' bound' places') h.0 k.0))
         go asked fixed (faults.NoPlan side bound places) (faults.NotPlaced side' item name partial) h k =
-            absurd (not_both side side' bound places item partial.columns (once asked fixed (refused side bound places) (left_out side' item partial.columns) h.0 k.0))
+            absurd (not_both side side' bound places item partial.columns
+            (once asked fixed (refused side bound places) (left_out side' item partial.columns) h.0 k.0))
         go asked fixed (faults.NotPlaced side' item name partial) (faults.NoPlan side bound places) h k =
-            absurd (not_both side side' bound places item partial.columns (once asked fixed (refused side bound places) (left_out side' item partial.columns) k.0 h.0))
+            absurd (not_both side side' bound places item partial.columns
+            (once asked fixed (refused side bound places) (left_out side' item partial.columns) k.0 h.0))
         go asked fixed (faults.NotPlaced side i name a) (faults.NotPlaced other j other_name b) h k =
-            inl (one_left facts known asked fixed ends side other i j name other_name a b (once asked fixed (left_out side i a.columns) (left_out other j b.columns) h.0 k.0) h.1 k.1)
+            inl (one_left facts known asked fixed ends side other i j name other_name a b
+            (once asked fixed (left_out side i a.columns) (left_out other j b.columns) h.0 k.0) h.1 k.1)

@@ -19,7 +19,8 @@ pub record AreAlike (one other : DayFacts) : Type 0 where
 
 -- a text of the one day is one of the other
 abbrev pub HaveSameTexts : DayFacts → DayFacts → Type 0
-HaveSameTexts one other = (asked : Asked) (table : Table) (bytes : List ℕ) → IsPlanTextOver one asked table bytes → IsPlanTextOver other asked table bytes
+HaveSameTexts one other = (asked : Asked) (table : Table) (bytes : List ℕ) → IsPlanTextOver one asked table bytes →
+    IsPlanTextOver other asked table bytes
 
 -- a short text of the one day is one of the other
 abbrev pub HaveSameShortTexts : DayFacts → DayFacts → Type 0

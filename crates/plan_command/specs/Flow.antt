@@ -38,7 +38,8 @@ pub record IsKnownFlow (facts : DayFacts) (paths : List (List ℕ)) (known : Kno
 abbrev pub HasNoFlow : DayFacts → Type 0
 HasNoFlow facts =
     (is_flow_day facts ≡ false) ⊎
-    (((paths : List (List ℕ)) → IsPathPlan facts paths → ⊥) ⊎ ((paths : List (List ℕ)) × IsFlowPlan facts paths × (all_blocks facts paths ≡ false)))
+    (((paths : List (List ℕ)) → IsPathPlan facts paths → ⊥) ⊎
+    ((paths : List (List ℕ)) × IsFlowPlan facts paths × (all_blocks facts paths ≡ false)))
 
 -- which plan of blocks is known: none where the words do not ask for the flow
 abbrev pub AreKnownBlocks : DayFacts → Bool → Option KnownPlan → Type 0

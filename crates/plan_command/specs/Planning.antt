@@ -72,17 +72,18 @@ pub record IsDualFeasible (p : Problem) (kept : Kept) : Type 0 where
 -- known, in printed order, with the offers kept in its two passes. It is a plan (each item stands in exactly one column, no class has more
 -- columns than its cap, and each column has its worth); no plan has fewer columns than the first bound, and none costs less than the second
 -- one.
-pub record IsPlannedSide (counted costed : Problem) (numbers : Numbers) (AreKnown : Option KnownPlan → Type 0) (side : SidePlan) : Type 0 where
-  pub known : Option KnownPlan
-  pub known_is : AreKnown known
-  pub columns : List Column
-  pub planned : EndsBy counted costed numbers known (planned side.count side.cost columns)
-  pub order : side.columns ≡ printed columns
-  pub plan : IsPlan costed side.columns
-  pub count_bound : IsCountBoundOf costed side.count.bound
-  pub cost_bound : IsBoundOf costed side.cost.bound
-  pub count_paid : IsDualFeasible counted side.count
-  pub cost_paid : IsDualFeasible costed side.cost
+pub record IsPlannedSide (counted costed : Problem) (numbers : Numbers) (AreKnown : Option KnownPlan → Type 0) (side : SidePlan) : Type 0
+  where
+    pub known : Option KnownPlan
+    pub known_is : AreKnown known
+    pub columns : List Column
+    pub planned : EndsBy counted costed numbers known (planned side.count side.cost columns)
+    pub order : side.columns ≡ printed columns
+    pub plan : IsPlan costed side.columns
+    pub count_bound : IsCountBoundOf costed side.count.bound
+    pub cost_bound : IsBoundOf costed side.cost.bound
+    pub count_paid : IsDualFeasible counted side.count
+    pub cost_paid : IsDualFeasible costed side.cost
 
 -- this plan is known, or none is
 abbrev pub IsThis : Option KnownPlan → Option KnownPlan → Type 0
@@ -90,11 +91,13 @@ IsThis this known = known ≡ this
 
 -- the blocks of a day as they are planned
 abbrev pub ArePlannedBlocks : DayFacts → Asked → SidePlan → Type 0
-ArePlannedBlocks facts asked blocks = IsPlannedSide (blocks_of facts true) (blocks_of facts false) asked.numbers (AreKnownBlocks facts asked.flow) blocks
+ArePlannedBlocks facts asked blocks =
+    IsPlannedSide (blocks_of facts true) (blocks_of facts false) asked.numbers (AreKnownBlocks facts asked.flow) blocks
 
 -- the duties over the pieces of blocks as they are planned
 abbrev pub ArePlannedDuties : DayFacts → Asked → List Column → SidePlan → Type 0
-ArePlannedDuties facts asked blocks duties = IsPlannedSide (duties_over facts blocks true) (duties_over facts blocks false) asked.numbers (IsThis None) duties
+ArePlannedDuties facts asked blocks duties =
+    IsPlannedSide (duties_over facts blocks true) (duties_over facts blocks false) asked.numbers (IsThis None) duties
 
 -- The plan of a day: the method ends with these blocks and duties. Each trip stands in exactly one block of one pool within its vehicles,
 -- and each piece in exactly one lawful duty of one group within its drivers; and the four bounds hold. Where the words ask for the flow and
@@ -123,7 +126,8 @@ pub record IsLeft (p : Problem) (item : ℕ) (partial : List Column) : Type 0 wh
 
 -- a trip is left, which has this name: its FRT_FID
 abbrev pub IsLeftTrip : DayFacts → ℕ → ItemName → List Column → Type 0
-IsLeftTrip facts item name partial = IsLeft (blocks_of facts false) item partial × IsSomeAnd (slice_get facts.trips item) (λ (trip : DayTrip). name ≡ Trip trip.fid)
+IsLeftTrip facts item name partial =
+    IsLeft (blocks_of facts false) item partial × IsSomeAnd (slice_get facts.trips item) (λ (trip : DayTrip). name ≡ Trip trip.fid)
 
 -- a piece of planned blocks is left, which has this name: the number of its block and its index in the block
 pub record IsLeftPiece (facts : DayFacts) (asked : Asked) (item : ℕ) (name : ItemName) (partial : List Column) : Type 0 where
@@ -138,7 +142,8 @@ IsLeftItem facts asked Drivers item name partial = IsLeftPiece facts asked item 
 
 -- why a day has no plan; want of memory needs no cause
 abbrev pub IsPlanCauseOver : DayFacts → Asked → PlanFault → Type 0
-IsPlanCauseOver facts asked (faults.NoPlan side bound places) = PlanEndsAs facts asked (refused side bound places) × HasNoneOf facts asked side
+IsPlanCauseOver facts asked (faults.NoPlan side bound places) =
+    PlanEndsAs facts asked (refused side bound places) × HasNoneOf facts asked side
 IsPlanCauseOver facts asked (faults.NotPlaced side item name partial) =
     PlanEndsAs facts asked (left_out side item partial.columns) × IsLeftItem facts asked side item name partial.columns
 IsPlanCauseOver facts asked faults.Memory = Unit {0}

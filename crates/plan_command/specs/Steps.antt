@@ -27,11 +27,13 @@ IsSideCause counted costed numbers (Some known) fault = IsCountCause counted cos
 -- the same refusal, of the blocks of trips
 abbrev pub IsBlocksFault : List DayTrip → CoverFault → PlanFault → Type 0
 IsBlocksFault trips (covers.NoPlan bound places) fault = fault ≡ faults.NoPlan Vehicles bound places
-IsBlocksFault trips (covers.NotPlaced item partial) fault = IsSomeAnd (slice_get trips item) (λ (trip : DayTrip). fault ≡ faults.NotPlaced Vehicles item (Trip trip.fid) partial)
+IsBlocksFault trips (covers.NotPlaced item partial) fault =
+    IsSomeAnd (slice_get trips item) (λ (trip : DayTrip). fault ≡ faults.NotPlaced Vehicles item (Trip trip.fid) partial)
 IsBlocksFault trips covers.Memory fault = fault ≡ faults.Memory
 
 -- the same refusal, of the duties over pieces
 abbrev pub IsDutiesFault : List WorkPiece → CoverFault → PlanFault → Type 0
 IsDutiesFault pieces (covers.NoPlan bound places) fault = fault ≡ faults.NoPlan Drivers bound places
-IsDutiesFault pieces (covers.NotPlaced item partial) fault = IsSomeAnd (slice_get pieces item) (λ (piece : WorkPiece). fault ≡ faults.NotPlaced Drivers item (Piece piece.block piece.index) partial)
+IsDutiesFault pieces (covers.NotPlaced item partial) fault =
+    IsSomeAnd (slice_get pieces item) (λ (piece : WorkPiece). fault ≡ faults.NotPlaced Drivers item (Piece piece.block piece.index) partial)
 IsDutiesFault pieces covers.Memory fault = fault ≡ faults.Memory

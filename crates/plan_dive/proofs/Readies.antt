@@ -20,13 +20,19 @@ fit_push n k (d ∷ ds) c h f = (h.0, fit_push n k ds c h.1 f)
 
 -- one column more
 pub ready_push : (p : Problem) (cs : List Column) (c : Column) → AreReady p cs → AreReady p (c ∷ []) → AreReady p (cs ++ c ∷ [])
-ready_push p cs c h one = record { are = AreColumns-push p cs c h.are one.are.0; fit = fit_push p.items (length p.caps) cs c h.fit one.fit.0 }
+ready_push p cs c h one =
+    record { are = AreColumns-push p cs c h.are one.are.0; fit = fit_push p.items (length p.caps) cs c h.fit one.fit.0 }
 
 -- a column at a place
-pub ready_at : (p : Problem) (cs : List Column) (i : ℕ) (d c : Column) → i < length cs → c ≡ get_or cs i d → AreReady p cs → AreReady p (c ∷ [])
+pub ready_at : (p : Problem) (cs : List Column) (i : ℕ) (d c : Column) → i < length cs → c ≡ get_or cs i d →
+    AreReady p cs → AreReady p (c ∷ [])
 ready_at p cs i d c below is h =
     let P : Column → Type 0 = λ x. AreReady p (x ∷ []) in
-    subst P (sym is) (record { are = (AreColumns-get p cs i d below h.are, tt); fit = (fit_get p.items (length p.caps) cs i d below h.fit, tt) })
+    subst P (sym is) (record {
+      are = (AreColumns-get p cs i d below h.are, tt);
+      fit =
+          (fit_get p.items (length p.caps) cs i d below h.fit, tt);
+    })
 
 -- the columns of a plan
 pub plan_ready : (p : Problem) (cs : List Column) → HasListedColumns p → AreColumns p cs → AreCheap cs → AreReady p cs

@@ -30,20 +30,28 @@ first_map f [] found is = ap (option_map f) is
 first_map f (x ∷ xs) found is = ap (option_map f) is
 
 -- the first fault of a row is that of its table
-pub row_first : (net : Net) (version : ℕ) (rule : Rule) (place : ℕ) (row : List ℕ) (rows rest : List (List ℕ)) (kind : ParamKind) → rows ≡ row ∷ rest → first (row_kinds net version rule.references row) ≡ Some kind
+pub row_first : (net : Net) (version : ℕ) (rule : Rule) (place : ℕ) (row : List ℕ) (rows rest : List (List ℕ)) (kind : ParamKind) →
+    rows ≡ row ∷ rest → first (row_kinds net version rule.references row) ≡ Some kind
     → first (row_faults net version rule place rows) ≡ Some (fault kind rule.name (number_of place))
 row_first net version rule place row rows rest kind at found =
     ap (λ rs. first (row_faults net version rule place rs)) at
-    ∙ first_front (map (λ k. fault k rule.name (number_of place)) (row_kinds net version rule.references row)) (row_faults net version rule (place + 1) rest) (fault kind rule.name (number_of place)) (first_map (λ k. fault k rule.name (number_of place)) (row_kinds net version rule.references row) (Some kind) found)
+    ∙ first_front (map (λ k. fault k rule.name (number_of place)) (row_kinds net version rule.references row))
+    (row_faults net version rule (place + 1) rest) (fault kind rule.name (number_of place))
+    (first_map (λ k. fault k rule.name (number_of place)) (row_kinds net version rule.references row) (Some kind) found)
 
-pub row_passed : (net : Net) (version : ℕ) (rule : Rule) (place : ℕ) (row : List ℕ) (rows rest : List (List ℕ)) → rows ≡ row ∷ rest → first (row_kinds net version rule.references row) ≡ None
+pub row_passed : (net : Net) (version : ℕ) (rule : Rule) (place : ℕ) (row : List ℕ) (rows rest : List (List ℕ)) → rows ≡ row ∷ rest →
+    first (row_kinds net version rule.references row) ≡ None
     → first (row_faults net version rule place rows) ≡ first (row_faults net version rule (place + 1) rest)
 row_passed net version rule place row rows rest at none =
     ap (λ rs. first (row_faults net version rule place rs)) at
-    ∙ first_later (map (λ k. fault k rule.name (number_of place)) (row_kinds net version rule.references row)) (row_faults net version rule (place + 1) rest) (first_map (λ k. fault k rule.name (number_of place)) (row_kinds net version rule.references row) None none)
+    ∙ first_later (map (λ k. fault k rule.name (number_of place)) (row_kinds net version rule.references row))
+    (row_faults net version rule (place + 1) rest)
+    (first_map (λ k. fault k rule.name (number_of place)) (row_kinds net version rule.references row) None none)
 
-module _ (faults : Rule → List ParamFault) (rules : List TableRule) (i : ℕ) (rule : TableRule) (found : Option Found) (whole : Option ParamFault)
-    (within : i < length rules) (is : option_map fault_of found ≡ first (faults (rule_of (get_or rules i rule)))) (so_far : first (flat_map faults (map rule_of (drop i rules))) ≡ whole) where
+module _ (faults : Rule → List ParamFault) (rules : List TableRule) (i : ℕ) (rule : TableRule) (found : Option Found)
+    (whole : Option ParamFault)
+    (within : i < length rules) (is : option_map fault_of found ≡ first (faults (rule_of (get_or rules i rule))))
+    (so_far : first (flat_map faults (map rule_of (drop i rules))) ≡ whole) where
   here : List ParamFault
   here = faults (rule_of (get_or rules i rule))
 
@@ -93,10 +101,13 @@ not_when false x none = refl
 few_from : (n : ℕ) → nat_lt 32 n ≡ false → n ≤ 32
 few_from n e = grind (arith, nat_tests)
 
-limit_kept : (net : Net) (version : ℕ) (rule : Rule) → rule.is_limited ≡ true → table_faults net version rule ≡ [] → length (extra_of net rule.name) ≤ 32
+limit_kept : (net : Net) (version : ℕ) (rule : Rule) → rule.is_limited ≡ true → table_faults net version rule ≡ [] →
+    length (extra_of net rule.name) ≤ 32
 limit_kept net version rule limited none =
     let n : ℕ = length (extra_of net rule.name) in
-    few_from n (ap (λ b. b && nat_lt 32 n) (sym limited) ∙ not_when (rule.is_limited && nat_lt 32 n) (fault kinds.TooMany rule.name 0) (front_empty _ (row_faults net version rule 0 (extra_of net rule.name)) none))
+    few_from n (ap (λ b. b && nat_lt 32 n) (sym limited)
+    ∙ not_when (rule.is_limited && nat_lt 32 n) (fault kinds.TooMany rule.name 0)
+    (front_empty _ (row_faults net version rule 0 (extra_of net rule.name)) none))
 
 module _ (net : Net) (version : ℕ) (none : first_fault net version ≡ None) where
   tables_right : flat_map (table_faults net version) all_rules ≡ []
@@ -109,7 +120,10 @@ module _ (net : Net) (version : ℕ) (none : first_fault net version ≡ None) w
   pub few_groups : length (extra_of net (codes "X_FAHRER")) ≤ 32
   few_groups =
       limit_kept net version drivers refl
-      (front_empty (table_faults net version drivers) [] (rest_empty (table_faults net version ways) _ (rest_empty (table_faults net version reliefs) _ (rest_empty (table_faults net version line_types) _ (rest_empty (table_faults net version depots) _ tables_right)))))
+      (front_empty (table_faults net version drivers) []
+      (rest_empty (table_faults net version ways) _ (rest_empty
+      (table_faults net version reliefs) _ (rest_empty
+      (table_faults net version line_types) _ (rest_empty (table_faults net version depots) _ tables_right)))))
 
 -- No fault of the tables is want of memory.
 abbrev Each : {A : Type 0} → (A → Type 0) → List A → Type 0
@@ -134,7 +148,8 @@ IsRead kind = kind ≢ kinds.Memory
 abbrev IsReadFault : ParamFault → Type 0
 IsReadFault found = found.kind ≢ kinds.Memory
 
-each_kind : (table : List ℕ) (row : ℕ) (found : List ParamKind) → Each IsRead found → Each IsReadFault (map (λ kind. fault kind table row) found)
+each_kind : (table : List ℕ) (row : ℕ) (found : List ParamKind) → Each IsRead found →
+    Each IsReadFault (map (λ kind. fault kind table row) found)
 each_kind table row [] each = tt
 each_kind table row (kind ∷ found) each = (each.0, each_kind table row found each.1)
 
@@ -145,25 +160,38 @@ module _ (net : Net) (version : ℕ) where
 
   row_read : (row : List ℕ) (references : List Reference) → Each IsRead (row_kinds net version references row)
   row_read row [] = tt
-  row_read row (reference ∷ references) = each_append IsRead (reference_kinds net version row reference) (row_kinds net version references row) (reference_read row reference) (row_read row references)
+  row_read row (reference ∷ references) =
+      each_append IsRead (reference_kinds net version row reference) (row_kinds net version references row) (reference_read row reference)
+      (row_read row references)
 
   rows_read : (rule : Rule) (place : ℕ) (rows : List (List ℕ)) → Each IsReadFault (row_faults net version rule place rows)
   rows_read rule place [] = tt
   rows_read rule place (row ∷ rows) =
-      each_append IsReadFault (map (λ kind. fault kind rule.name (number_of place)) (row_kinds net version rule.references row)) (row_faults net version rule (place + 1) rows) (each_kind rule.name (number_of place) (row_kinds net version rule.references row) (row_read row rule.references)) (rows_read rule (place + 1) rows)
+      each_append IsReadFault (map (λ kind. fault kind rule.name (number_of place)) (row_kinds net version rule.references row))
+      (row_faults net version rule (place + 1) rows)
+      (each_kind rule.name (number_of place) (row_kinds net version rule.references row) (row_read row rule.references))
+      (rows_read rule (place + 1) rows)
 
   table_read : (rule : Rule) → Each IsReadFault (table_faults net version rule)
-  table_read rule = each_append IsReadFault _ (row_faults net version rule 0 (extra_of net rule.name)) (each_when IsReadFault (rule.is_limited && nat_lt 32 (length (extra_of net rule.name))) (fault kinds.TooMany rule.name 0) (λ e. cc)) (rows_read rule 0 (extra_of net rule.name))
+  table_read rule = each_append IsReadFault _ (row_faults net version rule 0 (extra_of net rule.name))
+      (each_when IsReadFault (rule.is_limited && nat_lt 32 (length (extra_of net rule.name))) (fault kinds.TooMany rule.name 0) (λ e. cc))
+      (rows_read rule 0 (extra_of net rule.name))
 
   tables_read : (rules : List Rule) → Each IsReadFault (flat_map (table_faults net version) rules)
   tables_read [] = tt
-  tables_read (rule ∷ rules) = each_append IsReadFault (table_faults net version rule) (flat_map (table_faults net version) rules) (table_read rule) (tables_read rules)
+  tables_read (rule ∷ rules) =
+      each_append IsReadFault (table_faults net version rule) (flat_map (table_faults net version) rules)
+      (table_read rule) (tables_read rules)
 
   pub is_read : (found : ParamFault) → first_fault net version ≡ Some found → found.kind ≢ kinds.Memory
   unfolding first_fault
   is_read found is =
-      each_first IsReadFault (param_faults net version) found (each_append IsReadFault (plan_faults net) (flat_map (table_faults net version) all_rules) (each_when IsReadFault (not (length (extra_of net (codes "X_PLAN")) == 1)) (fault kinds.NotOne (codes "X_PLAN") 0) (λ e. cc)) (tables_read all_rules)) is
+      each_first IsReadFault (param_faults net version) found
+      (each_append IsReadFault (plan_faults net) (flat_map (table_faults net version) all_rules)
+      (each_when IsReadFault (not (length (extra_of net (codes "X_PLAN")) == 1)) (fault kinds.NotOne (codes "X_PLAN") 0) (λ e. cc))
+      (tables_read all_rules)) is
 
-  pub memory_is : (found refused : ParamFault) → first_fault net version ≡ Some found → IsRefusal (Some found) refused → refused.kind ≡ kinds.Memory → refused ≡ memory_fault
+  pub memory_is : (found refused : ParamFault) → first_fault net version ≡ Some found → IsRefusal (Some found) refused →
+      refused.kind ≡ kinds.Memory → refused ≡ memory_fault
   memory_is found refused is (inl memory) want = memory
   memory_is found refused is (inr same) want = absurd (is_read refused (is ∙ same) want)

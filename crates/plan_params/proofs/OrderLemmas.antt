@@ -40,22 +40,26 @@ module _ {A : Type 0} (number : A → ℕ) where
 
   pub put_all : (P : A → Type 0) (item : A) (items : List A) → P item → All P items → All P (put_in_order number item items)
   put_all P item [] first others = All-cons P item [] first others
-  put_all P item (next ∷ items) first others = by (nat_lt (number next) (number item)) (put_all P item items first (All-rest P next items others))
+  put_all P item (next ∷ items) first others =
+      by (nat_lt (number next) (number item)) (put_all P item items first (All-rest P next items others))
     where
-      by : (b : Bool) → All P (put_in_order number item items) → All P (if b then next ∷ put_in_order number item items else item ∷ next ∷ items)
+      by : (b : Bool) → All P (put_in_order number item items) →
+          All P (if b then next ∷ put_in_order number item items else item ∷ next ∷ items)
       by true later = All-cons P next (put_in_order number item items) (others 0 next (omega arith)) later
       by false later = All-cons P item (next ∷ items) first others
 
   -- what holds of all items holds of them in order
   pub order_all : (P : A → Type 0) (items : List A) → All P items → All P (in_order number items)
   order_all P [] all = All-nil P
-  order_all P (item ∷ items) all = put_all P item (in_order number items) (all 0 item (omega arith)) (order_all P items (All-rest P item items all))
+  order_all P (item ∷ items) all =
+      put_all P item (in_order number items) (all 0 item (omega arith)) (order_all P items (All-rest P item items all))
 
   put_length : (item : A) (items : List A) → length (put_in_order number item items) ≡ suc (length items)
   put_length item [] = refl
   put_length item (next ∷ items) = by (nat_lt (number next) (number item)) (put_length item items)
     where
-      by : (b : Bool) → length (put_in_order number item items) ≡ suc (length items) → length (if b then next ∷ put_in_order number item items else item ∷ next ∷ items) ≡ suc (suc (length items))
+      by : (b : Bool) → length (put_in_order number item items) ≡ suc (length items) →
+          length (if b then next ∷ put_in_order number item items else item ∷ next ∷ items) ≡ suc (suc (length items))
       by true later = ap suc later
       by false later = refl
 
@@ -67,9 +71,14 @@ module _ {A : Type 0} (number : A → ℕ) where
   put_rises item [] rises = (All-nil _, tt)
   put_rises item (next ∷ items) rises = by (nat_lt (number next) (number item)) refl (put_rises item items rises.1)
     where
-      by : (b : Bool) → nat_lt (number next) (number item) ≡ b → Rises (put_in_order number item items) → Rises (if b then next ∷ put_in_order number item items else item ∷ next ∷ items)
+      by : (b : Bool) → nat_lt (number next) (number item) ≡ b → Rises (put_in_order number item items) →
+          Rises (if b then next ∷ put_in_order number item items else item ∷ next ∷ items)
       by true e later = (put_all (IsAfter next) item items (omega (arith, lt_from (number next) (number item) e)) rises.0, later)
-      by false e later = (All-cons (IsAfter item) next items (not_lt_from (number next) (number item) e) (λ k d within. omega (arith, rises.0 k d within, not_lt_from (number next) (number item) e)), rises)
+      by false e later = (
+        All-cons (IsAfter item) next items (not_lt_from (number next) (number item) e)
+            (λ k d within. omega (arith, rises.0 k d within, not_lt_from (number next) (number item) e)),
+        rises,
+      )
 
   in_order_rises : (items : List A) → Rises (in_order number items)
   in_order_rises [] = tt
@@ -83,7 +92,8 @@ module _ {A : Type 0} (number : A → ℕ) where
       first d zero below within = absurd (omega arith)
       first d (suc j) below within = rises.0 j d (omega arith)
 
-      later : AllPairs IsAfter items → (i j : ℕ) (d : A) → suc i < j → j < length (item ∷ items) → IsAfter (get_or items i d) (get_or (item ∷ items) j d)
+      later : AllPairs IsAfter items → (i j : ℕ) (d : A) → suc i < j → j < length (item ∷ items) →
+          IsAfter (get_or items i d) (get_or (item ∷ items) j d)
       later others i zero d below within = absurd (omega arith)
       later others i (suc j) d below within = others i j d (omega arith) (omega arith)
 
@@ -101,20 +111,25 @@ module _ {A : Type 0} (number : A → ℕ) where
       by_next : (b c : Bool) → level x next ≡ b → level x item ≡ c → nat_lt (number next) (number item) ≡ true
           → filter (level x) (put_in_order number item items) ≡ (if c then item ∷ filter (level x) items else filter (level x) items)
           → (if b then next ∷ filter (level x) (put_in_order number item items) else filter (level x) (put_in_order number item items))
-          ≡ (if c then item ∷ (if b then next ∷ filter (level x) items else filter (level x) items) else (if b then next ∷ filter (level x) items else filter (level x) items))
-      by_next true true e f below later = absurd (omega (arith, lt_from (number next) (number item) below, level_number x next e, level_number x item f))
+          ≡ (if c then item ∷ (if b then next ∷ filter (level x) items else filter (level x) items) else
+          (if b then next ∷ filter (level x) items else filter (level x) items))
+      by_next true true e f below later =
+          absurd (omega (arith, lt_from (number next) (number item) below, level_number x next e, level_number x item f))
       by_next true false e f below later = ap (λ rs. next ∷ rs) later
       by_next false true e f below later = later
       by_next false false e f below later = later
 
-      by : (b : Bool) → nat_lt (number next) (number item) ≡ b → filter (level x) (put_in_order number item items) ≡ filter (level x) (item ∷ items)
-          → filter (level x) (if b then next ∷ put_in_order number item items else item ∷ next ∷ items) ≡ filter (level x) (item ∷ next ∷ items)
+      by : (b : Bool) → nat_lt (number next) (number item) ≡ b →
+          filter (level x) (put_in_order number item items) ≡ filter (level x) (item ∷ items)
+          → filter (level x) (if b then next ∷ put_in_order number item items else item ∷ next ∷ items)
+          ≡ filter (level x) (item ∷ next ∷ items)
       by true e later = by_next (level x next) (level x item) refl refl e later
       by false e later = refl
 
   in_order_level : (x : A) (items : List A) → filter (level x) (in_order number items) ≡ filter (level x) items
   in_order_level x [] = refl
-  in_order_level x (item ∷ items) = put_level x item (in_order number items) ∙ ap (λ rs. if level x item then item ∷ rs else rs) (in_order_level x items)
+  in_order_level x (item ∷ items) =
+      put_level x item (in_order number items) ∙ ap (λ rs. if level x item then item ∷ rs else rs) (in_order_level x items)
 
   none_level : (x : A) (items : List A) → All (λ item. number x < number item) items → filter (level x) items ≡ []
   none_level x [] above = refl
@@ -179,12 +194,20 @@ module _ {A : Type 0} (number : A → ℕ) where
       later item = by (level item x) refl
         where
           by : (b : Bool) → level item x ≡ b → filter (level item) xs ≡ filter (level item) ys
-          by true e = others_same x y _ _ (sym (ap (λ c. if c then x ∷ filter (level item) xs else filter (level item) xs) e) ∙ same item ∙ ap (λ c. if c then y ∷ filter (level item) ys else filter (level item) ys) (ap (level item) (sym first) ∙ e))
-          by false e = sym (ap (λ c. if c then x ∷ filter (level item) xs else filter (level item) xs) e) ∙ same item ∙ ap (λ c. if c then y ∷ filter (level item) ys else filter (level item) ys) (ap (level item) (sym first) ∙ e)
+          by true e = others_same x y _ _ (sym (ap (λ c. if c then x ∷ filter (level item) xs else filter (level item) xs) e) ∙ same item
+              ∙ ap (λ c. if c then y ∷ filter (level item) ys else filter (level item) ys) (ap (level item) (sym first) ∙ e))
+          by false e = sym (ap (λ c. if c then x ∷ filter (level item) xs else filter (level item) xs) e) ∙ same item
+              ∙ ap (λ c. if c then y ∷ filter (level item) ys else filter (level item) ys) (ap (level item) (sym first) ∙ e)
 
   rises_from : (items : List A) → IsNonDecreasingBy number items → Rises items
   rises_from [] sorted = tt
-  rises_from (item ∷ items) sorted = (λ k d within. sorted 0 (suc k) d (omega arith) (omega arith), rises_from items (λ i j d below within. sorted (suc i) (suc j) d (omega arith) (omega arith)))
+  rises_from (item ∷ items) sorted = (
+    λ k d within. sorted 0 (suc k) d (omega arith) (omega arith),
+    rises_from items (λ i j d below within. sorted (suc i) (suc j) d (omega arith) (omega arith)),
+  )
 
-  pub sorted_items : (items sorted : List A) → IsNonDecreasingBy number sorted → IsStableByKey number nat_cmp items sorted → sorted ≡ in_order number items
-  sorted_items items sorted rises stable = one_order sorted (in_order number items) (rises_from sorted rises) (in_order_rises items) (λ item. stable item ∙ sym (in_order_level item items))
+  pub sorted_items : (items sorted : List A) → IsNonDecreasingBy number sorted → IsStableByKey number nat_cmp items sorted →
+      sorted ≡ in_order number items
+  sorted_items items sorted rises stable =
+      one_order sorted (in_order number items) (rises_from sorted rises) (in_order_rises items)
+      (λ item. stable item ∙ sym (in_order_level item items))

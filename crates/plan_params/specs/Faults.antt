@@ -32,7 +32,8 @@ number_of place = min (place + 1) 4294967295
 abbrev pub row_faults : Net → ℕ → Rule → ℕ → List (List ℕ) → List ParamFault
 row_faults net version rule place [] = []
 row_faults net version rule place (row ∷ rows) =
-    map (λ kind. fault kind rule.name (number_of place)) (row_kinds net version rule.references row) ++ row_faults net version rule (place + 1) rows
+    map (λ kind. fault kind rule.name (number_of place)) (row_kinds net version rule.references row)
+    ++ row_faults net version rule (place + 1) rows
 
 -- of a table first the number of its rows, then row by row their references
 abbrev pub table_faults : Net → ℕ → Rule → List ParamFault

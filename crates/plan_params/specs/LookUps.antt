@@ -15,7 +15,8 @@ is_listed params line = list_any (λ (row : Admission). row.line == line) params
 
 -- a line without rows admits every type, another one the types of its rows
 abbrev pub admits_in : ParamRows → ℕ → ℕ → Bool
-admits_in params line typ = not (is_listed params line) || list_any (λ (row : Admission). (row.line == line) && (row.typ == typ)) params.admissions
+admits_in params line typ =
+    not (is_listed params line) || list_any (λ (row : Admission). (row.line == line) && (row.typ == typ)) params.admissions
 
 -- X_ABLOESE has the point
 abbrev pub is_relief_in : ParamRows → Point → Bool
@@ -24,7 +25,8 @@ is_relief_in params at = list_any (λ (point : Point). point_eq point at) params
 -- no time from a point to itself, else WEG_SEK of the row of X_WEG with these points
 abbrev pub way_in : ParamRows → Point → Point → Option ℕ
 way_in params from to =
-    if point_eq from to then Some 0 else option_map (λ (way : Way). way.time) (find (λ (way : Way). point_eq way.from from && point_eq way.to to) params.ways)
+    if point_eq from to then Some 0 else option_map (λ (way : Way). way.time)
+    (find (λ (way : Way). point_eq way.from from && point_eq way.to to) params.ways)
 
 -- Rows compare by their keys.
 abbrev pub admission_eq : Admission → Admission → Bool

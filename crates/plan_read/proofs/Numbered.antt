@@ -32,7 +32,8 @@ counted-some most (Some (negsuc m)) n is some low = absurd (cc)
 pub counted-none : (most : ℕ) (z : Option ℤ) (n : ℕ) → not_below z ≡ Some n → most < n → counted most z ≡ None
 counted-none most None n is high = refl
 counted-none most (Some (pos zero)) n is high = refl
-counted-none most (Some (pos (suc m))) n is high = let e : suc m ≡ n = cc in ap (λ (t : Bool). if t then Some m else None) (beyond m n e high)
+counted-none most (Some (pos (suc m))) n is high =
+    let e : suc m ≡ n = cc in ap (λ (t : Bool). if t then Some m else None) (beyond m n e high)
   where
     beyond : (m n : ℕ) → suc m ≡ n → most < n → nat_lt m most ≡ false
     beyond m n e high = grind (arith, nat_tests)
@@ -52,7 +53,8 @@ counted-below most (Some (negsuc m)) none = refl
 
 pub word-some : (z : Option ℤ) (n : ℕ) → not_below z ≡ Some n → n ≤ 4294967295 → word z ≡ Some n
 word-some None n is low = absurd (cc)
-word-some (Some (pos m)) n is low = let e : m ≡ n = cc in ap (λ (t : Bool). if t then Some m else None) (within m n e low) ∙ ap (λ (k : ℕ). Some k) e
+word-some (Some (pos m)) n is low =
+    let e : m ≡ n = cc in ap (λ (t : Bool). if t then Some m else None) (within m n e low) ∙ ap (λ (k : ℕ). Some k) e
   where
     within : (m n : ℕ) → m ≡ n → n ≤ 4294967295 → nat_le m 4294967295 ≡ true
     within m n e low = grind (arith, nat_tests)
@@ -76,9 +78,11 @@ if-some : (t : Bool) (m : ℕ) → is_some (if t then Some m else None) ≡ t
 if-some true m = refl
 if-some false m = refl
 
-own-at : (row m : ℕ) → is_some (option_and_then (λ k. if nat_eq k row then Some k else None) (if nat_lt m (row + 1) then Some m else None)) ≡ (suc m == row + 1)
+own-at : (row m : ℕ) → is_some (option_and_then (λ k. if nat_eq k row then Some k else None) (if nat_lt m (row + 1) then Some m else None))
+    ≡ (suc m == row + 1)
 own-at row m =
-    elim (nat_lt m (row + 1)) as (λ t. nat_lt m (row + 1) ≡ t → is_some (option_and_then (λ k. if nat_eq k row then Some k else None) (if t then Some m else None)) ≡ (suc m == row + 1)) [
+    elim (nat_lt m (row + 1)) as (λ t. nat_lt m (row + 1) ≡ t →
+    is_some (option_and_then (λ k. if nat_eq k row then Some k else None) (if t then Some m else None)) ≡ (suc m == row + 1)) [
       | true ↦ λ e. if-some (nat_eq m row) m ∙ same m row
       | false ↦ λ e. other m row e
     ] refl
@@ -104,7 +108,8 @@ own-none row (Some (pos m)) none = absurd (cc)
 own-none row (Some (negsuc m)) none = refl
 
 -- an own number lets a row say what the rest of it says
-pub own-then : {A : Type 0} (row : ℕ) (z : Option ℤ) (o : Option A) → option_and_then (λ own. o) (own_number row z) ≡ (if is_own row z then o else None)
+pub own-then : {A : Type 0} (row : ℕ) (z : Option ℤ) (o : Option A) →
+    option_and_then (λ own. o) (own_number row z) ≡ (if is_own row z then o else None)
 own-then row z o = by (own_number row z)
   where
     by : (own : Option ℕ) → option_and_then (λ own. o) own ≡ (if is_some own then o else None)
@@ -118,7 +123,9 @@ trip-same trips (Some (pos n)) = told-found trips n
 trip-same trips (Some (negsuc n)) = refl
 
 -- the first pool of a number
-pool-from : (from n : ℕ) (pools : List Pool) → position_from (λ (pool : Pool). pool.number == n) from pools ≡ option_map (λ k. from + k) (place_in (map (λ (pool : Pool). pool.number) pools) n)
+pool-from : (from n : ℕ) (pools : List Pool) →
+    position_from (λ (pool : Pool). pool.number == n) from pools
+    ≡ option_map (λ k. from + k) (place_in (map (λ (pool : Pool). pool.number) pools) n)
 pool-from from n [] = refl
 pool-from from n (pool ∷ pools) =
     elim (nat_eq pool.number n) as (λ b. (if b then Some from else position_from (λ (pool : Pool). pool.number == n) (from + 1) pools)
@@ -139,7 +146,8 @@ pool-from from n (pool ∷ pools) =
 
 pub pool-same : (pools : List Pool) (z : Option ℤ) → pool_class pools z ≡ class_among (map (λ (pool : Pool). pool.number) pools) z
 pool-same pools None = refl
-pool-same pools (Some (pos n)) = position_from-zero (λ (pool : Pool). pool.number == n) pools ∙ (pool-from 0 n pools ∙ none-more (place_in (map (λ (pool : Pool). pool.number) pools) n))
+pool-same pools (Some (pos n)) = position_from-zero (λ (pool : Pool). pool.number == n) pools
+    ∙ (pool-from 0 n pools ∙ none-more (place_in (map (λ (pool : Pool). pool.number) pools) n))
   where
     none-more : (o : Option ℕ) → option_map (λ k. 0 + k) o ≡ o
     none-more None = refl
@@ -147,10 +155,13 @@ pool-same pools (Some (pos n)) = position_from-zero (λ (pool : Pool). pool.numb
 pool-same pools (Some (negsuc n)) = refl
 
 -- a number that is one of a group
-is-there : (groups : List Group) (n : ℕ) → is_some (place_in (map (λ (group : Group). group.number) groups) n) ≡ list_any (λ (group : Group). group.number == n) groups
+is-there : (groups : List Group) (n : ℕ) →
+    is_some (place_in (map (λ (group : Group). group.number) groups) n) ≡ list_any (λ (group : Group). group.number == n) groups
 is-there [] n = refl
 is-there (group ∷ groups) n =
-    elim (nat_eq group.number n) as (λ b. is_some (if b then Some 0 else option_map (λ k. k + 1) (place_in (map (λ (group : Group). group.number) groups) n)) ≡ (b || list_any (λ (group : Group). group.number == n) groups)) [
+    elim (nat_eq group.number n) as
+    (λ b. is_some (if b then Some 0 else option_map (λ k. k + 1) (place_in (map (λ (group : Group). group.number) groups) n))
+    ≡ (b || list_any (λ (group : Group). group.number == n) groups)) [
       | true ↦ refl
       | false ↦ still (place_in (map (λ (group : Group). group.number) groups) n) ∙ is-there groups n
     ]
@@ -160,15 +171,18 @@ is-there (group ∷ groups) n =
     still (Some k) = refl
 
 -- a number of a range that is there
-there : (f : ℕ → Option ℕ) (n : ℕ) (low : Bool) (o : Option ℕ) → f n ≡ (if is_some o then Some n else None) → ((if low then Some n else None) >>= f) ≡ option_and_then (λ place. if low then Some n else None) o
+there : (f : ℕ → Option ℕ) (n : ℕ) (low : Bool) (o : Option ℕ) → f n ≡ (if is_some o then Some n else None) →
+    ((if low then Some n else None) >>= f) ≡ option_and_then (λ place. if low then Some n else None) o
 there f n true None e = e
 there f n true (Some k) e = e
 there f n false None e = refl
 there f n false (Some k) e = refl
 
-pub group-same : (groups : List Group) (z : Option ℤ) → group_number groups z ≡ number_among (map (λ (group : Group). group.number) groups) z
+pub group-same : (groups : List Group) (z : Option ℤ) →
+    group_number groups z ≡ number_among (map (λ (group : Group). group.number) groups) z
 group-same groups None = refl
 group-same groups (Some (negsuc n)) = refl
 group-same groups (Some (pos n)) =
-    there (λ m. if list_any (λ (group : Group). group.number == m) groups then Some m else None) n (nat_le n 4294967295) (place_in (map (λ (group : Group). group.number) groups) n)
+    there (λ m. if list_any (λ (group : Group). group.number == m) groups then Some m else None) n (nat_le n 4294967295)
+    (place_in (map (λ (group : Group). group.number) groups) n)
     (ap (λ (b : Bool). if b then Some n else None) (sym (is-there groups n)))

@@ -26,11 +26,13 @@ abbrev pub Stops : ReadFault → List At → Type 0
 Stops (Form p) ws = first ws ≡ Some (at p)
 Stops Memory ws = Unit {0}
 
-pub pair-faults : (e : ReadFault) (t : PlanTable) (one two : List ℕ) (ts : List Table) → FindsPair (Err e) t one two ts → Faults e (whole_faults (outline t (one ∷ two ∷ [])) ts)
+pub pair-faults : (e : ReadFault) (t : PlanTable) (one two : List ℕ) (ts : List Table) → FindsPair (Err e) t one two ts →
+    Faults e (whole_faults (outline t (one ∷ two ∷ [])) ts)
 pair-faults (Form p) t one two ts finds = finds
 pair-faults Memory t one two ts finds = tt
 
-pub triple-faults : (e : ReadFault) (t : PlanTable) (one two three : List ℕ) (ts : List Table) → FindsTriple (Err e) t one two three ts → Faults e (whole_faults (outline t (one ∷ two ∷ three ∷ [])) ts)
+pub triple-faults : (e : ReadFault) (t : PlanTable) (one two three : List ℕ) (ts : List Table) → FindsTriple (Err e) t one two three ts →
+    Faults e (whole_faults (outline t (one ∷ two ∷ three ∷ [])) ts)
 triple-faults (Form p) t one two three ts finds = finds
 triple-faults Memory t one two three ts finds = tt
 
@@ -54,15 +56,18 @@ stops-rows (Form p) ts stops = stops
 stops-rows Memory ts stops = tt
 
 -- a table that is wrong as a whole
-pub whole-gives : (day : DayFacts) (e : ReadFault) (ts : List Table) → FindsRows (Err e) ts → Gives {A = PlanText} (Err e) (read_places day ts)
+pub whole-gives : (day : DayFacts) (e : ReadFault) (ts : List Table) → FindsRows (Err e) ts →
+    Gives {A = PlanText} (Err e) (read_places day ts)
 whole-gives day (Form p) ts found = whole-read day ts (at p) found
 whole-gives day Memory ts found = tt
 
 -- what is answered
-pub text-read : (day : DayFacts) (ts : List Table) (text : PlanText) → Gives (Ok text) (read_places day ts) → IsReadOf (reading.read_of day ts) (Ok text)
+pub text-read : (day : DayFacts) (ts : List Table) (text : PlanText) → Gives (Ok text) (read_places day ts) →
+    IsReadOf (reading.read_of day ts) (Ok text)
 text-read day ts text gives = read-named day ts text gives
 
-pub fault-read : (day : DayFacts) (ts : List Table) (e : ReadFault) (fault : PlanFault) → IsNamed e fault → Gives {A = PlanText} (Err e) (read_places day ts) → IsReadOf (reading.read_of day ts) (Err fault)
+pub fault-read : (day : DayFacts) (ts : List Table) (e : ReadFault) (fault : PlanFault) → IsNamed e fault →
+    Gives {A = PlanText} (Err e) (read_places day ts) → IsReadOf (reading.read_of day ts) (Err fault)
 fault-read day ts (Form p) (plan_faults.Form table row) is gives =
     let make : List ℕ → ℕ → Result PlanText PlanFault = λ t r. Err (plan_faults.Form t r) in
     fault-named day ts (at p) gives ∙ (ap (λ (t : List ℕ). make t p.row) is.0 ∙ ap (λ (r : ℕ). make table r) is.1)

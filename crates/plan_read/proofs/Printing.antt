@@ -31,7 +31,8 @@ not-both : (a b : ℕ) → nat_lt a b ≡ true → nat_lt b a ≡ false
 not-both a b e = grind (arith, nat_tests)
 
 -- a column goes behind those that begin earlier
-front-put : (first c : Column) (cs : List Column) → IsInFront first cs → nat_lt (first_of_column c) (first_of_column first) ≡ false → IsInFront first (put c cs)
+front-put : (first c : Column) (cs : List Column) → IsInFront first cs → nat_lt (first_of_column c) (first_of_column first) ≡ false →
+    IsInFront first (put c cs)
 front-put first c [] front late = late
 front-put first c (next ∷ cs) front late =
     elim (nat_lt (first_of_column next) (first_of_column c)) as (λ t. IsInFront first (if t then next ∷ put c cs else c ∷ next ∷ cs)) [
@@ -42,7 +43,8 @@ front-put first c (next ∷ cs) front late =
 put-stands : (c : Column) (cs : List Column) → Stands cs → Stands (put c cs)
 put-stands c [] stands = (tt, tt)
 put-stands c (next ∷ cs) stands =
-    elim (nat_lt (first_of_column next) (first_of_column c)) as (λ t. nat_lt (first_of_column next) (first_of_column c) ≡ t → Stands (if t then next ∷ put c cs else c ∷ next ∷ cs)) [
+    elim (nat_lt (first_of_column next) (first_of_column c)) as (λ t. nat_lt (first_of_column next) (first_of_column c) ≡ t →
+    Stands (if t then next ∷ put c cs else c ∷ next ∷ cs)) [
       | true ↦ λ e. (front-put next c cs stands.0 (not-both (first_of_column next) (first_of_column c) e), put-stands c cs stands.1)
       | false ↦ λ e. (e, stands)
     ] refl

@@ -26,12 +26,16 @@ use Rattle.plan_read.proofs.SameRows.{block-row, bound-row, duty-row, part-row, 
 use Rattle.plan_read.proofs.Saying.{entries-map, entries-same, said-entries}
 
 -- Tables.
-said-same : {A B : Type 0} (f g : ℕ → B → Option A) (t : PlanTable) (xs : List B) → ((k : ℕ) (x : B) → f k x ≡ g k x) → said f t xs ≡ unless (entry_faults (name_of t) 1 (entries_from g 0 xs)) (given_of (entries_from g 0 xs))
-said-same {A} f g t xs same = said-entries f t xs ∙ ap (λ (es : List (Option A)). unless (entry_faults (name_of t) 1 es) (given_of es)) (entries-same f g 0 xs same)
+said-same : {A B : Type 0} (f g : ℕ → B → Option A) (t : PlanTable) (xs : List B) → ((k : ℕ) (x : B) → f k x ≡ g k x) →
+    said f t xs ≡ unless (entry_faults (name_of t) 1 (entries_from g 0 xs)) (given_of (entries_from g 0 xs))
+said-same {A} f g t xs same =
+    said-entries f t xs ∙ ap (λ (es : List (Option A)). unless (entry_faults (name_of t) 1 es) (given_of es)) (entries-same f g 0 xs same)
 
-said-map : {A B : Type 0} (f g : B → Option A) (t : PlanTable) (xs : List B) → ((x : B) → f x ≡ g x) → said (λ row. f) t xs ≡ unless (entry_faults (name_of t) 1 (map g xs)) (given_of (map g xs))
+said-map : {A B : Type 0} (f g : B → Option A) (t : PlanTable) (xs : List B) → ((x : B) → f x ≡ g x) →
+    said (λ row. f) t xs ≡ unless (entry_faults (name_of t) 1 (map g xs)) (given_of (map g xs))
 said-map {A} f g t xs same =
-    said-same (λ row. f) (λ row. g) t xs (λ k x. same x) ∙ ap (λ (es : List (Option A)). unless (entry_faults (name_of t) 1 es) (given_of es)) (entries-map g 0 xs)
+    said-same (λ row. f) (λ row. g) t xs (λ k x. same x)
+    ∙ ap (λ (es : List (Option A)). unless (entry_faults (name_of t) 1 es) (given_of es)) (entries-map g 0 xs)
 
 -- where each row gives something, as much is given as there are rows
 given-long : {A : Type 0} (t : List ℕ) (row : ℕ) (es : List (Option A)) → entry_faults t row es ≡ [] → length (given_of es) ≡ length es
@@ -44,8 +48,10 @@ entries-long f row [] = refl
 entries-long f row (x ∷ xs) = ap suc (entries-long f (row + 1) xs)
 
 -- five steps, each of which may stop, and a last look at what the fifth gave
-five : {A B C D E : Type 0} (a b c d e last : List At) (five : E → List At) (va : A) (vb : B) (vc : C) (vd : D) (ve : E) (text : A → B → C → D → E → PlanText) → (e ≡ [] → five ve ≡ last) →
-    (unless a va >>= λ x. unless b vb >>= λ y. unless c vc >>= λ z. unless d vd >>= λ v. unless e ve >>= λ w. unless {A = Unit {0}} (five w) tt >>= λ none. Ok (text x y z v w))
+five : {A B C D E : Type 0} (a b c d e last : List At) (five : E → List At) (va : A) (vb : B) (vc : C) (vd : D) (ve : E)
+    (text : A → B → C → D → E → PlanText) → (e ≡ [] → five ve ≡ last) →
+    (unless a va >>= λ x. unless b vb >>= λ y. unless c vc >>= λ z. unless d vd >>= λ v. unless e ve >>= λ w. unless {A =
+    Unit {0}} (five w) tt >>= λ none. Ok (text x y z v w))
     ≡ read_first (text va vb vc vd ve) (first (a ++ (b ++ (c ++ (d ++ (e ++ last))))))
 five (p ∷ a) b c d e last look va vb vc vd ve text same = refl
 five [] (p ∷ b) c d e last look va vb vc vd ve text same = refl
@@ -55,7 +61,8 @@ five [] [] [] [] (p ∷ e) last look va vb vc vd ve text same = refl
 five [] [] [] [] [] last look va vb vc vd ve text same =
     ap (λ (l : List At). unless {A = Unit {0}} l tt >>= λ none. Ok (text va vb vc vd ve)) (same refl) ∙ end last
   where
-    end : (last : List At) → (unless {A = Unit {0}} last tt >>= λ none. Ok (text va vb vc vd ve)) ≡ read_first (text va vb vc vd ve) (first last)
+    end : (last : List At) →
+        (unless {A = Unit {0}} last tt >>= λ none. Ok (text va vb vc vd ve)) ≡ read_first (text va vb vc vd ve) (first last)
     end [] = refl
     end (p ∷ ps) = refl
 
@@ -66,20 +73,26 @@ Values = List (List (Option ℤ))
 abbrev pub places_in : DayFacts → Values → Values → Values → Values → Values → List At
 places_in day t b d p s =
     let n = known day (counts_of b d) in
-    entry_faults reading.trips.name 1 (map (reading.trip_entry n) t) ++ (entry_faults reading.blocks.name 1 (entries_from (reading.block_entry n) 0 b) ++
-    (entry_faults reading.duties.name 1 (entries_from (reading.duty_entry n) 0 d) ++ (entry_faults reading.parts.name 1 (map (reading.part_entry n) p) ++
-    (entry_faults reading.bounds.name 1 (entries_from reading.bound_entry 0 s) ++ when (nat_lt (length s) 4) (place reading.bounds.name 0)))))
+    entry_faults reading.trips.name 1 (map (reading.trip_entry n) t)
+    ++ (entry_faults reading.blocks.name 1 (entries_from (reading.block_entry n) 0 b) ++
+    (entry_faults reading.duties.name 1 (entries_from (reading.duty_entry n) 0 d)
+    ++ (entry_faults reading.parts.name 1 (map (reading.part_entry n) p) ++
+    (entry_faults reading.bounds.name 1 (entries_from reading.bound_entry 0 s)
+    ++ when (nat_lt (length s) 4) (place reading.bounds.name 0)))))
 
 abbrev pub text_of : List (ℕ × ℕ) → List ℕ → List ℕ → List Part → List ℕ → PlanText
-text_of trips classes groups parts bounds = record { blocks = record { columns = blocks_said trips classes }; duties = duties_said parts groups; bounds = bounds }
+text_of trips classes groups parts bounds =
+    record { blocks = record { columns = blocks_said trips classes }; duties = duties_said parts groups; bounds = bounds }
 
 abbrev text_in : DayFacts → Values → Values → Values → Values → Values → PlanText
 text_in day t b d p s =
     let n = known day (counts_of b d) in
-    text_of (given_of (map (reading.trip_entry n) t)) (given_of (entries_from (reading.block_entry n) 0 b)) (given_of (entries_from (reading.duty_entry n) 0 d))
+    text_of (given_of (map (reading.trip_entry n) t)) (given_of (entries_from (reading.block_entry n) 0 b))
+    (given_of (entries_from (reading.duty_entry n) 0 d))
     (given_of (map (reading.part_entry n) p)) (given_of (entries_from reading.bound_entry 0 s))
 
-pub values-same : (day : DayFacts) (t b d p s : Values) → numbers_said day (counts_of b d) t b d p s ≡ read_first (text_in day t b d p s) (first (places_in day t b d p s))
+pub values-same : (day : DayFacts) (t b d p s : Values) →
+    numbers_said day (counts_of b d) t b d p s ≡ read_first (text_in day t b d p s) (first (places_in day t b d p s))
 values-same day t b d p s =
     let counts = counts_of b d in
     let n = known day counts in
@@ -105,24 +118,36 @@ values-same day t b d p s =
     let y1 = unless (entry_faults reading.blocks.name 1 be) (given_of be) in
     let z1 = unless (entry_faults reading.duties.name 1 de) (given_of de) in
     let v1 = unless (entry_faults reading.parts.name 1 pe) (given_of pe) in
-    ap (λ x. chain x y0 z0 v0 w0) one ∙ (ap (λ y. chain x1 y z0 v0 w0) two' ∙ (ap (λ z. chain x1 y1 z v0 w0) three ∙ (ap (λ v. chain x1 y1 z1 v w0) four ∙ (ap (λ w. chain x1 y1 z1 v1 w) five'
-    ∙ five (entry_faults reading.trips.name 1 te) (entry_faults reading.blocks.name 1 be) (entry_faults reading.duties.name 1 de) (entry_faults reading.parts.name 1 pe) (entry_faults reading.bounds.name 1 se)
-    (when (nat_lt (length s) 4) (place reading.bounds.name 0)) (λ (w : List ℕ). when (nat_lt (length w) 4) (place (name_of tables.Bounds) 0)) (given_of te) (given_of be) (given_of de) (given_of pe) (given_of se) text_of
-    (λ none. ap (λ (m : ℕ). when (nat_lt m 4) (place reading.bounds.name 0)) (given-long reading.bounds.name 1 se none ∙ entries-long reading.bound_entry 0 s))))))
+    ap (λ x. chain x y0 z0 v0 w0) one
+    ∙ (ap (λ y. chain x1 y z0 v0 w0) two'
+    ∙ (ap (λ z. chain x1 y1 z v0 w0) three ∙ (ap (λ v. chain x1 y1 z1 v w0) four ∙ (ap (λ w. chain x1 y1 z1 v1 w) five'
+    ∙ five (entry_faults reading.trips.name 1 te) (entry_faults reading.blocks.name 1 be) (entry_faults reading.duties.name 1 de)
+    (entry_faults reading.parts.name 1 pe) (entry_faults reading.bounds.name 1 se)
+    (when (nat_lt (length s) 4) (place reading.bounds.name 0))
+    (λ (w : List ℕ). when (nat_lt (length w) 4) (place (name_of tables.Bounds) 0)) (given_of te) (given_of be) (given_of de)
+    (given_of pe) (given_of se) text_of
+    (λ none. ap (λ (m : ℕ). when (nat_lt m 4) (place reading.bounds.name 0))
+    (given-long reading.bounds.name 1 se none ∙ entries-long reading.bound_entry 0 s))))))
 
 -- the faults of tables as wholes come first
 pub wholes-first : (day : DayFacts) (ts : List Table) → reading.places_of day ts ≡
-    wholes ts ++ places_in day (rows_of reading.trips ts) (rows_of reading.blocks ts) (rows_of reading.duties ts) (rows_of reading.parts ts) (rows_of reading.bounds ts)
+    wholes ts ++ places_in day (rows_of reading.trips ts) (rows_of reading.blocks ts) (rows_of reading.duties ts) (rows_of reading.parts ts)
+    (rows_of reading.bounds ts)
 wholes-first day ts =
     let n = known day (counts_of (rows_of reading.blocks ts) (rows_of reading.duties ts)) in
-    move (wholes ts) (entry_faults reading.trips.name 1 (map (reading.trip_entry n) (rows_of reading.trips ts))) (entry_faults reading.blocks.name 1 (entries_from (reading.block_entry n) 0 (rows_of reading.blocks ts)))
-    (entry_faults reading.duties.name 1 (entries_from (reading.duty_entry n) 0 (rows_of reading.duties ts))) (entry_faults reading.parts.name 1 (map (reading.part_entry n) (rows_of reading.parts ts)))
-    (entry_faults reading.bounds.name 1 (entries_from reading.bound_entry 0 (rows_of reading.bounds ts))) (when (nat_lt (length (rows_of reading.bounds ts)) 4) (place reading.bounds.name 0))
+    move (wholes ts) (entry_faults reading.trips.name 1 (map (reading.trip_entry n) (rows_of reading.trips ts)))
+    (entry_faults reading.blocks.name 1 (entries_from (reading.block_entry n) 0 (rows_of reading.blocks ts)))
+    (entry_faults reading.duties.name 1 (entries_from (reading.duty_entry n) 0 (rows_of reading.duties ts)))
+    (entry_faults reading.parts.name 1 (map (reading.part_entry n) (rows_of reading.parts ts)))
+    (entry_faults reading.bounds.name 1 (entries_from reading.bound_entry 0 (rows_of reading.bounds ts)))
+    (when (nat_lt (length (rows_of reading.bounds ts)) 4) (place reading.bounds.name 0))
   where
     move : (w a b c d e f : List At) → (((((w ++ a) ++ b) ++ c) ++ d) ++ e) ++ f ≡ w ++ (a ++ (b ++ (c ++ (d ++ (e ++ f)))))
     move w a b c d e f =
         append_assoc ((((w ++ a) ++ b) ++ c) ++ d) e f
-        ∙ (append_assoc (((w ++ a) ++ b) ++ c) d (e ++ f) ∙ (append_assoc ((w ++ a) ++ b) c (d ++ (e ++ f)) ∙ (append_assoc (w ++ a) b (c ++ (d ++ (e ++ f))) ∙ append_assoc w a (b ++ (c ++ (d ++ (e ++ f)))))))
+        ∙ (append_assoc (((w ++ a) ++ b) ++ c) d (e ++ f)
+        ∙ (append_assoc ((w ++ a) ++ b) c (d ++ (e ++ f))
+        ∙ (append_assoc (w ++ a) b (c ++ (d ++ (e ++ f))) ∙ append_assoc w a (b ++ (c ++ (d ++ (e ++ f)))))))
 
 pub first-of : (xs ys : List At) (p : At) → first xs ≡ Some p → first (xs ++ ys) ≡ Some p
 first-of [] ys p found = absurd (cc)
@@ -131,8 +156,10 @@ first-of (x ∷ xs) ys p found = found
 -- a table that is wrong as a whole
 pub whole-read : (day : DayFacts) (ts : List Table) (p : At) → first (wholes ts) ≡ Some p → read_places day ts ≡ Err p
 whole-read day ts p found =
-    let rest = places_in day (rows_of reading.trips ts) (rows_of reading.blocks ts) (rows_of reading.duties ts) (rows_of reading.parts ts) (rows_of reading.bounds ts) in
-    ap (λ (l : List At). read_first (reading.said day ts) (first l)) (wholes-first day ts) ∙ ap (λ (o : Option At). read_first (reading.said day ts) o) (first-of (wholes ts) rest p found)
+    let rest = places_in day (rows_of reading.trips ts) (rows_of reading.blocks ts) (rows_of reading.duties ts) (rows_of reading.parts ts)
+    (rows_of reading.bounds ts) in
+    ap (λ (l : List At). read_first (reading.said day ts) (first l)) (wholes-first day ts)
+    ∙ ap (λ (o : Option At). read_first (reading.said day ts) o) (first-of (wholes ts) rest p found)
 
 -- rows of tables that are right as wholes
 pub rows-read : (day : DayFacts) (ts : List Table) (rows : PlanRows) → AreRows rows ts → read_places day ts ≡ rows_said day rows
@@ -151,7 +178,8 @@ rows-read day ts rows are =
     let say : Values → Values → Values → Values → Values → Result PlanText At = λ t b d p s. numbers_said day (counts_of b d) t b d p s in
     let make : ℕ → ℕ → Counts = λ n m. record { blocks = n; duties = m } in
     let counts : counts_of b1 d1 ≡ counts_of bs ds =
-    ap (λ (n : ℕ). make n (length d1)) (length-map bs (pair_at rows.blocks.columns)) ∙ ap (λ (n : ℕ). make (length bs) n) (length-map ds (pair_at rows.duties.columns)) in
+    ap (λ (n : ℕ). make n (length d1)) (length-map bs (pair_at rows.blocks.columns))
+    ∙ ap (λ (n : ℕ). make (length bs) n) (length-map ds (pair_at rows.duties.columns)) in
     ap (λ (l : List At). read_first (reading.said day ts) (first l)) (wholes-first day ts)
     ∙ (ap (λ (l : List At). read_first (reading.said day ts) (first (l ++ places_in day t b d p s))) are.none
     ∙ (sym (values-same day t b d p s)

@@ -53,28 +53,34 @@ default-same [] k d e there = absurd (omega arith)
 default-same (x ∷ xs) zero d e there = refl
 default-same (x ∷ xs) (suc k) d e there = default-same xs k d e (omega arith)
 
-pool-place : (day : DayFacts) (class : ℕ) → HaveOwnNumbers day → class < length day.params.pools → place_in (map (λ (pool : Pool). pool.number) day.params.pools) (pool_of day class).number ≡ Some class
+pool-place : (day : DayFacts) (class : ℕ) → HaveOwnNumbers day → class < length day.params.pools →
+    place_in (map (λ (pool : Pool). pool.number) day.params.pools) (pool_of day class).number ≡ Some class
 pool-place day class own there =
     let rise = own.pools in
     let pools = day.params.pools in
     let d : Pool = pool_of day class in
     let same : get_or pools class d ≡ pool_of day class = default-same pools class d _ there in
     ap (λ (pool : Pool). place_in (map (λ (pool : Pool). pool.number) pools) pool.number) (sym same)
-    ∙ placed (λ (pool : Pool). pool.number) pools class d there (λ j low. let less = rise j class d low there in λ e. absurd (omega (arith, e, less)))
+    ∙ placed (λ (pool : Pool). pool.number) pools class d there (λ j low. let less =
+    rise j class d low there in λ e. absurd (omega (arith, e, less)))
 
-group-place : (day : DayFacts) (class : ℕ) → HaveOwnNumbers day → class < length day.params.groups → place_in (map (λ (group : Group). group.number) day.params.groups) (group_of day class).number ≡ Some class
+group-place : (day : DayFacts) (class : ℕ) → HaveOwnNumbers day → class < length day.params.groups →
+    place_in (map (λ (group : Group). group.number) day.params.groups) (group_of day class).number ≡ Some class
 group-place day class own there =
     let rise = own.groups in
     let groups = day.params.groups in
     let d : Group = group_of day class in
     let same : get_or groups class d ≡ group_of day class = default-same groups class d _ there in
     ap (λ (group : Group). place_in (map (λ (group : Group). group.number) groups) group.number) (sym same)
-    ∙ placed (λ (group : Group). group.number) groups class d there (λ j low. let less = rise j class d low there in λ e. absurd (omega (arith, e, less)))
+    ∙ placed (λ (group : Group). group.number) groups class d there (λ j low. let less =
+    rise j class d low there in λ e. absurd (omega (arith, e, less)))
 
-group-known : (day : DayFacts) (n : Numbers) (class : ℕ) → HaveOwnNumbers day → class < length day.params.groups → n.groups ≡ map (λ (group : Group). group.number) day.params.groups →
+group-known : (day : DayFacts) (n : Numbers) (class : ℕ) → HaveOwnNumbers day → class < length day.params.groups →
+    n.groups ≡ map (λ (group : Group). group.number) day.params.groups →
     reading.number_among n.groups (Some (pos (group_of day class).number)) ≡ Some (group_of day class).number
 group-known day n class own there are =
-    among-back n.groups (group_of day class).number class (ap (λ (l : List ℕ). place_in l (group_of day class).number) are ∙ group-place day class own there) (own.words class _ there)
+    among-back n.groups (group_of day class).number class (ap (λ (l : List ℕ). place_in l (group_of day class).number) are
+    ∙ group-place day class own there) (own.words class _ there)
 
 -- Columns of a plan, one by one.
 each-column : (p : Problem) (Q : Column → Type 0) → ((c : Column) → IsColumn p c → Q c) → (cs : List Column) → AreColumns p cs → Each Q cs
@@ -91,18 +97,21 @@ each-item n Q step [] below = tt
 each-item n Q step (x ∷ xs) below = (step x below.0, each-item n Q step xs below.1)
 
 -- entries that are what is made of each item
-entries-are : {A B C : Type 0} (f : ℕ → B → C) (g : A → B) (h : A → C) (k : ℕ) (xs : List A) → ((j : ℕ) (d : A) → j < length xs → f (k + j) (g (get_or xs j d)) ≡ h (get_or xs j d)) → entries_from f k (map g xs) ≡ map h xs
+entries-are : {A B C : Type 0} (f : ℕ → B → C) (g : A → B) (h : A → C) (k : ℕ) (xs : List A) →
+    ((j : ℕ) (d : A) → j < length xs → f (k + j) (g (get_or xs j d)) ≡ h (get_or xs j d)) → entries_from f k (map g xs) ≡ map h xs
 entries-are f g h k [] same = refl
 entries-are f g h k (x ∷ xs) same =
     let here : k + 0 ≡ k = omega arith in
     ap (λ y. y ∷ entries_from f (k + 1) (map g xs)) (ap (λ n. f n (g x)) (sym here) ∙ same 0 x (omega arith))
-    ∙ ap (λ ys. h x ∷ ys) (entries-are f g h (k + 1) xs (λ j d low. let moved : k + 1 + j ≡ k + suc j = omega arith in ap (λ n. f n (g (get_or xs j d))) moved ∙ same (suc j) d (omega arith)))
+    ∙ ap (λ ys. h x ∷ ys) (entries-are f g h (k + 1) xs (λ j d low. let moved : k + 1 + j ≡ k + suc j =
+    omega arith in ap (λ n. f n (g (get_or xs j d))) moved ∙ same (suc j) d (omega arith)))
 
 -- The rows of trips.
 passes : {A : Type 0} (test : A → Bool) (xs : List A) (d : A) → length (filter test xs) ≡ 1 → test (unwrap_or (find test xs) d) ≡ true
 passes test [] d one = absurd (omega (arith, one))
 passes test (x ∷ xs) d one =
-    elim (test x) as (λ t. test x ≡ t → length (if t then x ∷ filter test xs else filter test xs) ≡ 1 → test (unwrap_or (if t then Some x else find test xs) d) ≡ true) [
+    elim (test x) as (λ t. test x ≡ t → length (if t then x ∷ filter test xs else filter test xs) ≡ 1 →
+    test (unwrap_or (if t then Some x else find test xs) d) ≡ true) [
       | true ↦ λ e h. e
       | false ↦ λ e h. passes test xs d h
     ] refl one
@@ -120,29 +129,41 @@ abbrev EachFrom : {A : Type 0} → (ℕ → A → Type 0) → ℕ → List A →
 EachFrom P k [] = Unit {0}
 EachFrom P k (x ∷ xs) = P k x × EachFrom P (k + 1) xs
 
-each-from : {A : Type 0} (P : ℕ → A → Type 0) (k : ℕ) (xs : List A) → ((j : ℕ) (d : A) → j < length xs → P (k + j) (get_or xs j d)) → EachFrom P k xs
+each-from : {A : Type 0} (P : ℕ → A → Type 0) (k : ℕ) (xs : List A) → ((j : ℕ) (d : A) → j < length xs → P (k + j) (get_or xs j d)) →
+    EachFrom P k xs
 each-from P k [] all = tt
 each-from P k (x ∷ xs) all =
     let here : k + 0 ≡ k = omega arith in
-    let Q : ℕ → Type 0 = λ n. P n x in
-    (subst Q here (all 0 x (omega arith)), each-from P (k + 1) xs (λ j d low. let moved : k + suc j ≡ k + 1 + j = omega arith in let R : ℕ → Type 0 = λ n. P n (get_or xs j d) in subst R moved (all (suc j) d (omega arith))))
+    let Q : ℕ → Type 0 = λ n. P n x in (
+      subst Q here (all 0 x (omega arith)),
+      each-from P (k + 1) xs (λ j d low. let moved : k + suc j ≡ k + 1 + j =
+          omega arith in let R : ℕ → Type 0 = λ n. P n (get_or xs j d) in subst R moved (all (suc j) d (omega arith))),
+    )
 
 -- REC_FRT of an answer
 abbrev trips_of : DayFacts → Table → List Column → List ℕ → Table
-trips_of day table blocks name = record { name = name; columns = table.columns; rows = numbered (found_row table day.kind.version blocks) 0 day.trips }
+trips_of day table blocks name =
+    record { name = name; columns = table.columns; rows = numbered (found_row table day.kind.version blocks) 0 day.trips }
 
 abbrev trip_says : DayFacts → Table → List Column → Numbers → ℕ → Trip → Type 0
 trip_says day table blocks n k trip =
-    reading.trip_entry n (numbers reading.trips.columns (trips_of day table blocks (codes "REC_FRT")) (found_row table day.kind.version blocks k trip)) ≡ Some (two k (block_of 1 blocks k - 1))
+    reading.trip_entry n (numbers reading.trips.columns (trips_of day table blocks (codes "REC_FRT"))
+    (found_row table day.kind.version blocks k trip)) ≡ Some (two k (block_of 1 blocks k - 1))
 
-trips-given : (day : DayFacts) (table : Table) (blocks : List Column) (n : Numbers) (k : ℕ) (ts : List Trip) → EachFrom (trip_says day table blocks n) k ts →
-    map (reading.trip_entry n) (map (numbers reading.trips.columns (trips_of day table blocks (codes "REC_FRT"))) (numbered (found_row table day.kind.version blocks) k ts)) ≡ given (owned blocks k ts)
+trips-given : (day : DayFacts) (table : Table) (blocks : List Column) (n : Numbers) (k : ℕ) (ts : List Trip) →
+    EachFrom (trip_says day table blocks n) k ts →
+    map (reading.trip_entry n)
+    (map (numbers reading.trips.columns (trips_of day table blocks (codes "REC_FRT")))
+    (numbered (found_row table day.kind.version blocks) k ts)) ≡ given (owned blocks k ts)
 trips-given day table blocks n k [] each = refl
 trips-given day table blocks n k (t ∷ ts) each =
-    ap (λ (o : Option (ℕ × ℕ)). o ∷ map (reading.trip_entry n) (map (numbers reading.trips.columns (trips_of day table blocks (codes "REC_FRT"))) (numbered (found_row table day.kind.version blocks) (k + 1) ts))) each.0
+    ap (λ (o : Option (ℕ × ℕ)). o ∷ map (reading.trip_entry n)
+    (map (numbers reading.trips.columns (trips_of day table blocks (codes "REC_FRT")))
+    (numbered (found_row table day.kind.version blocks) (k + 1) ts))) each.0
     ∙ ap (λ (l : List (Option (ℕ × ℕ))). Some (two k (block_of 1 blocks k - 1)) ∷ l) (trips-given day table blocks n (k + 1) ts each.1)
 
-trip-says : (day : DayFacts) (table : Table) (blocks : List Column) (n : Numbers) (k : ℕ) (d : Trip) → IsTripTable day table → HaveOwnNumbers day → k < length day.trips → n.fids ≡ map (λ (trip : Trip). trip.fid) day.trips →
+trip-says : (day : DayFacts) (table : Table) (blocks : List Column) (n : Numbers) (k : ℕ) (d : Trip) → IsTripTable day table →
+    HaveOwnNumbers day → k < length day.trips → n.fids ≡ map (λ (trip : Trip). trip.fid) day.trips →
     n.blocks ≡ length blocks → length blocks ≤ 3000 → times k (all_items blocks) ≡ 1 → trip_says day table blocks n k (get_or day.trips k d)
 trip-says day table blocks n k d is own there fids count few once =
     let trip = get_or day.trips k d in
@@ -154,7 +175,10 @@ trip-says day table blocks n k d is own there fids count few once =
     let fid_at = some-place (place_of (codes "FRT_FID") heads) is.has_fid in
     let uid_at = some-place (place_of (codes "UM_UID") heads) is.has_uid in
     let test = passes (is_row_of heads version trip.fid) table.rows [] one in
-    let has : number_in heads row (codes "FRT_FID") ≡ Some (pos trip.fid) = number-is trip.fid (number_in heads row (codes "FRT_FID")) (and_parts (is_number version (number_in heads row (codes "BASIS_VERSION"))) (is_number trip.fid (number_in heads row (codes "FRT_FID"))) test).1 in
+    let has : number_in heads row (codes "FRT_FID") ≡ Some (pos trip.fid) =
+    number-is trip.fid (number_in heads row (codes "FRT_FID"))
+    (and_parts (is_number version (number_in heads row (codes "BASIS_VERSION")))
+    (is_number trip.fid (number_in heads row (codes "FRT_FID"))) test).1 in
     let has_fid = ap (λ (o : Option ℕ). option_and_then whole_number (option_and_then (slice_get row) o)) (sym fid_at.1) ∙ has in
     let long = row_long table version trip.fid is.plain one in
     let P : Option ℕ → Type 0 = λ o. IfSome o (λ p. p < length heads) in
@@ -163,13 +187,18 @@ trip-says day table blocks n k d is own there fids count few once =
     let first = owner.0 in
     let last = owner.1 in
     let rise = own.trips in
-    let found : place_in n.fids trip.fid ≡ Some k = ap (λ (l : List ℕ). place_in l trip.fid) fids ∙ placed (λ (trip : Trip). trip.fid) day.trips k d there (λ j before. rise j k d before there) in
-    ap (reading.trip_entry n) (uid-row heads row trip.fid block fid_at.0 uid_at.0 fid_at.1 uid_at.1 (omega (arith, long, low)) (omega (arith, last, few)) has_fid) ∙ trip-given n trip.fid k block found first (omega (arith, last, count))
+    let found : place_in n.fids trip.fid ≡ Some k = ap (λ (l : List ℕ). place_in l trip.fid) fids
+    ∙ placed (λ (trip : Trip). trip.fid) day.trips k d there (λ j before. rise j k d before there) in
+    ap (reading.trip_entry n)
+    (uid-row heads row trip.fid block fid_at.0 uid_at.0 fid_at.1 uid_at.1 (omega (arith, long, low)) (omega (arith, last, few)) has_fid)
+    ∙ trip-given n trip.fid k block found first (omega (arith, last, count))
 
 -- All tables together.
 collapse : (trips : List (ℕ × ℕ)) (classes groups : List ℕ) (parts : List Part) (bounds : List ℕ) →
-    read_or (text_of (given_of (given trips)) (given_of (given classes)) (given_of (given groups)) (given_of (given parts)) (given_of (given bounds)))
-    (first (entry_faults reading.trips.name 1 (given trips) ++ (entry_faults reading.blocks.name 1 (given classes) ++ (entry_faults reading.duties.name 1 (given groups) ++
+    read_or (text_of (given_of (given trips)) (given_of (given classes)) (given_of (given groups)) (given_of (given parts))
+    (given_of (given bounds)))
+    (first (entry_faults reading.trips.name 1 (given trips)
+    ++ (entry_faults reading.blocks.name 1 (given classes) ++ (entry_faults reading.duties.name 1 (given groups) ++
     (entry_faults reading.parts.name 1 (given parts) ++ (entry_faults reading.bounds.name 1 (given bounds) ++ []))))))
     ≡ Ok (text_of trips classes groups parts bounds)
 collapse trips classes groups parts bounds =
@@ -177,11 +206,16 @@ collapse trips classes groups parts bounds =
     let C = given_of (given classes) in
     let G = given_of (given groups) in
     let P = given_of (given parts) in
-    let say : List At → List At → List At → List At → List At → Result PlanText PlanFault = λ a b c d e. read_or (text_of T C G P (given_of (given bounds))) (first (a ++ (b ++ (c ++ (d ++ (e ++ [])))))) in
+    let say : List At → List At → List At → List At → List At → Result PlanText PlanFault =
+    λ a b c d e. read_or (text_of T C G P (given_of (given bounds))) (first (a ++ (b ++ (c ++ (d ++ (e ++ [])))))) in
     let ok : PlanText → Result PlanText PlanFault = λ t. Ok t in
-    ap (λ (l : List At). say l (entry_faults reading.blocks.name 1 (given classes)) (entry_faults reading.duties.name 1 (given groups)) (entry_faults reading.parts.name 1 (given parts)) (entry_faults reading.bounds.name 1 (given bounds))) (no-faults reading.trips.name 1 trips)
-    ∙ (ap (λ (l : List At). say [] l (entry_faults reading.duties.name 1 (given groups)) (entry_faults reading.parts.name 1 (given parts)) (entry_faults reading.bounds.name 1 (given bounds))) (no-faults reading.blocks.name 1 classes)
-    ∙ (ap (λ (l : List At). say [] [] l (entry_faults reading.parts.name 1 (given parts)) (entry_faults reading.bounds.name 1 (given bounds))) (no-faults reading.duties.name 1 groups)
+    ap (λ (l : List At). say l (entry_faults reading.blocks.name 1 (given classes)) (entry_faults reading.duties.name 1 (given groups))
+    (entry_faults reading.parts.name 1 (given parts)) (entry_faults reading.bounds.name 1 (given bounds)))
+    (no-faults reading.trips.name 1 trips)
+    ∙ (ap (λ (l : List At). say [] l (entry_faults reading.duties.name 1 (given groups)) (entry_faults reading.parts.name 1 (given parts))
+    (entry_faults reading.bounds.name 1 (given bounds))) (no-faults reading.blocks.name 1 classes)
+    ∙ (ap (λ (l : List At). say [] [] l (entry_faults reading.parts.name 1 (given parts))
+    (entry_faults reading.bounds.name 1 (given bounds))) (no-faults reading.duties.name 1 groups)
     ∙ (ap (λ (l : List At). say [] [] [] l (entry_faults reading.bounds.name 1 (given bounds))) (no-faults reading.parts.name 1 parts)
     ∙ (ap (λ (l : List At). say [] [] [] [] l) (no-faults reading.bounds.name 1 bounds)
     ∙ (ap (λ (l : List (ℕ × ℕ)). ok (text_of l C G P (given_of (given bounds)))) (all-given trips)
@@ -192,7 +226,8 @@ collapse trips classes groups parts bounds =
 
 -- what the rows say is the plan
 texts-same : (day : DayFacts) (answer : Answer) (p q : Problem) → IsAnswerOf day p q answer →
-    text_of (owned answer.blocks.columns 0 day.trips) (map (λ (c : Column). c.class) answer.blocks.columns) (map (λ (c : Column). (group_of day c.class).number) answer.duties.columns)
+    text_of (owned answer.blocks.columns 0 day.trips) (map (λ (c : Column). c.class) answer.blocks.columns)
+    (map (λ (c : Column). (group_of day c.class).number) answer.duties.columns)
     (all_tagged (part_at answer.pieces) 0 answer.duties.columns) answer.bounds ≡ answer_text day answer
 texts-same day answer p q is =
     let B = answer.blocks.columns in
@@ -204,19 +239,24 @@ texts-same day answer p q is =
     let once = is.blocks.once in
     let many = is.trips in
     let Below : List ℕ → ℕ → Type 0 = λ xs n. AllBelow n xs in
-    let make : List Column → List DutyRow → PlanText = λ b d. record { blocks = record { columns = b }; duties = d; bounds = answer.bounds } in
+    let make : List Column → List DutyRow → PlanText =
+    λ b d. record { blocks = record { columns = b }; duties = d; bounds = answer.bounds } in
     let blocks : entries_from (block_said trips) 0 (map (λ (c : Column). c.class) B) ≡ map without_worth B =
     entries-are (block_said trips) (λ (c : Column). c.class) without_worth 0 B (λ k d there.
     let c = get_or B k d in
     let listed = lists c.class c.items c.worth (column-at p B k d columns there).1 in
     let zero-plus : 0 + k ≡ k = omega arith in
     ap (λ n. block_said trips n c.class) zero-plus
-    ∙ ap (λ (l : List ℕ). record { class = c.class; worth = 0; items = l }) (block-trips B day.trips k d there listed.1 (subst (Below c.items) many listed.2) (λ i low. once i (omega (arith, many, low))))) in
-    let duties : entries_from (duty_said parts) 0 (map (λ (c : Column). (group_of day c.class).number) D) ≡ map (duty_text day answer.pieces) D =
+    ∙ ap (λ (l : List ℕ). record { class = c.class; worth = 0; items = l })
+    (block-trips B day.trips k d there listed.1 (subst (Below c.items) many listed.2) (λ i low. once i (omega (arith, many, low))))) in
+    let duties : entries_from (duty_said parts) 0 (map (λ (c : Column). (group_of day c.class).number) D)
+    ≡ map (duty_text day answer.pieces) D =
     entries-are (duty_said parts) (λ (c : Column). (group_of day c.class).number) (duty_text day answer.pieces) 0 D (λ k d there.
     let c = get_or D k d in
-    ap (λ (l : List (ℕ × ℕ)). record { group = (group_of day c.class).number; parts = l }) (duty-parts (part_at answer.pieces) 0 k D d there)) in
-    ap (λ (b : List Column). make b (entries_from (duty_said parts) 0 (map (λ (c : Column). (group_of day c.class).number) D))) blocks ∙ ap (λ (d : List DutyRow). make (map without_worth B) d) duties
+    ap (λ (l : List (ℕ × ℕ)). record { group = (group_of day c.class).number; parts = l })
+    (duty-parts (part_at answer.pieces) 0 k D d there)) in
+    ap (λ (b : List Column). make b (entries_from (duty_said parts) 0 (map (λ (c : Column). (group_of day c.class).number) D))) blocks
+    ∙ ap (λ (d : List DutyRow). make (map without_worth B) d) duties
 
 numbered-long : {A B : Type 0} (f : ℕ → A → B) (k : ℕ) (xs : List A) → length (numbered f k xs) ≡ length xs
 numbered-long f k [] = refl
@@ -228,15 +268,19 @@ rows-long f g h xs = length-map (map g (numbered f 1 xs)) h ∙ (length-map (num
 -- the tables of an answer, where REC_FRT has a name
 abbrev tables_with : DayFacts → Table → Answer → List ℕ → List Table
 tables_with day table answer name =
-    block_table day answer.blocks.columns ∷ trips_of day table answer.blocks.columns name ∷ cost_table day answer.blocks.columns ∷ leg_table day answer.legs ∷
-    duty_table day answer.pieces answer.duties.columns ∷ part_table answer.pieces answer.duties.columns ∷ bound_table answer.blocks.columns answer.duties.columns answer.bounds ∷ []
+    block_table day answer.blocks.columns ∷ trips_of day table answer.blocks.columns name ∷ cost_table day answer.blocks.columns
+    ∷ leg_table day answer.legs ∷
+    duty_table day answer.pieces answer.duties.columns ∷ part_table answer.pieces answer.duties.columns ∷ bound_table answer.blocks.columns
+    answer.duties.columns answer.bounds ∷ []
 
 -- no table is wrong as a whole
-none-wrong : (day : DayFacts) (table : Table) (answer : Answer) → IsTripTable day table → wholes (tables_with day table answer (codes "REC_FRT")) ≡ []
+none-wrong : (day : DayFacts) (table : Table) (answer : Answer) → IsTripTable day table →
+    wholes (tables_with day table answer (codes "REC_FRT")) ≡ []
 none-wrong day table answer is =
     let fid = some-place (place_of (codes "FRT_FID") table.columns) is.has_fid in
     let uid = some-place (place_of (codes "UM_UID") table.columns) is.has_uid in
-    let lacks : Option ℕ → Option ℕ → List At = λ f u. (((when (is_none f || (is_none u || false)) (place (codes "REC_FRT") 0) ++ []) ++ []) ++ []) ++ [] in
+    let lacks : Option ℕ → Option ℕ → List At =
+    λ f u. (((when (is_none f || (is_none u || false)) (place (codes "REC_FRT") 0) ++ []) ++ []) ++ []) ++ [] in
     ap (λ (o : Option ℕ). lacks o (place_of (codes "UM_UID") table.columns)) fid.1 ∙ ap (λ (o : Option ℕ). lacks (Some fid.0) o) uid.1
 
 pub reads-back : PlanReadsBack
@@ -252,7 +296,8 @@ reads-back day table answer p q is own lawful =
     let bound_rows = rows_of reading.bounds ts in
     let n : Numbers = known day (counts_of block_rows duty_rows) in
     let blocks_long : n.blocks ≡ length B = rows-long (cost_row day) number_row (numbers reading.blocks.columns (cost_table day B)) B in
-    let duties_long : n.duties ≡ length D = rows-long (duty_row day pieces) signed_row (numbers reading.duties.columns (duty_table day pieces D)) D in
+    let duties_long : n.duties ≡ length D =
+    rows-long (duty_row day pieces) signed_row (numbers reading.duties.columns (duty_table day pieces D)) D in
     let piece_there : (item : ℕ) → item < q.items → IsPieceOf n.blocks (piece_at pieces item) = λ item low.
     let P : ℕ → Type 0 = λ m. IsPieceOf m (piece_at pieces item) in
     let many = lawful.pieces in
@@ -262,20 +307,30 @@ reads-back day table answer p q is own lawful =
     let trips_many = lawful.trips in
     let once = lawful.blocks.once in
     let duty_lists = lawful.duty_lists in
-    let te : map (reading.trip_entry n) trip_rows ≡ given (owned B 0 day.trips) = trips-given day table B n 0 day.trips (each-from (trip_says day table B n) 0 day.trips (λ k d there.
+    let te : map (reading.trip_entry n) trip_rows ≡ given (owned B 0 day.trips) =
+    trips-given day table B n 0 day.trips (each-from (trip_says day table B n) 0 day.trips (λ k d there.
     let Q : ℕ → Type 0 = λ m. trip_says day table B n m (get_or day.trips k d) in
     let zero-plus : k ≡ 0 + k = omega arith in
-    subst Q zero-plus (trip-says day table B n k d is own there refl blocks_long lawful.few (once k (omega (arith, trips_many, there)))))) in
+    subst Q zero-plus (trip-says day table B n k d is own there refl blocks_long lawful.few
+    (once k (omega (arith, trips_many, there)))))) in
     let be : entries_from (reading.block_entry n) 0 block_rows ≡ given (map (λ (c : Column). c.class) B) =
-    blocks-given day n B 0 B (each-column p _ (λ c column. let low = column.0 in pool-place day c.class own (omega (arith, low, pools_many))) B lawful.blocks.worths) in
+    blocks-given day n B 0 B
+    (each-column p _ (λ c column. let low = column.0 in pool-place day c.class own (omega (arith, low, pools_many)))
+    B lawful.blocks.worths) in
     let de : entries_from (reading.duty_entry n) 0 duty_rows ≡ given (map (λ (c : Column). (group_of day c.class).number) D) =
-    duties-given day pieces n D 0 D (each-column q _ (λ c column. let low = column.0 in group-known day n c.class own (omega (arith, low, groups_many)) refl) D lawful.duties.worths) in
+    duties-given day pieces n D 0 D
+    (each-column q _ (λ c column. let low = column.0 in group-known day n c.class own (omega (arith, low, groups_many)) refl)
+    D lawful.duties.worths) in
     let pe : map (reading.part_entry n) part_rows ≡ given (all_tagged (part_at pieces) 0 D) =
-    parts-given pieces D n 0 D (omega (arith, duties_long)) (each-column q _ (λ c column. each-item q.items _ piece_there c.items (duty_lists c.class c.items c.worth column.1).2) D lawful.duties.worths) in
+    parts-given pieces D n 0 D (omega (arith, duties_long))
+    (each-column q _ (λ c column. each-item q.items _ piece_there c.items (duty_lists c.class c.items c.worth column.1).2)
+    D lawful.duties.worths) in
     let four = bounds-given B D answer.bounds lawful.bounds in
-    let say : List (Option (ℕ × ℕ)) → List (Option ℕ) → List (Option ℕ) → List (Option Part) → List (Option ℕ) → ℕ → Result PlanText PlanFault = λ t b d p s m.
+    let say : List (Option (ℕ × ℕ)) → List (Option ℕ) → List (Option ℕ) → List (Option Part) → List (Option ℕ) → ℕ →
+    Result PlanText PlanFault = λ t b d p s m.
     read_or (text_of (given_of t) (given_of b) (given_of d) (given_of p) (given_of s))
-    (first (entry_faults reading.trips.name 1 t ++ (entry_faults reading.blocks.name 1 b ++ (entry_faults reading.duties.name 1 d ++ (entry_faults reading.parts.name 1 p ++
+    (first (entry_faults reading.trips.name 1 t
+    ++ (entry_faults reading.blocks.name 1 b ++ (entry_faults reading.duties.name 1 d ++ (entry_faults reading.parts.name 1 p ++
     (entry_faults reading.bounds.name 1 s ++ when (nat_lt m 4) (place reading.bounds.name 0))))))) in
     let t1 = given (owned B 0 day.trips) in
     let b1 = given (map (λ (c : Column). c.class) B) in
@@ -289,7 +344,13 @@ reads-back day table answer p q is own lawful =
     let m0 = length bound_rows in
     ap (λ (name : List ℕ). read_of day (tables_with day table answer name)) is.name
     ∙ (ap (λ (l : List At). read_or (reading.said day ts) (first l)) (wholes-first day ts)
-    ∙ (ap (λ (l : List At). read_or (reading.said day ts) (first (l ++ places_in day trip_rows block_rows duty_rows part_rows bound_rows))) (none-wrong day table answer is)
-    ∙ (ap (λ t. say t b0 d0 p0 s0 m0) te ∙ (ap (λ b. say t1 b d0 p0 s0 m0) be ∙ (ap (λ d. say t1 b1 d p0 s0 m0) de ∙ (ap (λ p. say t1 b1 d1 p s0 m0) pe ∙ (ap (λ s. say t1 b1 d1 p1 s m0) four.0 ∙ (ap (λ m. say t1 b1 d1 p1 (given answer.bounds) m) four.1
-    ∙ (collapse (owned B 0 day.trips) (map (λ (c : Column). c.class) B) (map (λ (c : Column). (group_of day c.class).number) D) (all_tagged (part_at pieces) 0 D) answer.bounds
+    ∙ (ap (λ (l : List At). read_or (reading.said day ts) (first (l ++ places_in day trip_rows block_rows duty_rows part_rows bound_rows)))
+    (none-wrong day table answer is)
+    ∙ (ap (λ t. say t b0 d0 p0 s0 m0) te
+    ∙ (ap (λ b. say t1 b d0 p0 s0 m0) be
+    ∙ (ap (λ d. say t1 b1 d p0 s0 m0) de
+    ∙ (ap (λ p. say t1 b1 d1 p s0 m0) pe
+    ∙ (ap (λ s. say t1 b1 d1 p1 s m0) four.0 ∙ (ap (λ m. say t1 b1 d1 p1 (given answer.bounds) m) four.1
+    ∙ (collapse (owned B 0 day.trips) (map (λ (c : Column). c.class) B) (map (λ (c : Column). (group_of day c.class).number) D)
+    (all_tagged (part_at pieces) 0 D) answer.bounds
     ∙ ap (λ (text : PlanText). Ok text) (texts-same day answer p q lawful))))))))))

@@ -31,7 +31,8 @@ none-stands i (x ∷ xs) none =
     ] refl
   where
     once : (x i n : ℕ) → nat_eq x i ≡ true → cond (i == x) 1 0 + n ≡ 0 → ⊥
-    once x i n e none = let turned : i == x ≡ true = grind (arith, nat_tests) in let one : ◌≡◌ {A = ℕ} (cond (i == x) 1 0) 1 = rw turned refl in omega (arith, one, none)
+    once x i n e none = let turned : i == x ≡ true = grind (arith, nat_tests) in
+        let one : ◌≡◌ {A = ℕ} (cond (i == x) 1 0) 1 = rw turned refl in omega (arith, one, none)
 
 some-stands : (i : ℕ) (xs : List ℕ) → stands i xs ≡ true → 0 < times i xs
 some-stands i [] there = absurd (cc)
@@ -42,7 +43,8 @@ some-stands i (x ∷ xs) there =
     ] refl there
   where
     first : (x i n : ℕ) → nat_eq x i ≡ true → 0 < cond (i == x) 1 0 + n
-    first x i n e = let turned : i == x ≡ true = grind (arith, nat_tests) in let one : ◌≡◌ {A = ℕ} (cond (i == x) 1 0) 1 = rw turned refl in omega (arith, one)
+    first x i n e = let turned : i == x ≡ true = grind (arith, nat_tests) in let one : ◌≡◌ {A = ℕ} (cond (i == x) 1 0) 1 = rw turned refl in
+        omega (arith, one)
 
 no-stands : (i : ℕ) (xs : List ℕ) → stands i xs ≡ false → times i xs ≡ 0
 no-stands i [] off = refl
@@ -53,18 +55,21 @@ no-stands i (x ∷ xs) off =
     ] refl off
   where
     none : (x i n : ℕ) → nat_eq x i ≡ false → n ≡ 0 → cond (i == x) 1 0 + n ≡ 0
-    none x i n e nil = let turned : i == x ≡ false = grind (arith, nat_tests) in let one : ◌≡◌ {A = ℕ} (cond (i == x) 1 0) 0 = rw turned refl in omega (arith, one, nil)
+    none x i n e nil = let turned : i == x ≡ false = grind (arith, nat_tests) in
+        let one : ◌≡◌ {A = ℕ} (cond (i == x) 1 0) 0 = rw turned refl in omega (arith, one, nil)
 
 -- a block that comes later has a later number, or none has the trip
 numbers-later : (first : ℕ) (cs : List Column) (i : ℕ) → (first ≤ block_of first cs i) ⊎ (block_of first cs i ≡ 0)
 numbers-later first [] i = inr refl
 numbers-later first (c ∷ cs) i =
-    elim (is_in i c) as (λ t. (first ≤ (if t then first else block_of (first + 1) cs i)) ⊎ ((if t then first else block_of (first + 1) cs i) ≡ 0)) [
+    elim (is_in i c) as (λ t. (first ≤ (if t then first else block_of (first + 1) cs i)) ⊎
+    ((if t then first else block_of (first + 1) cs i) ≡ 0)) [
       | true ↦ inl (omega arith)
       | false ↦ later (numbers-later (first + 1) cs i)
     ]
   where
-    later : (first + 1 ≤ block_of (first + 1) cs i) ⊎ (block_of (first + 1) cs i ≡ 0) → (first ≤ block_of (first + 1) cs i) ⊎ (block_of (first + 1) cs i ≡ 0)
+    later : (first + 1 ≤ block_of (first + 1) cs i) ⊎ (block_of (first + 1) cs i ≡ 0) →
+        (first ≤ block_of (first + 1) cs i) ⊎ (block_of (first + 1) cs i ≡ 0)
     later (inl h) = inl (omega (arith, h))
     later (inr h) = inr h
 
@@ -75,7 +80,8 @@ part-times i zero (c ∷ cs) d within = omega (arith, times-append i c.items (al
 part-times i (suc k) (c ∷ cs) d within = omega (arith, times-append i c.items (all_items cs), part-times i k cs d (omega arith))
 
 -- a trip that is in one block alone is in the block of its number, and in no other
-owner : (first : ℕ) (cs : List Column) (i k : ℕ) (d : Column) → 0 < first → k < length cs → times i (all_items cs) ≡ 1 → stands i (get_or cs k d).items ≡ nat_eq (block_of first cs i) (first + k)
+owner : (first : ℕ) (cs : List Column) (i k : ℕ) (d : Column) → 0 < first → k < length cs → times i (all_items cs) ≡ 1 →
+    stands i (get_or cs k d).items ≡ nat_eq (block_of first cs i) (first + k)
 owner first [] i k d one within once = absurd (omega arith)
 owner first (c ∷ cs) i zero d one within once =
     elim (is_in i c) as (λ t. t ≡ nat_eq (if t then first else block_of (first + 1) cs i) (first + zero)) [
@@ -90,7 +96,8 @@ owner first (c ∷ cs) i zero d one within once =
     later first n one (inl h) = grind (arith, nat_tests)
     later first n one (inr h) = grind (arith, nat_tests)
 owner first (c ∷ cs) i (suc k) d one within once =
-    elim (is_in i c) as (λ t. is_in i c ≡ t → stands i (get_or cs k d).items ≡ nat_eq (if t then first else block_of (first + 1) cs i) (first + suc k)) [
+    elim (is_in i c) as (λ t. is_in i c ≡ t →
+    stands i (get_or cs k d).items ≡ nat_eq (if t then first else block_of (first + 1) cs i) (first + suc k)) [
       | true ↦ λ e.
           let more = some-stands i c.items e in
           let least = part-times i k cs d (omega arith) in
@@ -106,10 +113,12 @@ owner first (c ∷ cs) i (suc k) d one within once =
     beyond first k = grind (arith, nat_tests)
 
 -- its block is there
-pub owned-there : (first : ℕ) (cs : List Column) (i : ℕ) → times i (all_items cs) ≡ 1 → (first ≤ block_of first cs i) × (block_of first cs i < first + length cs)
+pub owned-there : (first : ℕ) (cs : List Column) (i : ℕ) → times i (all_items cs) ≡ 1 →
+    (first ≤ block_of first cs i) × (block_of first cs i < first + length cs)
 owned-there first [] i once = absurd (cc)
 owned-there first (c ∷ cs) i once =
-    elim (is_in i c) as (λ t. is_in i c ≡ t → (first ≤ (if t then first else block_of (first + 1) cs i)) × ((if t then first else block_of (first + 1) cs i) < first + length (c ∷ cs))) [
+    elim (is_in i c) as (λ t. is_in i c ≡ t → (first ≤ (if t then first else block_of (first + 1) cs i))
+    × ((if t then first else block_of (first + 1) cs i) < first + length (c ∷ cs))) [
       | true ↦ λ e. (omega arith, omega arith)
       | false ↦ λ e.
           let rest : times i (all_items cs) ≡ 1 = omega (arith, times-append i c.items (all_items cs), no-stands i c.items e, once) in
@@ -160,14 +169,18 @@ picked {A} cs block k (t ∷ ts) (x ∷ xs) rise from below test =
     elim (nat_eq x k) as (λ b. nat_eq x k ≡ b → trips_in block (owned cs k (t ∷ ts)) ≡ x ∷ xs) [
       | true ↦ λ e.
           let tail = rises-tail x xs rise in
-          let here : nat_eq (block_of 1 cs k - 1) block ≡ true = test k (omega arith) (omega arith) ∙ ap (λ (b : Bool). b || stands k xs) e in
+          let here : nat_eq (block_of 1 cs k - 1) block ≡ true =
+          test k (omega arith) (omega arith) ∙ ap (λ (b : Bool). b || stands k xs) e in
           let rest = picked cs block (k + 1) ts xs tail.0 (from-next x k xs (equal x k e) tail.1) (below-next _ _ xs moved below.1)
           (λ i low high. test i (omega (arith, low)) (omega (arith, high)) ∙ ap (λ (b : Bool). b || stands i xs) (other x i k e low)) in
-          ap (λ (b : Bool). cons_option (if b then Some k else None) (trips_in block (owned cs (k + 1) ts))) here ∙ (ap (λ (l : List ℕ). k ∷ l) rest ∙ ap (λ (n : ℕ). n ∷ xs) (sym (equal x k e)))
+          ap (λ (b : Bool). cons_option (if b then Some k else None) (trips_in block (owned cs (k + 1) ts))) here
+          ∙ (ap (λ (l : List ℕ). k ∷ l) rest ∙ ap (λ (n : ℕ). n ∷ xs) (sym (equal x k e)))
       | false ↦ λ e.
           let above = unequal x k e from in
-          ap (λ (b : Bool). cons_option (if b then Some k else None) (trips_in block (owned cs (k + 1) ts))) (test k (omega arith) (omega arith) ∙ not-before k (x ∷ xs) rise above)
-          ∙ picked cs block (k + 1) ts (x ∷ xs) rise above (below-next _ _ (x ∷ xs) moved below) (λ i low high. test i (omega (arith, low)) (omega (arith, high)))
+          ap (λ (b : Bool). cons_option (if b then Some k else None) (trips_in block (owned cs (k + 1) ts)))
+          (test k (omega arith) (omega arith) ∙ not-before k (x ∷ xs) rise above)
+          ∙ picked cs block (k + 1) ts (x ∷ xs) rise above (below-next _ _ (x ∷ xs) moved below)
+          (λ i low high. test i (omega (arith, low)) (omega (arith, high)))
     ] refl
   where
     equal : (a b : ℕ) → nat_eq a b ≡ true → a ≡ b
@@ -188,11 +201,13 @@ picked {A} cs block k (t ∷ ts) (x ∷ xs) rise from below test =
     below-next n m (y ∷ ys) e h = let low = h.0 in (omega (arith, e, low), below-next n m ys e h.1)
 
 -- the trips of the block at a place
-pub block-trips : {A : Type 0} (cs : List Column) (ts : List A) (k : ℕ) (d : Column) → k < length cs → Rises (get_or cs k d).items → AllBelow (length ts) (get_or cs k d).items →
+pub block-trips : {A : Type 0} (cs : List Column) (ts : List A) (k : ℕ) (d : Column) → k < length cs → Rises (get_or cs k d).items →
+    AllBelow (length ts) (get_or cs k d).items →
     ((i : ℕ) → i < length ts → times i (all_items cs) ≡ 1) → trips_in k (owned cs 0 ts) ≡ (get_or cs k d).items
 block-trips cs ts k d within rise below once =
     picked cs k 0 ts (get_or cs k d).items rise (from-zero (get_or cs k d).items) (below-zero _ below)
-    (λ i low high. let one = once i (omega (arith, high)) in let there = owned-there 1 cs i one in less-one (block_of 1 cs i) k there.0 ∙ sym (owner 1 cs i k d (omega arith) within one))
+    (λ i low high. let one = once i (omega (arith, high)) in let there =
+    owned-there 1 cs i one in less-one (block_of 1 cs i) k there.0 ∙ sym (owner 1 cs i k d (omega arith) within one))
   where
     from-zero : (xs : List ℕ) → From 0 xs
     from-zero [] = tt
@@ -221,7 +236,8 @@ all_tagged at duty (c ∷ cs) = tag_all at duty c.items ++ all_tagged at (duty +
 parts-both : (duty : ℕ) (xs ys : List Part) → parts_in duty (xs ++ ys) ≡ parts_in duty xs ++ parts_in duty ys
 parts-both duty [] ys = refl
 parts-both duty (x ∷ xs) ys =
-    elim (nat_eq x.0 duty) as (λ b. cons_option (if b then Some x.1 else None) (parts_in duty (xs ++ ys)) ≡ cons_option (if b then Some x.1 else None) (parts_in duty xs) ++ parts_in duty ys) [
+    elim (nat_eq x.0 duty) as (λ b. cons_option (if b then Some x.1 else None) (parts_in duty (xs ++ ys))
+    ≡ cons_option (if b then Some x.1 else None) (parts_in duty xs) ++ parts_in duty ys) [
       | true ↦ ap (λ (l : List (ℕ × ℕ)). x.1 ∷ l) (parts-both duty xs ys)
       | false ↦ parts-both duty xs ys
     ]
@@ -229,21 +245,25 @@ parts-both duty (x ∷ xs) ys =
 own-parts : (at : ℕ → ℕ × ℕ) (duty : ℕ) (items : List ℕ) → parts_in duty (tag_all at duty items) ≡ map at items
 own-parts at duty [] = refl
 own-parts at duty (item ∷ items) =
-    ap (λ (b : Bool). cons_option (if b then Some (at item) else None) (parts_in duty (tag_all at duty items))) (same duty) ∙ ap (λ (l : List (ℕ × ℕ)). at item ∷ l) (own-parts at duty items)
+    ap (λ (b : Bool). cons_option (if b then Some (at item) else None) (parts_in duty (tag_all at duty items))) (same duty)
+    ∙ ap (λ (l : List (ℕ × ℕ)). at item ∷ l) (own-parts at duty items)
 
 other-parts : (at : ℕ → ℕ × ℕ) (duty other : ℕ) (items : List ℕ) → duty ≢ other → parts_in other (tag_all at duty items) ≡ []
 other-parts at duty other [] off = refl
 other-parts at duty other (item ∷ items) off =
-    ap (λ (b : Bool). cons_option (if b then Some (at item) else None) (parts_in other (tag_all at duty items))) (apart duty other off) ∙ other-parts at duty other items off
+    ap (λ (b : Bool). cons_option (if b then Some (at item) else None) (parts_in other (tag_all at duty items))) (apart duty other off)
+    ∙ other-parts at duty other items off
 
 before-parts : (at : ℕ → ℕ × ℕ) (duty other : ℕ) (cs : List Column) → other < duty → parts_in other (all_tagged at duty cs) ≡ []
 before-parts at duty other [] low = refl
 before-parts at duty other (c ∷ cs) low =
     parts-both other (tag_all at duty c.items) (all_tagged at (duty + 1) cs)
-    ∙ (ap (λ (l : List (ℕ × ℕ)). l ++ parts_in other (all_tagged at (duty + 1) cs)) (other-parts at duty other c.items (λ e. absurd (omega (arith, e, low)))) ∙ before-parts at (duty + 1) other cs (omega arith))
+    ∙ (ap (λ (l : List (ℕ × ℕ)). l ++ parts_in other (all_tagged at (duty + 1) cs))
+    (other-parts at duty other c.items (λ e. absurd (omega (arith, e, low)))) ∙ before-parts at (duty + 1) other cs (omega arith))
 
 -- the pieces of the duty at a place
-pub duty-parts : (at : ℕ → ℕ × ℕ) (duty k : ℕ) (cs : List Column) (d : Column) → k < length cs → parts_in (duty + k) (all_tagged at duty cs) ≡ map at (get_or cs k d).items
+pub duty-parts : (at : ℕ → ℕ × ℕ) (duty k : ℕ) (cs : List Column) (d : Column) → k < length cs →
+    parts_in (duty + k) (all_tagged at duty cs) ≡ map at (get_or cs k d).items
 duty-parts at duty k [] d within = absurd (omega arith)
 duty-parts at duty zero (c ∷ cs) d within =
     let here : duty + 0 ≡ duty = omega arith in
@@ -254,5 +274,6 @@ duty-parts at duty zero (c ∷ cs) d within =
 duty-parts at duty (suc k) (c ∷ cs) d within =
     let moved : duty + 1 + k ≡ duty + suc k = omega arith in
     parts-both (duty + suc k) (tag_all at duty c.items) (all_tagged at (duty + 1) cs)
-    ∙ (ap (λ (l : List (ℕ × ℕ)). l ++ parts_in (duty + suc k) (all_tagged at (duty + 1) cs)) (other-parts at duty (duty + suc k) c.items (λ e. absurd (omega (arith, e))))
+    ∙ (ap (λ (l : List (ℕ × ℕ)). l ++ parts_in (duty + suc k) (all_tagged at (duty + 1) cs))
+    (other-parts at duty (duty + suc k) c.items (λ e. absurd (omega (arith, e))))
     ∙ (ap (λ n. parts_in n (all_tagged at (duty + 1) cs)) (sym moved) ∙ duty-parts at (duty + 1) k cs d (omega arith)))

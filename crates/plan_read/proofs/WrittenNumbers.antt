@@ -19,9 +19,11 @@ use Rattle.umlauf_write.specs.Reading.{number_among, own_number}
 use Rattle.umlauf_write.specs.Tables.{uid_field}
 
 -- a number stands where no number before is the same
-pub placed : {A : Type 0} (number : A → ℕ) (xs : List A) (k : ℕ) (d : A) → k < length xs → ((j : ℕ) → j < k → number (get_or xs j d) ≢ number (get_or xs k d)) → place_in (map number xs) (number (get_or xs k d)) ≡ Some k
+pub placed : {A : Type 0} (number : A → ℕ) (xs : List A) (k : ℕ) (d : A) → k < length xs →
+    ((j : ℕ) → j < k → number (get_or xs j d) ≢ number (get_or xs k d)) → place_in (map number xs) (number (get_or xs k d)) ≡ Some k
 placed number [] k d within other = absurd (omega arith)
-placed number (x ∷ xs) zero d within other = ap (λ (t : Bool). if t then Some 0 else option_map (λ k. k + 1) (place_in (map number xs) (number x))) (same (number x))
+placed number (x ∷ xs) zero d within other =
+    ap (λ (t : Bool). if t then Some 0 else option_map (λ k. k + 1) (place_in (map number xs) (number x))) (same (number x))
   where
     same : (n : ℕ) → nat_eq n n ≡ true
     same n = grind (arith, nat_tests)
@@ -30,7 +32,8 @@ placed number (x ∷ xs) (suc k) d within other =
     let off : nat_eq (number x) n ≡ false = apart (number x) n (other 0 (omega arith)) in
     let more : k + 1 ≡ suc k = omega arith in
     ap (λ (t : Bool). if t then Some 0 else option_map (λ k. k + 1) (place_in (map number xs) n)) off
-    ∙ (ap (λ (o : Option ℕ). option_map (λ k. k + 1) o) (placed number xs k d (omega arith) (λ j low. other (suc j) (omega arith))) ∙ ap (λ (m : ℕ). Some m) more)
+    ∙ (ap (λ (o : Option ℕ). option_map (λ k. k + 1) o) (placed number xs k d (omega arith) (λ j low. other (suc j) (omega arith)))
+    ∙ ap (λ (m : ℕ). Some m) more)
   where
     apart : (a b : ℕ) → a ≢ b → nat_eq a b ≡ false
     apart a b off = grind (arith, nat_tests)
@@ -46,7 +49,8 @@ counted-back most place below =
 
 -- the number of a row
 pub own-back : (row : ℕ) → own_number row (Some (pos (row + 1))) ≡ Some row
-own-back row = ap (λ (o : Option ℕ). option_and_then (λ m. if nat_eq m row then Some m else None) o) (counted-back (row + 1) row (omega arith)) ∙ ap (λ (t : Bool). if t then Some row else None) (same row)
+own-back row = ap (λ (o : Option ℕ). option_and_then (λ m. if nat_eq m row then Some m else None) o)
+    (counted-back (row + 1) row (omega arith)) ∙ ap (λ (t : Bool). if t then Some row else None) (same row)
   where
     same : (n : ℕ) → nat_eq n n ≡ true
     same n = grind (arith, nat_tests)
@@ -79,7 +83,8 @@ some-digits (d ∷ ds) digits some =
 digit-first : (c : ℕ) → is_ascii_digit c ≡ true → ((c == 43) ≡ false) × ((c == 45) ≡ false)
 digit-first c digit = (grind (arith, nat_tests), grind (arith, nat_tests))
 
-digits-read : (ds : List ℕ) → list_all is_ascii_digit ds ≡ true → 0 < length ds → digits_value 10 ds < 2 ^ 63 → number_of ds ≡ Some (pos (digits_value 10 ds))
+digits-read : (ds : List ℕ) → list_all is_ascii_digit ds ≡ true → 0 < length ds → digits_value 10 ds < 2 ^ 63 →
+    number_of ds ≡ Some (pos (digits_value 10 ds))
 digits-read [] digits some small = absurd (omega arith)
 digits-read (d ∷ ds) digits some small =
     let first = digit-first d (and_parts (is_ascii_digit d) (list_all is_ascii_digit ds) digits).0 in

@@ -36,7 +36,8 @@ abbrev pub counts_of : {A B : Type 0} → List A → List B → Counts
 counts_of blocks duties = record { blocks = length blocks; duties = length duties }
 
 -- the plan of the numbers of the rows of REC_FRT, X_UMLAUF, X_DIENST, X_DIENST_STUECK and X_SCHRANKE
-abbrev pub numbers_said : DayFacts → Counts → List (List (Option ℤ)) → List (List (Option ℤ)) → List (List (Option ℤ)) → List (List (Option ℤ)) → List (List (Option ℤ)) → Result PlanText Place
+abbrev pub numbers_said : DayFacts → Counts → List (List (Option ℤ)) → List (List (Option ℤ)) → List (List (Option ℤ)) →
+    List (List (Option ℤ)) → List (List (Option ℤ)) → Result PlanText Place
 numbers_said day counts trip_rows block_rows duty_rows part_rows bound_rows = do
   trips ← said (λ row. trip_entry (by_fid day.trips) counts) tables.Trips trip_rows
   classes ← said (block_entry day) tables.Blocks block_rows
@@ -48,13 +49,16 @@ numbers_said day counts trip_rows block_rows duty_rows part_rows bound_rows = do
 
 abbrev pub rows_said : DayFacts → PlanRows → Result PlanText Place
 rows_said day rows =
-    numbers_said day (counts_of rows.blocks.rows.now rows.duties.rows.now) (map (pair_at rows.trips.columns) rows.trips.rows.now) (map (pair_at rows.blocks.columns) rows.blocks.rows.now)
-    (map (pair_at rows.duties.columns) rows.duties.rows.now) (map (triple_at rows.parts.columns) rows.parts.rows.now) (map (pair_at rows.bounds.columns) rows.bounds.rows.now)
+    numbers_said day (counts_of rows.blocks.rows.now rows.duties.rows.now) (map (pair_at rows.trips.columns) rows.trips.rows.now)
+    (map (pair_at rows.blocks.columns) rows.blocks.rows.now)
+    (map (pair_at rows.duties.columns) rows.duties.rows.now) (map (triple_at rows.parts.columns) rows.parts.rows.now)
+    (map (pair_at rows.bounds.columns) rows.bounds.rows.now)
 
 -- the first of the five tables that is wrong as a whole
 abbrev pub wholes : List Table → List Place
 wholes tables =
-    whole_faults reading.trips tables ++ whole_faults reading.blocks tables ++ whole_faults reading.duties tables ++ whole_faults reading.parts tables ++ whole_faults reading.bounds tables
+    whole_faults reading.trips tables ++ whole_faults reading.blocks tables ++ whole_faults reading.duties tables
+    ++ whole_faults reading.parts tables ++ whole_faults reading.bounds tables
 
 -- no table is wrong as a whole, and the rows are those of the tables
 pub record AreRows (rows : PlanRows) (tables : List Table) : Type 0 where

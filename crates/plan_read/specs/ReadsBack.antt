@@ -76,5 +76,6 @@ text_of day answer = record {
 -- what is written is read back
 abbrev pub PlanReadsBack : Type 0
 PlanReadsBack =
-    (day : DayFacts) (table : Table) (answer : Answer) (of_blocks of_duties : Problem) → IsTripTable day table → HaveOwnNumbers day → IsAnswerOf day of_blocks of_duties answer →
+    (day : DayFacts) (table : Table) (answer : Answer) (of_blocks of_duties : Problem) → IsTripTable day table → HaveOwnNumbers day →
+    IsAnswerOf day of_blocks of_duties answer →
     read_of day (answer_tables day table answer) ≡ Ok (text_of day answer)

@@ -10,7 +10,8 @@ use Rattle.plan_round.specs.Laws.{IsStuck, IsRounding}
 use Rattle.plan_round.proofs.Rounds.{IsFilled, IsFilledOr, round_items-filled, items-rounding}
 
 module _ (p : Problem) (start : List Column) where
-  pub filled-so_far : (n : ℕ) (columns : List Column) → n ≤ p.items → IsPart p start → round_items p n start ≡ whole columns → IsFilled p start n columns
+  pub filled-so_far : (n : ℕ) (columns : List Column) → n ≤ p.items → IsPart p start → round_items p n start ≡ whole columns →
+      IsFilled p start n columns
   filled-so_far n columns h part e = subst (IsFilledOr p start n) e (round_items-filled p start n h part)
 
   -- an item that no earlier one touched is as free as at the start
@@ -24,7 +25,8 @@ module _ (p : Problem) (start : List Column) where
       ap (λ b. cond b (with_choice n columns (first_cheapest None (choices p n columns))) (whole columns)) is
 
   -- an item that is left stays left
-  pub left-stays : (n m item : ℕ) (columns : List Column) → round_items p n start ≡ left item columns → n ≤ m → round_items p m start ≡ left item columns
+  pub left-stays : (n m item : ℕ) (columns : List Column) → round_items p n start ≡ left item columns → n ≤ m →
+      round_items p m start ≡ left item columns
   left-stays n zero item columns e h = let same : 0 ≡ n = omega arith in ap (λ k. round_items p k start) same ∙ e
   left-stays n (suc m) item columns e h =
       elim (cases_eq n (suc m)) [
@@ -36,7 +38,8 @@ module _ (p : Problem) (start : List Column) where
       with_choice n columns (first_cheapest None (choices p n columns)) ≡ left n columns → round_items p p.items start ≡ left n columns
   left-at n columns h e is none = left-stays (n + 1) p.items n columns (round_items-step n columns true e is ∙ none) (omega arith)
 
-  pub stuck-at : (item : ℕ) (columns : List Column) → IsPart p start → round_items p p.items start ≡ left item columns → IsStuck p item columns
+  pub stuck-at : (item : ℕ) (columns : List Column) → IsPart p start → round_items p p.items start ≡ left item columns →
+      IsStuck p item columns
   stuck-at item columns part e = subst (IsRounding p) e (items-rounding p start part)
 
   pub plan-at : (columns : List Column) → IsPart p start → round_items p p.items start ≡ whole columns → IsPlan p columns

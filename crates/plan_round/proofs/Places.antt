@@ -17,7 +17,8 @@ use Rattle.plan_round.specs.Laws.{HasRoomForEach}
 use Rattle.plan_round.specs.Faults.{FaultIs, HasCause, IsMemory}
 use Rattle.plan_round.proofs.Room.{not_stuck}
 
-pub columns_fit : (p : Problem) (n : ℕ) (pool : List Column) → HasListedColumns p → n ≡ p.items → length p.caps ≤ 32 → AreColumns p pool → AreCheap pool → AreFit n 32 pool
+pub columns_fit : (p : Problem) (n : ℕ) (pool : List Column) → HasListedColumns p → n ≡ p.items → length p.caps ≤ 32 → AreColumns p pool →
+    AreCheap pool → AreFit n 32 pool
 columns_fit p n [] listed same few are cheap = tt
 columns_fit p n (c ∷ cs) listed same few are cheap =
     let P : ℕ → Type 0 = λ m. AllBelow m c.items in
@@ -36,26 +37,31 @@ places_from-below n (suc m) k h =
     let here : k < n = omega arith in
     All-cons (λ i. i < n) k (places_from m (suc k)) here (places_from-below n m (suc k) (omega arith))
 
-pub places_below : (prices : List Price) (pool : List Column) (places : List ℕ) → IsByValue prices pool places → AllBelow (length pool) places
+pub places_below : (prices : List Price) (pool : List Column) (places : List ℕ) → IsByValue prices pool places →
+    AllBelow (length pool) places
 places_below prices pool places by =
     let all = places_from-below (length pool) (length pool) 0 (omega arith) in
     AllBelow-from (length pool) places (All-permutation (λ i. i < length pool) (places_from (length pool) 0) places by.each all)
 
 -- a fault of a rounding is one of the pool whose columns are in that order
-pub cause_of : (p : Problem) (prices : List Price) (pool : List Column) (places : List ℕ) (fault : RoundFault) → IsByValue prices pool places → FaultIs p (rounded p (picked pool places)) fault → HasCause p prices pool fault
+pub cause_of : (p : Problem) (prices : List Price) (pool : List Column) (places : List ℕ) (fault : RoundFault) →
+    IsByValue prices pool places → FaultIs p (rounded p (picked pool places)) fault → HasCause p prices pool fault
 cause_of p prices pool places (NotPlaced item partial) by is = (record { places = places; by_value = by; is = is.0 }, is.1)
 cause_of p prices pool places Memory by is = tt
 
-pub caused : (p : Problem) (prices : List Price) (pool : List Column) (places : List ℕ) (result : Result Plan RoundFault) → IsByValue prices pool places →
+pub caused : (p : Problem) (prices : List Price) (pool : List Column) (places : List ℕ) (result : Result Plan RoundFault) →
+    IsByValue prices pool places →
     IfErr result (FaultIs p (rounded p (picked pool places))) → IfErr result (HasCause p prices pool)
 caused p prices pool places (Ok plan) by is = tt
 caused p prices pool places (Err fault) by is = cause_of p prices pool places fault by is
 
 -- where each item has room of its own only memory can be wanting
-pub complete_fault : (p : Problem) (r : Rounded) (fault : RoundFault) → HasListedColumns p → HasRoomForEach p → FaultIs p r fault → IsMemory fault
+pub complete_fault : (p : Problem) (r : Rounded) (fault : RoundFault) → HasListedColumns p → HasRoomForEach p →
+    FaultIs p r fault → IsMemory fault
 complete_fault p r (NotPlaced item partial) listed room is = absurd (not_stuck p item partial.columns listed room is.1)
 complete_fault p r Memory listed room is = refl
 
-pub completes : (p : Problem) (r : Rounded) (result : Result Plan RoundFault) → HasListedColumns p → HasRoomForEach p → IfErr result (FaultIs p r) → IfErr result IsMemory
+pub completes : (p : Problem) (r : Rounded) (result : Result Plan RoundFault) → HasListedColumns p → HasRoomForEach p →
+    IfErr result (FaultIs p r) → IfErr result IsMemory
 completes p r (Ok plan) listed room is = tt
 completes p r (Err fault) listed room is = complete_fault p r fault listed room is

@@ -69,7 +69,8 @@ not_empty : (xs : List ℕ) → (xs ≡ [] → ⊥) → 1 ≤ length xs
 not_empty [] h = absurd (h refl)
 not_empty (x ∷ xs) h = omega arith
 
-fewer_columns : (p : Problem) (columns : List Column) → HasListedColumns p → AreColumns p columns → length columns ≤ length (all_items columns)
+fewer_columns : (p : Problem) (columns : List Column) → HasListedColumns p → AreColumns p columns →
+    length columns ≤ length (all_items columns)
 fewer_columns p [] listed h = omega arith
 fewer_columns p (c ∷ cs) listed h =
     let some = not_empty c.items (listed c.class c.items c.worth h.0.1).0 in
@@ -81,17 +82,24 @@ times-length : (class : ℕ) (columns : List Column) → times class (all_classe
 times-length class [] = omega arith
 times-length class (c ∷ cs) =
     let rest : times class (all_classes cs) ≤ length cs = times-length class cs in
-    elim (class == c.class) as (λ b. cond b 1 0 + times class (all_classes cs) ≤ suc (length cs)) [ true ↦ omega arith | false ↦ omega arith ]
+    elim (class == c.class) as (λ b. cond b 1 0 + times class (all_classes cs) ≤ suc (length cs)) [
+      | true ↦
+          omega arith
+      | false ↦ omega arith
+    ]
 
 -- a part that lacks an item leaves room in each class with as many places as items
 pub not_stuck : (p : Problem) (item : ℕ) (columns : List Column) → HasListedColumns p → HasRoomForEach p → IsStuck p item columns → ⊥
 not_stuck p item columns listed room stuck =
     let own : HasOwnRoom p item = room item stuck.there in
-    let full : nat_lt (times own.class (all_classes columns)) (slice_index p.caps own.class) ≡ false = stuck.full own.class own.worth own.there own.alone in
+    let full : nat_lt (times own.class (all_classes columns)) (slice_index p.caps own.class) ≡ false =
+    stuck.full own.class own.worth own.there own.alone in
     let many : slice_index p.caps own.class ≤ times own.class (all_classes columns) = grind (arith, nat_tests) in
-    let few : length (all_items columns) < p.items = shorter item p.items (all_items columns) stuck.there (all_items-below p columns listed stuck.part.worths) stuck.part.once stuck.lacks in
+    let few : length (all_items columns) < p.items =
+    shorter item p.items (all_items columns) stuck.there (all_items-below p columns listed stuck.part.worths) stuck.part.once stuck.lacks in
     let wide : p.items ≤ slice_index p.caps own.class = own.wide in
     omega (arith, times-length own.class columns, fewer_columns p columns listed stuck.part.worths)
 
 pub leaves_none : (p : Problem) → HasListedColumns p → LeavesNone p
-leaves_none p listed room ordered are item columns is = not_stuck p item columns listed room (subst (IsRounding p) is (rounds_to_plan p listed ordered are))
+leaves_none p listed room ordered are item columns is =
+    not_stuck p item columns listed room (subst (IsRounding p) is (rounds_to_plan p listed ordered are))

@@ -21,7 +21,8 @@ and-both true false e = absurd (let h : false ≡ true = e in cc)
 and-both false b e = absurd (let h : false ≡ true = e in cc)
 
 -- an item of a list of free items is free
-pub all_free-at : (columns : List Column) (xs : List ℕ) (j : ℕ) → all_free columns xs ≡ true → 0 < times j xs → times j (all_items columns) ≡ 0
+pub all_free-at : (columns : List Column) (xs : List ℕ) (j : ℕ) → all_free columns xs ≡ true → 0 < times j xs →
+    times j (all_items columns) ≡ 0
 all_free-at columns [] j e h = absurd (omega arith)
 all_free-at columns (x ∷ xs) j e h =
     let both = and-both (is_free columns x) (all_free columns xs) e in
@@ -37,7 +38,8 @@ all_free-at columns (x ∷ xs) j e h =
     ]
 
 -- a column whose items are free and whose class has a place goes on with a part
-pub part-push : (p : Problem) (columns : List Column) (c : Column) → HasListedColumns p → IsColumn p c → (all_free columns c.items && has_place p columns c.class) ≡ true → IsPart p columns → IsPart p (columns ++ c ∷ [])
+pub part-push : (p : Problem) (columns : List Column) (c : Column) → HasListedColumns p → IsColumn p c →
+    (all_free columns c.items && has_place p columns c.class) ≡ true → IsPart p columns → IsPart p (columns ++ c ∷ [])
 part-push p columns c listed is test part =
     let both = and-both (all_free columns c.items) (has_place p columns c.class) test in
     let rises : Rises c.items = (listed c.class c.items c.worth is.1).1 in
@@ -56,7 +58,9 @@ part-push p columns c listed is test part =
           let more = placed-push other columns c in
           elim (cases_eq other c.class) [
             | inl same ↦
-                let room : times other (all_classes columns) < slice_index p.caps other = (let has : nat_lt (times other (all_classes columns)) (slice_index p.caps other) ≡ true = ap (λ n. has_place p columns n) same ∙ both.1 in grind (arith, nat_tests)) in
+                let room : times other (all_classes columns) < slice_index p.caps other =
+                (let has : nat_lt (times other (all_classes columns)) (slice_index p.caps other) ≡ true =
+                ap (λ n. has_place p columns n) same ∙ both.1 in grind (arith, nat_tests)) in
                 let same_test : (other == c.class) ≡ true = grind (arith, nat_tests) in
                 let sum = rw same_test at more in
                 omega arith
@@ -67,11 +71,13 @@ part-push p columns c listed is test part =
           ];
     }
 
-pub taken-part : (p : Problem) (columns pool : List Column) → HasListedColumns p → AreColumns p pool → IsPart p columns → IsPart p (taken p columns pool)
+pub taken-part : (p : Problem) (columns pool : List Column) → HasListedColumns p → AreColumns p pool → IsPart p columns →
+    IsPart p (taken p columns pool)
 taken-part p columns [] listed are part = part
 taken-part p columns (c ∷ cs) listed are part =
     taken-part p (cond (all_free columns c.items && has_place p columns c.class) (columns ++ c ∷ []) columns) cs listed are.1
-    (elim (all_free columns c.items && has_place p columns c.class) as (λ b. (all_free columns c.items && has_place p columns c.class) ≡ b → IsPart p (cond b (columns ++ c ∷ []) columns)) [
+    (elim (all_free columns c.items && has_place p columns c.class) as (λ b. (all_free columns c.items && has_place p columns c.class) ≡ b →
+    IsPart p (cond b (columns ++ c ∷ []) columns)) [
       | true ↦ λ test. part-push p columns c listed are.0 test part
       | false ↦ λ test. part
     ] refl)
@@ -102,32 +108,40 @@ append-right : (xs ys : List Choice) → xs ++ ys ≡ [] → ys ≡ []
 append-right [] ys e = e
 append-right (x ∷ xs) ys e = cc
 
-no-column : (p : Problem) (item place : ℕ) (cs : List Column) → into_columns p item place cs ≡ [] → (k : ℕ) → k < length cs → p.worth (get_or cs k no_column).class (put_in item (get_or cs k no_column).items) ≡ None
+no-column : (p : Problem) (item place : ℕ) (cs : List Column) → into_columns p item place cs ≡ [] → (k : ℕ) → k < length cs →
+    p.worth (get_or cs k no_column).class (put_in item (get_or cs k no_column).items) ≡ None
 no-column p item place [] e k h = absurd (omega arith)
-no-column p item place (c ∷ cs) e zero h = choice_for-none c.worth (Into place) (p.worth c.class (put_in item c.items)) (append-left _ (into_columns p item (suc place) cs) e)
+no-column p item place (c ∷ cs) e zero h =
+    choice_for-none c.worth (Into place) (p.worth c.class (put_in item c.items)) (append-left _ (into_columns p item (suc place) cs) e)
 no-column p item place (c ∷ cs) e (suc k) h =
-    no-column p item (suc place) cs (append-right (choice_for c.worth (Into place) (p.worth c.class (put_in item c.items))) _ e) k (omega arith)
+    no-column p item (suc place) cs (append-right (choice_for c.worth (Into place) (p.worth c.class (put_in item c.items))) _ e)
+    k (omega arith)
 
-no-class-here : (p : Problem) (item : ℕ) (columns : List Column) (class worth : ℕ) → p.worth class (item ∷ []) ≡ Some worth → cond (has_place p columns class) (choice_for 0 (New class) (p.worth class (item ∷ []))) [] ≡ [] → has_place p columns class ≡ false
+no-class-here : (p : Problem) (item : ℕ) (columns : List Column) (class worth : ℕ) → p.worth class (item ∷ []) ≡ Some worth →
+    cond (has_place p columns class) (choice_for 0 (New class) (p.worth class (item ∷ []))) [] ≡ [] → has_place p columns class ≡ false
 no-class-here p item columns class worth has e =
     elim (has_place p columns class) as (λ b. cond b (choice_for 0 (New class) (p.worth class (item ∷ []))) [] ≡ [] → b ≡ false) [
-      | true ↦ λ none. absurd (let gone : p.worth class (item ∷ []) ≡ None = choice_for-none 0 (New class) (p.worth class (item ∷ [])) none in cc)
+      | true ↦ λ none. absurd (let gone : p.worth class (item ∷ []) ≡ None =
+          choice_for-none 0 (New class) (p.worth class (item ∷ [])) none in cc)
       | false ↦ λ none. refl
     ] e
 
-no-class : (p : Problem) (item : ℕ) (columns : List Column) (n : ℕ) → into_classes p item columns n ≡ [] → (class worth : ℕ) → class < n → p.worth class (item ∷ []) ≡ Some worth → has_place p columns class ≡ false
+no-class : (p : Problem) (item : ℕ) (columns : List Column) (n : ℕ) → into_classes p item columns n ≡ [] → (class worth : ℕ) → class < n →
+    p.worth class (item ∷ []) ≡ Some worth → has_place p columns class ≡ false
 no-class p item columns zero e class worth h has = absurd (omega arith)
 no-class p item columns (suc n) e class worth h has =
     elim (cases_eq class n) [
       | inl same ↦
           let there : p.worth n (item ∷ []) ≡ Some worth = ap (λ k. p.worth k (item ∷ [])) (sym same) ∙ has in
-          ap (λ k. has_place p columns k) same ∙ no-class-here p item columns n worth there (append-right (into_classes p item columns n) _ e)
+          ap (λ k. has_place p columns k) same
+          ∙ no-class-here p item columns n worth there (append-right (into_classes p item columns n) _ e)
       | inr apart ↦ no-class p item columns n (append-left (into_classes p item columns n) _ e) class worth (omega arith) has
     ]
 
 module _ (p : Problem) (start : List Column) where
   -- the item with the choice that was found
-  with_choice-filled : (item : ℕ) (columns : List Column) (o : Option Choice) → item < p.items → IfChosen (IsAllowed p item columns) o → (o ≡ None → choices p item columns ≡ []) → IsFilled p start item columns → times item (all_items columns) ≡ 0 →
+  with_choice-filled : (item : ℕ) (columns : List Column) (o : Option Choice) → item < p.items → IfChosen (IsAllowed p item columns) o →
+      (o ≡ None → choices p item columns ≡ []) → IsFilled p start item columns → times item (all_items columns) ≡ 0 →
       IsFilledOr p start (suc item) (with_choice item columns o)
   with_choice-filled item columns None there allowed none filled free =
       let nothing = none refl in
@@ -135,8 +149,10 @@ module _ (p : Problem) (start : List Column) where
         there = there;
         part = filled.part;
         lacks = free;
-        full = λ class worth below has. no-class p item columns (length p.caps) (append-right (into_columns p item 0 columns) (into_classes p item columns (length p.caps)) nothing) class worth below has;
-        none_takes = λ place below. no-column p item 0 columns (append-left (into_columns p item 0 columns) (into_classes p item columns (length p.caps)) nothing) place below;
+        full = λ class worth below has. no-class p item columns (length p.caps)
+            (append-right (into_columns p item 0 columns) (into_classes p item columns (length p.caps)) nothing) class worth below has;
+        none_takes = λ place below. no-column p item 0 columns
+            (append-left (into_columns p item 0 columns) (into_classes p item columns (length p.caps)) nothing) place below;
       }
   with_choice-filled item columns (Some c) there allowed none filled free =
       let puts = put_at-puts p item columns c.rise c.worth c.spot allowed in
@@ -162,13 +178,18 @@ module _ (p : Problem) (start : List Column) where
             omega arith;
       }
 
-  round_item-filled : (item : ℕ) (r : Rounded) → item < p.items → IsFilledOr p start item r → IsFilledOr p start (suc item) (round_item p item r)
+  round_item-filled : (item : ℕ) (r : Rounded) → item < p.items → IsFilledOr p start item r →
+      IsFilledOr p start (suc item) (round_item p item r)
   round_item-filled item (left other columns) there h = h
   round_item-filled item (whole columns) there h =
-      elim (is_free columns item) as (λ b. is_free columns item ≡ b → IsFilledOr p start (suc item) (cond b (with_choice item columns (first_cheapest None (choices p item columns))) (whole columns))) [
+      elim (is_free columns item) as (λ b. is_free columns item ≡ b →
+      IsFilledOr p start (suc item) (cond b (with_choice item columns (first_cheapest None (choices p item columns))) (whole columns))) [
         | true ↦ λ test.
-            let free : times item (all_items columns) ≡ 0 = (let t : (times item (all_items columns) == 0) ≡ true = test in grind (arith, nat_tests)) in
-            with_choice-filled item columns (first_cheapest None (choices p item columns)) there (first_cheapest-each (IsAllowed p item columns) None (choices p item columns) tt (choices-allowed p item columns)) (first_cheapest-none (choices p item columns)) h free
+            let free : times item (all_items columns) ≡ 0 =
+            (let t : (times item (all_items columns) == 0) ≡ true = test in grind (arith, nat_tests)) in
+            with_choice-filled item columns (first_cheapest None (choices p item columns)) there
+            (first_cheapest-each (IsAllowed p item columns) None (choices p item columns) tt (choices-allowed p item columns))
+            (first_cheapest-none (choices p item columns)) h free
         | false ↦ λ test. record {
           part = h.part;
           below = λ j lt.

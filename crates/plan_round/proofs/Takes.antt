@@ -52,11 +52,13 @@ pub shows-added : (columns : List Column) (c : Column) (free new : List Bool) �
     ((i : ℕ) → get_or new i false ≡ ((times i c.items == 0) && get_or free i false)) → ShowsFree (columns ++ c ∷ []) new
 shows-added columns c free new same shown marked i h =
     let was : get_or free i false ≡ (times i (all_items columns) == 0) = shown i (omega arith) in
-    marked i ∙ ap (λ b. (times i c.items == 0) && b) was ∙ both-zero (times i (all_items columns)) (times i c.items) ∙ ap (λ n. n == 0) (sym (held-push i columns c))
+    marked i ∙ ap (λ b. (times i c.items == 0) && b) was ∙ both-zero (times i (all_items columns)) (times i c.items)
+    ∙ ap (λ n. n == 0) (sym (held-push i columns c))
 
 -- one more place is looked at
 pub taken-more : (p : Problem) (pool columns : List Column) (places : List ℕ) (t : ℕ) → t < length places →
-    taken p columns (picked pool (drop t places)) ≡ taken p (with_taken p columns (column_at pool (get_or places t 0))) (picked pool (drop (t + 1) places))
+    taken p columns (picked pool (drop t places)) ≡ taken p (with_taken p columns (column_at pool (get_or places t 0)))
+    (picked pool (drop (t + 1) places))
 taken-more p pool columns places t h =
     ap (λ (l : List ℕ). taken p columns (picked pool l)) (drop-cons places t 0 h) ∙
     ap (λ (n : ℕ). taken p (with_taken p columns (column_at pool (get_or places t 0))) (picked pool (drop n places))) (sym (add-one t))
@@ -67,6 +69,8 @@ column-there [] place c h e = absurd (omega arith)
 column-there (x ∷ xs) zero c h e = e
 column-there (x ∷ xs) (suc place) c h e = column-there xs place c (omega arith) e
 
-pub picked-columns : (p : Problem) (pool : List Column) (places : List ℕ) → AreColumns p pool → AllBelow (length pool) places → AreColumns p (picked pool places)
+pub picked-columns : (p : Problem) (pool : List Column) (places : List ℕ) → AreColumns p pool → AllBelow (length pool) places →
+    AreColumns p (picked pool places)
 picked-columns p pool [] are below = tt
-picked-columns p pool (place ∷ places) are below = (AreColumns-get p pool place no_column below.0 are, picked-columns p pool places are below.1)
+picked-columns p pool (place ∷ places) are below =
+    (AreColumns-get p pool place no_column below.0 are, picked-columns p pool places are below.1)

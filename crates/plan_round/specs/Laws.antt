@@ -13,7 +13,8 @@ pub record IsStuck (p : Problem) (item : ℕ) (columns : List Column) : Type 0 w
   pub part : IsPart p columns
   pub lacks : times item (all_items columns) ≡ 0
   pub full : (class worth : ℕ) → class < length p.caps → p.worth class (item ∷ []) ≡ Some worth → has_place p columns class ≡ false
-  pub none_takes : (place : ℕ) → place < length columns → p.worth (column_at columns place).class (put_in item (column_at columns place).items) ≡ None
+  pub none_takes : (place : ℕ) → place < length columns →
+      p.worth (column_at columns place).class (put_in item (column_at columns place).items) ≡ None
 
 -- a plan, or a part of one that has no place for the item that is left
 abbrev pub IsRounding : Problem → Rounded → Type 0
@@ -38,4 +39,5 @@ HasRoomForEach p = (item : ℕ) → item < p.items → HasOwnRoom p item
 
 -- where each item has room of its own none is left
 abbrev pub LeavesNone : Problem → Type 0
-LeavesNone p = HasRoomForEach p → (ordered : List Column) → AreColumns p ordered → (item : ℕ) (columns : List Column) → rounded p ordered ≡ left item columns → ⊥
+LeavesNone p = HasRoomForEach p → (ordered : List Column) → AreColumns p ordered → (item : ℕ) (columns : List Column) →
+    rounded p ordered ≡ left item columns → ⊥

@@ -39,7 +39,8 @@ choice_for before spot (Some worth) = record { rise = pos worth -ℤ pos before;
 -- the item into each column, in the columns' order, these standing from a place on
 abbrev pub into_columns : Problem → ℕ → ℕ → List Column → List Choice
 into_columns p item place [] = []
-into_columns p item place (c ∷ cs) = choice_for c.worth (Into place) (p.worth c.class (put_in item c.items)) ++ into_columns p item (suc place) cs
+into_columns p item place (c ∷ cs) =
+    choice_for c.worth (Into place) (p.worth c.class (put_in item c.items)) ++ into_columns p item (suc place) cs
 
 -- the item alone, in a class that has a place left
 abbrev pub class_choice : Problem → ℕ → List Column → ℕ → List Choice
@@ -67,7 +68,8 @@ choices p item columns = into_columns p item 0 columns ++ into_classes p item co
 -- the columns with the item put where it goes
 abbrev pub put_at : ℕ → List Column → ℕ → Spot → List Column
 put_at item columns worth (Into place) =
-    slice_set columns place (record { class = (column_at columns place).class; worth = worth; items = put_in item (column_at columns place).items })
+    slice_set columns place
+    (record { class = (column_at columns place).class; worth = worth; items = put_in item (column_at columns place).items })
 put_at item columns worth (New class) = columns ++ record { class = class; worth = worth; items = item ∷ [] } ∷ []
 
 -- a plan, or the first item that is left beside the columns so far

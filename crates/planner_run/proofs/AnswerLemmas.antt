@@ -38,7 +38,8 @@ use Rattle.planner_run.proofs.PlanOutcomes.{one_plan_cause, plan_text_no_cause, 
 use Rattle.planner_run.proofs.ReplanOutcomes.{one_replan_cause, replan_text_no_cause}
 
 -- a task has one answer for the tables of each file and a day, unless it is left open
-same_cause : (task : Task) (parts : List (List Table)) (day : ℕ) (s t : Status) → is_open task t ≡ false → IsPartsCause task parts day s → IsPartsCause task parts day t → s ≡ t
+same_cause : (task : Task) (parts : List (List Table)) (day : ℕ) (s t : Status) → is_open task t ≡ false → IsPartsCause task parts day s →
+    IsPartsCause task parts day t → s ≡ t
 same_cause Trips parts day s t settled p q = one_cause (joined parts) day s t p q
 same_cause Day parts day s t settled p q = one_model_cause (joined parts) day s t p q
 same_cause (Plan asked) parts day s t settled p q = one_plan_cause asked (joined parts) day s t settled p q
@@ -51,7 +52,8 @@ same_cause Week parts day s t settled p q = one_week_cause (joined parts) s t p 
 same_cause (MakeRun seed trips asked) parts day s t settled p q = one_plan_cause asked (made_tables seed trips) day s t settled p q
 
 -- tables with a text are not refused
-no_cause : (task : Task) (parts : List (List Table)) (day : ℕ) (ending : Status) (bytes : List ℕ) (s : Status) → is_open task s ≡ false → IsWhole task parts day ending bytes
+no_cause : (task : Task) (parts : List (List Table)) (day : ℕ) (ending : Status) (bytes : List ℕ) (s : Status) → is_open task s ≡ false →
+    IsWhole task parts day ending bytes
     → IsPartsCause task parts day s → ⊥
 no_cause Trips parts day ending bytes s settled p q = text_no_cause (joined parts) day bytes s p.0 q
 no_cause Day parts day ending bytes s settled p q = day_text_no_cause (joined parts) day bytes s p.0 q
@@ -62,7 +64,8 @@ no_cause (Replan count moment numbers) parts day ending bytes s settled p q =
     replan_text_no_cause numbers moment (joined (take count parts)) (slice_index_or parts count []) day bytes s settled p.0 q
 no_cause (Make seed trips) parts day ending bytes s settled p q = q
 no_cause Week parts day ending bytes s settled p q = week_text_no_cause (joined parts) bytes s p.0 q
-no_cause (MakeRun seed trips asked) parts day ending bytes s settled p q = short_text_no_cause asked (made_tables seed trips) day bytes s settled p.0 q
+no_cause (MakeRun seed trips asked) parts day ending bytes s settled p q =
+    short_text_no_cause asked (made_tables seed trips) day bytes s settled p.0 q
 
 -- nothing is left open where nothing climbs
 never_open : (task : Task) (s : Status) → climbs task ≡ false → is_open task s ≡ false
@@ -83,7 +86,8 @@ pub record IsTextStatus (status : Status) : Type 0 where
 
 pub record IsOtherStatus (status : Status) : Type 0 where
   pub names : (names : List (List ℕ)) → names_for names status ≡ names
-  pub refusal : (task : Task) (contents : List (List ℕ)) (day : ℕ) → IsRefusal task contents day status → IsTablesRefusal task contents day status
+  pub refusal : (task : Task) (contents : List (List ℕ)) (day : ℕ) → IsRefusal task contents day status →
+      IsTablesRefusal task contents day status
 
 pub parts_of : (status : Status) → IsTextStatus status ⊎ IsOtherStatus status
 parts_of (statuses.Input (inputs.Text file fault)) = inl (record { file = file; fault = fault; is = refl })
@@ -104,8 +108,10 @@ parts_of statuses.WriteFault = inr (record { names = λ names. refl; refusal = �
 parts_of (statuses.CheckNo reason) = inr (record { names = λ names. refl; refusal = λ task contents day r. absurd r })
 
 -- what all files tell is what the refusal of tables speaks of
-told_others : (held : List ℕ → Option (List ℕ)) (names contents : List (List ℕ)) (status : Status) → IsOtherStatus status → told_for held names status ≡ Some contents → held_under held names ≡ Some contents
-told_others held names contents status other told = let P : List (List ℕ) → Type 0 = λ ns. held_under held ns ≡ Some contents in subst P (other.names names) told
+told_others : (held : List ℕ → Option (List ℕ)) (names contents : List (List ℕ)) (status : Status) → IsOtherStatus status →
+    told_for held names status ≡ Some contents → held_under held names ≡ Some contents
+told_others held names contents status other told = let P : List (List ℕ) → Type 0 = λ ns. held_under held ns ≡ Some contents in
+    subst P (other.names names) told
 
 -- the tables refuse by their first fault, the number of trips or the day, or by what they plan
 abbrev IsTableStatus : Status → Type 0
@@ -149,7 +155,8 @@ unplanned_is_of_tables (faults.NoPlan side bound places) told = tt
 unplanned_is_of_tables (faults.NotPlaced side item name partial) told = tt
 unplanned_is_of_tables faults.Memory told = absurd (told refl)
 
-plan_is_of_tables : (asked : Asked) (tables : List Table) (day : ℕ) (status : Status) → IsPlanCause asked tables day status → IsTableStatus status
+plan_is_of_tables : (asked : Asked) (tables : List Table) (day : ℕ) (status : Status) →
+    IsPlanCause asked tables day status → IsTableStatus status
 plan_is_of_tables asked tables day status (inl c) = model_is_of_tables tables day status c
 plan_is_of_tables asked tables day status (inr c) = subst IsTableStatus (sym c.is) (unplanned_is_of_tables c.fault c.told)
 
@@ -180,11 +187,14 @@ not_replanned_is_of_tables : (fault : ReplanFault) → fault ≢ replans.Plan fa
 not_replanned_is_of_tables (replans.OldPlan reason) told = tt
 not_replanned_is_of_tables (replans.Plan fault) told = unplanned_is_of_tables fault (λ e. told (ap (λ f. replans.Plan f) e))
 
-replan_is_of_tables : (numbers : Numbers) (moment : ℕ) (tables old : List Table) (day : ℕ) (status : Status) → IsReplanCause numbers moment tables old day status → IsTableStatus status
+replan_is_of_tables : (numbers : Numbers) (moment : ℕ) (tables old : List Table) (day : ℕ) (status : Status) →
+    IsReplanCause numbers moment tables old day status → IsTableStatus status
 replan_is_of_tables numbers moment tables old day status (inl c) = model_is_of_tables tables day status c
-replan_is_of_tables numbers moment tables old day status (inr c) = subst IsTableStatus (sym c.is) (not_replanned_is_of_tables c.fault c.told)
+replan_is_of_tables numbers moment tables old day status (inr c) =
+    subst IsTableStatus (sym c.is) (not_replanned_is_of_tables c.fault c.told)
 
-is_of_tables : (task : Task) (parts : List (List Table)) (day : ℕ) (status : Status) → IsPartsCause task parts day status → IsTableStatus status
+is_of_tables : (task : Task) (parts : List (List Table)) (day : ℕ) (status : Status) →
+    IsPartsCause task parts day status → IsTableStatus status
 is_of_tables Trips parts day status c = trips_are_of_tables (joined parts) day status c
 is_of_tables Day parts day status c = model_is_of_tables (joined parts) day status c
 is_of_tables (Plan asked) parts day status c = plan_is_of_tables asked (joined parts) day status c
@@ -197,7 +207,8 @@ is_of_tables Week parts day status c = subst IsTableStatus (sym c.is) (roster_is
 is_of_tables (MakeRun seed trips asked) parts day status c = plan_is_of_tables asked (made_tables seed trips) day status c
 
 -- a cause in the tables is a refusal of them
-tables_cause : (task : Task) (held : List ℕ → Option (List ℕ)) (names : List (List ℕ)) (parts : List (List Table)) (day : ℕ) (status : Status)
+tables_cause : (task : Task) (held : List ℕ → Option (List ℕ)) (names : List (List ℕ)) (parts : List (List Table))
+    (day : ℕ) (status : Status)
     → IfSome (held_under held names) (λ contents. SpellTables (stage_of task) contents parts) → IsPartsCause task parts day status
     → IfSome (held_under held names) (λ contents. IsTablesRefusal task contents day status)
 tables_cause task held names parts day status spelled c =
@@ -206,18 +217,29 @@ tables_cause task held names parts day status spelled c =
     record { parts = parts; spelled = of_told told (λ contents. SpellTables (stage_of task) contents parts) contents e spelled; cause = c })
 
 -- the tables' cause is the task's
-pub cause_of : (task : Task) (held : List ℕ → Option (List ℕ)) (names : List (List ℕ)) (parts : List (List Table)) (day : ℕ) (R : ℕ → Type 0) (status : Status)
-    → IsTableStatus status → IfSome (held_under held names) (λ contents. SpellTables (stage_of task) contents parts) → IsPartsCause task parts day status
+pub cause_of : (task : Task) (held : List ℕ → Option (List ℕ)) (names : List (List ℕ)) (parts : List (List Table)) (day : ℕ)
+    (R : ℕ → Type 0) (status : Status)
+    → IsTableStatus status → IfSome (held_under held names) (λ contents. SpellTables (stage_of task) contents parts) →
+    IsPartsCause task parts day status
     → IsAnswerCause (λ s. IfSome (told_for held names s) (λ contents. IsRefusal task contents day s)) R status
-cause_of task held names parts day R (statuses.Input (inputs.Table fault)) t spelled c = tables_cause task held names parts day (statuses.Input (inputs.Table fault)) spelled c
-cause_of task held names parts day R (statuses.Input (inputs.Trips count)) t spelled c = tables_cause task held names parts day (statuses.Input (inputs.Trips count)) spelled c
-cause_of task held names parts day R (statuses.Input (inputs.Params fault)) t spelled c = tables_cause task held names parts day (statuses.Input (inputs.Params fault)) spelled c
-cause_of task held names parts day R (statuses.Input (inputs.Days first last)) t spelled c = tables_cause task held names parts day (statuses.Input (inputs.Days first last)) spelled c
-cause_of task held names parts day R (statuses.Input (inputs.Trip fid fault)) t spelled c = tables_cause task held names parts day (statuses.Input (inputs.Trip fid fault)) spelled c
-cause_of task held names parts day R (statuses.Day fault) t spelled c = tables_cause task held names parts day (statuses.Day fault) spelled c
-cause_of task held names parts day R (statuses.NoPlan side bound places) t spelled c = tables_cause task held names parts day (statuses.NoPlan side bound places) spelled c
-cause_of task held names parts day R (statuses.NotPlaced side item name partial) t spelled c = tables_cause task held names parts day (statuses.NotPlaced side item name partial) spelled c
-cause_of task held names parts day R (statuses.OldPlan reason) t spelled c = tables_cause task held names parts day (statuses.OldPlan reason) spelled c
+cause_of task held names parts day R (statuses.Input (inputs.Table fault)) t spelled c =
+    tables_cause task held names parts day (statuses.Input (inputs.Table fault)) spelled c
+cause_of task held names parts day R (statuses.Input (inputs.Trips count)) t spelled c =
+    tables_cause task held names parts day (statuses.Input (inputs.Trips count)) spelled c
+cause_of task held names parts day R (statuses.Input (inputs.Params fault)) t spelled c =
+    tables_cause task held names parts day (statuses.Input (inputs.Params fault)) spelled c
+cause_of task held names parts day R (statuses.Input (inputs.Days first last)) t spelled c =
+    tables_cause task held names parts day (statuses.Input (inputs.Days first last)) spelled c
+cause_of task held names parts day R (statuses.Input (inputs.Trip fid fault)) t spelled c =
+    tables_cause task held names parts day (statuses.Input (inputs.Trip fid fault)) spelled c
+cause_of task held names parts day R (statuses.Day fault) t spelled c =
+    tables_cause task held names parts day (statuses.Day fault) spelled c
+cause_of task held names parts day R (statuses.NoPlan side bound places) t spelled c =
+    tables_cause task held names parts day (statuses.NoPlan side bound places) spelled c
+cause_of task held names parts day R (statuses.NotPlaced side item name partial) t spelled c =
+    tables_cause task held names parts day (statuses.NotPlaced side item name partial) spelled c
+cause_of task held names parts day R (statuses.OldPlan reason) t spelled c =
+    tables_cause task held names parts day (statuses.OldPlan reason) spelled c
 cause_of task held names parts day R (statuses.Input (inputs.Text file fault)) t spelled c = absurd t
 cause_of task held names parts day R statuses.Memory t spelled c = absurd t
 cause_of task held names parts day R statuses.Ok t spelled c = absurd t
@@ -226,67 +248,93 @@ cause_of task held names parts day R (statuses.ReadFault file) t spelled c = abs
 cause_of task held names parts day R statuses.WriteFault t spelled c = absurd t
 cause_of task held names parts day R (statuses.CheckNo reason) t spelled c = absurd t
 
-refused_cause : (task : Task) (held : List ℕ → Option (List ℕ)) (names : List (List ℕ)) (parts : List (List Table)) (day : ℕ) (R : ℕ → Type 0) (status : Status)
+refused_cause : (task : Task) (held : List ℕ → Option (List ℕ)) (names : List (List ℕ)) (parts : List (List Table)) (day : ℕ)
+    (R : ℕ → Type 0) (status : Status)
     → IfSome (held_under held names) (λ contents. SpellTables (stage_of task) contents parts) → ArePartsRefused task parts day status
     → IsAnswerCause (λ s. IfSome (told_for held names s) (λ contents. IsRefusal task contents day s)) R status
 refused_cause task held names parts day R status spelled (inl memory) =
-    let P : Status → Type 0 = IsAnswerCause (λ s. IfSome (told_for held names s) (λ contents. IsRefusal task contents day s)) R in subst P (sym memory) tt
+    let P : Status → Type 0 = IsAnswerCause (λ s. IfSome (told_for held names s) (λ contents. IsRefusal task contents day s)) R in
+    subst P (sym memory) tt
 refused_cause task held names parts day R status spelled (inr c) =
     cause_of task held names parts day R status (is_of_tables task parts day status c) spelled c
 
 -- where all files were read, these are the clauses of the task's answer
-pub read_written : (task : Task) (held : List ℕ → Option (List ℕ)) (names : List (List ℕ)) (parts : List (List Table)) (day : ℕ) (r : Result Outcome Status)
-    → IfSome (held_under held names) (λ contents. SpellTables (stage_of task) contents parts) → IfOk r (λ outcome. IsWhole task parts day outcome.ending outcome.text)
+pub read_written : (task : Task) (held : List ℕ → Option (List ℕ)) (names : List (List ℕ)) (parts : List (List Table))
+    (day : ℕ) (r : Result Outcome Status)
+    → IfSome (held_under held names) (λ contents. SpellTables (stage_of task) contents parts) →
+    IfOk r (λ outcome. IsWhole task parts day outcome.ending outcome.text)
     → IfOk r (λ outcome. IfSome (held_under held names) (λ contents. IsAnswer task contents day outcome.ending outcome.text))
 read_written task held names parts day (Ok outcome) spelled written =
     let told = held_under held names in
     if_told told (λ contents. IsAnswer task contents day outcome.ending outcome.text) (λ contents e.
-    record { parts = parts; spelled = of_told told (λ contents. SpellTables (stage_of task) contents parts) contents e spelled; written = written })
+    record {
+      parts = parts;
+      spelled = of_told told (λ contents. SpellTables (stage_of task) contents parts) contents e spelled;
+      written =
+          written;
+    })
 read_written task held names parts day (Err s) spelled written = tt
 
-pub read_cause : (task : Task) (held : List ℕ → Option (List ℕ)) (names : List (List ℕ)) (parts : List (List Table)) (day : ℕ) (R : ℕ → Type 0) (r : Result Outcome Status)
+pub read_cause : (task : Task) (held : List ℕ → Option (List ℕ)) (names : List (List ℕ)) (parts : List (List Table)) (day : ℕ)
+    (R : ℕ → Type 0) (r : Result Outcome Status)
     → IfSome (held_under held names) (λ contents. SpellTables (stage_of task) contents parts) → IfErr r (ArePartsRefused task parts day)
     → IfErr r (IsAnswerCause (λ s. IfSome (told_for held names s) (λ contents. IsRefusal task contents day s)) R)
 read_cause task held names parts day R (Ok outcome) spelled cause = tt
 read_cause task held names parts day R (Err s) spelled cause = refused_cause task held names parts day R s spelled cause
 
-tables_refused : (task : Task) (parts : List (List Table)) (day : ℕ) (r : Result Outcome Status) (status : Status) → is_open task status ≡ false
-    → IfOk r (λ outcome. IsWhole task parts day outcome.ending outcome.text) → IfErr r (ArePartsRefused task parts day) → IsPartsCause task parts day status
+tables_refused : (task : Task) (parts : List (List Table)) (day : ℕ) (r : Result Outcome Status) (status : Status) →
+    is_open task status ≡ false
+    → IfOk r (λ outcome. IsWhole task parts day outcome.ending outcome.text) → IfErr r (ArePartsRefused task parts day) →
+    IsPartsCause task parts day status
     → MatchResult r (λ outcome. ⊥) (λ s. IsUnread s ⊎ (s ≡ status))
-tables_refused task parts day (Ok outcome) status settled written cause c = no_cause task parts day outcome.ending outcome.text status settled written c
+tables_refused task parts day (Ok outcome) status settled written cause c =
+    no_cause task parts day outcome.ending outcome.text status settled written c
 tables_refused task parts day (Err s) status settled written (inl memory) c = inl (memory_is_unread s memory)
 tables_refused task parts day (Err s) status settled written (inr d) c = inr (same_cause task parts day s status settled d c)
 
-pub read_refused : (task : Task) (held : List ℕ → Option (List ℕ)) (names : List (List ℕ)) (parts : List (List Table)) (day : ℕ) (r : Result Outcome Status) (status : Status)
+pub read_refused : (task : Task) (held : List ℕ → Option (List ℕ)) (names : List (List ℕ)) (parts : List (List Table)) (day : ℕ)
+    (r : Result Outcome Status) (status : Status)
     → is_open task status ≡ false
-    → ((others : List (List Table)) → IfSome (held_under held names) (λ contents. SpellTables (stage_of task) contents others → parts ≡ others))
-    → ((file line : ℕ) (kind : TextKind) → IfSome (held_under held (take file names)) (λ contents. HasTextFault (stage_of task) 1 contents file line kind → ⊥))
+    → ((others : List (List Table)) →
+    IfSome (held_under held names) (λ contents. SpellTables (stage_of task) contents others → parts ≡ others))
+    → ((file line : ℕ) (kind : TextKind) →
+    IfSome (held_under held (take file names)) (λ contents. HasTextFault (stage_of task) 1 contents file line kind → ⊥))
     → IfOk r (λ outcome. IsWhole task parts day outcome.ending outcome.text) → IfErr r (ArePartsRefused task parts day)
-    → IfSome (told_for held names status) (λ contents. IsRefusal task contents day status → MatchResult r (λ outcome. ⊥) (λ s. IsUnread s ⊎ (s ≡ status)))
+    → IfSome (told_for held names status) (λ contents. IsRefusal task contents day status →
+    MatchResult r (λ outcome. ⊥) (λ s. IsUnread s ⊎ (s ≡ status)))
 read_refused task held names parts day r status settled only none written cause = elim (parts_of status) [
   | inl t ↦
       let text : Status = statuses.Input (inputs.Text t.file t.fault) in
-      let Goal : Status → Type 0 = λ status. IfSome (told_for held names status) (λ contents. IsRefusal task contents day status → MatchResult r (λ outcome. ⊥) (λ s. IsUnread s ⊎ (s ≡ status))) in
+      let Goal : Status → Type 0 =
+      λ status. IfSome (told_for held names status) (λ contents. IsRefusal task contents day status →
+      MatchResult r (λ outcome. ⊥) (λ s. IsUnread s ⊎ (s ≡ status))) in
       let told = held_under held (take t.file names) in
-      let at : Goal text = if_told told (λ contents. IsRefusal task contents day text → MatchResult r (λ outcome. ⊥) (λ s. IsUnread s ⊎ (s ≡ text))) (λ contents e refusal.
-      absurd (of_told told (λ contents. HasTextFault (stage_of task) 1 contents t.file t.fault.line t.fault.kind → ⊥) contents e (none t.file t.fault.line t.fault.kind) refusal)) in
+      let at : Goal text = if_told told (λ contents. IsRefusal task contents day text →
+      MatchResult r (λ outcome. ⊥) (λ s. IsUnread s ⊎ (s ≡ text))) (λ contents e refusal.
+      absurd (of_told told (λ contents. HasTextFault (stage_of task) 1 contents t.file t.fault.line t.fault.kind → ⊥) contents e
+      (none t.file t.fault.line t.fault.kind) refusal)) in
       subst Goal (sym t.is) at
-  | inr other ↦ if_told (told_for held names status) (λ contents. IsRefusal task contents day status → MatchResult r (λ outcome. ⊥) (λ s. IsUnread s ⊎ (s ≡ status))) (λ contents told refusal.
+  | inr other ↦ if_told (told_for held names status) (λ contents. IsRefusal task contents day status →
+      MatchResult r (λ outcome. ⊥) (λ s. IsUnread s ⊎ (s ≡ status))) (λ contents told refusal.
       let t = other.refusal task contents day refusal in
       let all = held_under held names in
-      let same = of_told all (λ contents. SpellTables (stage_of task) contents t.parts → parts ≡ t.parts) contents (told_others held names contents status other told) (only t.parts) t.spelled in
+      let same = of_told all (λ contents. SpellTables (stage_of task) contents t.parts → parts ≡ t.parts) contents
+      (told_others held names contents status other told) (only t.parts) t.spelled in
       let P : List (List Table) → Type 0 = λ ps. IsPartsCause task ps day status in
       tables_refused task parts day r status settled written cause (subst P (sym same) t.cause))
 ]
 
-pub read_complete : (task : Task) → climbs task ≡ false → (contents : List (List ℕ)) (parts : List (List Table)) (day : ℕ) (r : Result Outcome Status) (end : Status) (bytes : List ℕ)
-    → ((others : List (List Table)) → SpellTables (stage_of task) contents others → parts ≡ others) → IfErr r (ArePartsRefused task parts day) → IsAnswer task contents day end bytes
+pub read_complete : (task : Task) → climbs task ≡ false →
+    (contents : List (List ℕ)) (parts : List (List Table)) (day : ℕ) (r : Result Outcome Status) (end : Status) (bytes : List ℕ)
+    → ((others : List (List Table)) → SpellTables (stage_of task) contents others → parts ≡ others) →
+    IfErr r (ArePartsRefused task parts day) → IsAnswer task contents day end bytes
     → MatchResult r (λ found. Unit {0}) IsUnread
 read_complete task fixed contents parts day (Ok found) end bytes only cause answer = tt
 read_complete task fixed contents parts day (Err s) end bytes only (inl memory) answer = memory_is_unread s memory
 read_complete task fixed contents parts day (Err s) end bytes only (inr d) answer =
     let P : List (List Table) → Type 0 = λ ps. IsWhole task ps day end bytes in
-    absurd (no_cause task parts day end bytes s (never_open task s fixed) (subst P (sym (only answer.parts answer.spelled)) answer.written) d)
+    absurd (no_cause task parts day end bytes s (never_open task s fixed)
+    (subst P (sym (only answer.parts answer.spelled)) answer.written) d)
 
 -- a file that is not read, as a status
 pub unread_status : (fault : FileFault) → IsUnreadFile fault → IsUnread (file_status fault)
@@ -296,7 +344,8 @@ unread_status files.Memory unread = tt
 
 -- where a file was refused
 pub unread_answer : (task : Task) (held : List ℕ → Option (List ℕ)) (names : List (List ℕ)) (day : ℕ) (R : ℕ → Type 0) (fault : FileFault)
-    → IsFileCause (λ file line kind. IfSome (held_under held (take file names)) (λ contents. HasTextFault (stage_of task) 1 contents file line kind)) R fault
+    → IsFileCause (λ file line kind. IfSome (held_under held (take file names))
+    (λ contents. HasTextFault (stage_of task) 1 contents file line kind)) R fault
     → IsAnswerCause (λ s. IfSome (told_for held names s) (λ contents. IsRefusal task contents day s)) R (file_status fault)
 unread_answer task held names day R files.Memory cause = tt
 unread_answer task held names day R (files.Read file) cause = cause
@@ -309,24 +358,35 @@ fault_is fault file line kind (inl unread) = inl (unread_status fault unread)
 fault_is fault file line kind (inr same) = inr (ap file_status same)
 
 pub unread_refused : (task : Task) (held : List ℕ → Option (List ℕ)) (names : List (List ℕ)) (day : ℕ) (fault : FileFault) (status : Status)
-    → ((parts : List (List Table)) → IfSome (held_under held names) (λ contents. SpellTables (stage_of task) contents parts → IsUnreadFile fault))
-    → ((file line : ℕ) (kind : TextKind) → IfSome (held_under held (take file names)) (λ contents. HasTextFault (stage_of task) 1 contents file line kind → IsUnreadFile fault ⊎ (fault ≡ refused_text file line kind)))
-    → IfSome (told_for held names status) (λ contents. IsRefusal task contents day status → IsUnread (file_status fault) ⊎ (file_status fault ≡ status))
+    → ((parts : List (List Table)) →
+    IfSome (held_under held names) (λ contents. SpellTables (stage_of task) contents parts → IsUnreadFile fault))
+    → ((file line : ℕ) (kind : TextKind) →
+    IfSome (held_under held (take file names)) (λ contents. HasTextFault (stage_of task) 1 contents file line kind →
+    IsUnreadFile fault ⊎ (fault ≡ refused_text file line kind)))
+    → IfSome (told_for held names status) (λ contents. IsRefusal task contents day status →
+    IsUnread (file_status fault) ⊎ (file_status fault ≡ status))
 unread_refused task held names day fault status only exact = elim (parts_of status) [
   | inl t ↦
       let text : Status = statuses.Input (inputs.Text t.file t.fault) in
       let s = file_status fault in
-      let Goal : Status → Type 0 = λ status. IfSome (told_for held names status) (λ contents. IsRefusal task contents day status → IsUnread s ⊎ (s ≡ status)) in
+      let Goal : Status → Type 0 =
+      λ status. IfSome (told_for held names status) (λ contents. IsRefusal task contents day status → IsUnread s ⊎ (s ≡ status)) in
       let told = held_under held (take t.file names) in
       let at : Goal text = if_told told (λ contents. IsRefusal task contents day text → IsUnread s ⊎ (s ≡ text)) (λ contents e refusal.
-      let found = of_told told (λ contents. HasTextFault (stage_of task) 1 contents t.file t.fault.line t.fault.kind → IsUnreadFile fault ⊎ (fault ≡ refused_text t.file t.fault.line t.fault.kind)) contents e (exact t.file t.fault.line t.fault.kind) refusal in
+      let found = of_told told (λ contents. HasTextFault (stage_of task) 1 contents t.file t.fault.line t.fault.kind →
+      IsUnreadFile fault ⊎ (fault ≡ refused_text t.file t.fault.line t.fault.kind)) contents e
+      (exact t.file t.fault.line t.fault.kind) refusal in
       fault_is fault t.file t.fault.line t.fault.kind found) in
       subst Goal (sym t.is) at
-  | inr other ↦ if_told (told_for held names status) (λ contents. IsRefusal task contents day status → IsUnread (file_status fault) ⊎ (file_status fault ≡ status)) (λ contents told refusal.
+  | inr other ↦ if_told (told_for held names status) (λ contents. IsRefusal task contents day status →
+      IsUnread (file_status fault) ⊎ (file_status fault ≡ status)) (λ contents told refusal.
       let t = other.refusal task contents day refusal in
-      inl (unread_status fault (of_told (held_under held names) (λ contents. SpellTables (stage_of task) contents t.parts → IsUnreadFile fault) contents (told_others held names contents status other told) (only t.parts) t.spelled)))
+      inl (unread_status fault
+      (of_told (held_under held names) (λ contents. SpellTables (stage_of task) contents t.parts → IsUnreadFile fault) contents
+      (told_others held names contents status other told) (only t.parts) t.spelled)))
 ]
 
 -- a read fault of a file is answered as that status
-pub still_status : (fault : FileFault) (file : ℕ) → fault ≡ files.Read file → (status : Status) → status ≡ file_status fault → status ≡ statuses.ReadFault file
+pub still_status : (fault : FileFault) (file : ℕ) → fault ≡ files.Read file → (status : Status) → status ≡ file_status fault →
+    status ≡ statuses.ReadFault file
 still_status fault file same status is = is ∙ ap file_status same

@@ -21,7 +21,8 @@ either : (facts : DayFacts) → HasCertOrCause facts
 either facts = cert-or-cause facts (planning_ends_once facts)
 
 -- a day with a certificate is not refused
-pub cert_text_no_cause : (asked : Asked) (tables : List Table) (day : ℕ) (bytes : List ℕ) (s : Status) → (is_of_planning s && asked.numbers.climb) ≡ false → IsCertText asked tables day bytes
+pub cert_text_no_cause : (asked : Asked) (tables : List Table) (day : ℕ) (bytes : List ℕ) (s : Status) →
+    (is_of_planning s && asked.numbers.climb) ≡ false → IsCertText asked tables day bytes
     → IsPlanCause asked tables day s → ⊥
 cert_text_no_cause asked tables day bytes s settled p (inl q) = model_no_cause tables day p.facts s p.model q
 cert_text_no_cause asked tables day bytes s settled p (inr q) =
@@ -29,6 +30,8 @@ cert_text_no_cause asked tables day bytes s settled p (inr q) =
     q.told (either q.facts asked (in_rounds asked q.fault s q.told q.is settled) bytes q.fault written q.cause)
 
 -- one certificate of the tables
-pub one_certificate : (asked : Asked) → asked.numbers.climb ≡ false → (tables : List Table) (day : ℕ) (xs ys : List ℕ) → IsCertText asked tables day xs → IsCertText asked tables day ys → xs ≡ ys
+pub one_certificate : (asked : Asked) → asked.numbers.climb ≡ false → (tables : List Table) (day : ℕ) (xs ys : List ℕ) →
+    IsCertText asked tables day xs → IsCertText asked tables day ys → xs ≡ ys
 one_certificate asked fixed tables day xs ys p q =
-    days_certificate q.facts asked fixed xs ys (same_certificates p.facts q.facts (days_alike tables day p.facts q.facts p.model q.model) asked xs p.cert) q.cert
+    days_certificate q.facts asked fixed xs ys
+    (same_certificates p.facts q.facts (days_alike tables day p.facts q.facts p.model q.model) asked xs p.cert) q.cert

@@ -49,7 +49,8 @@ two_more (x ∷ xs) y z = let rest = two_more xs y z in omega (arith, rest)
 count_is : (xs : List (List Table)) (y z : List Table) (count : ℕ) → length (xs ++ y ∷ z ∷ []) ≡ count + 2 → length xs ≡ count
 count_is xs y z count e = let both : length xs + 2 ≡ count + 2 = sym (two_more xs y z) ∙ e in omega (arith, both)
 
-pub whole_at : (planning : List (List Table)) (plan cert : List Table) (day : ℕ) (ending : Status) (bytes : List ℕ) → IsCheckText (joined planning) plan cert day ending bytes
+pub whole_at : (planning : List (List Table)) (plan cert : List Table) (day : ℕ) (ending : Status) (bytes : List ℕ) →
+    IsCheckText (joined planning) plan cert day ending bytes
     → IsWhole (Check (length planning)) (planning ++ plan ∷ cert ∷ []) day ending bytes
 whole_at planning plan cert day ending bytes h =
     let parts : List (List Table) = planning ++ plan ∷ cert ∷ [] in
@@ -59,7 +60,8 @@ whole_at planning plan cert day ending bytes h =
     subst (λ p. P (take (length planning) parts) p cert) (sym (plan_of planning plan cert [])) one in
     subst (λ c. P (take (length planning) parts) (slice_index_or parts (length planning) []) c) (sym (cert_of planning plan cert [])) two
 
-refused_at : (planning : List (List Table)) (plan cert : List Table) (day : ℕ) (status : Status) → IsModelRefused (joined planning) day status
+refused_at : (planning : List (List Table)) (plan cert : List Table) (day : ℕ) (status : Status) →
+    IsModelRefused (joined planning) day status
     → ArePartsRefused (Check (length planning)) (planning ++ plan ∷ cert ∷ []) day status
 refused_at planning plan cert day status h =
     let P : List (List Table) → Type 0 = λ front. IsModelRefused (joined front) day status in
@@ -69,8 +71,10 @@ refused_at planning plan cert day status h =
 abbrev AreParts : List (List Table) → List (List Table) → List Table → List Table → Type 0
 AreParts parts planning plan cert = parts ≡ planning ++ plan ∷ cert ∷ []
 
-check_at : (count : ℕ) (parts planning : List (List Table)) (plan cert tables : List Table) (day : ℕ) (r : Result Outcome Status) → AreParts parts planning plan cert
-    → length parts ≡ count + 2 → tables ≡ joined planning → IfOk r (λ o. IsCheckText tables plan cert day o.ending o.text) → IfOk r (λ o. IsWhole (Check count) parts day o.ending o.text)
+check_at : (count : ℕ) (parts planning : List (List Table)) (plan cert tables : List Table) (day : ℕ) (r : Result Outcome Status) →
+    AreParts parts planning plan cert
+    → length parts ≡ count + 2 → tables ≡ joined planning → IfOk r (λ o. IsCheckText tables plan cert day o.ending o.text) →
+    IfOk r (λ o. IsWhole (Check count) parts day o.ending o.text)
 check_at count parts planning plan cert tables day (Err s) are number same h = tt
 check_at count parts planning plan cert tables day (Ok o) are number same h =
     let number_of : length (planning ++ plan ∷ cert ∷ []) ≡ count + 2 = ap length (sym are) ∙ number in
@@ -81,8 +85,10 @@ check_at count parts planning plan cert tables day (Ok o) are number same h =
     let R : ℕ → Type 0 = λ n. IsWhole (Check n) parts day o.ending o.text in
     subst R count_same (subst Q (sym are) there)
 
-check_refused_at : (count : ℕ) (parts planning : List (List Table)) (plan cert tables : List Table) (day : ℕ) (r : Result Outcome Status) → AreParts parts planning plan cert
-    → length parts ≡ count + 2 → tables ≡ joined planning → IfErr r (IsModelRefused tables day) → IfErr r (ArePartsRefused (Check count) parts day)
+check_refused_at : (count : ℕ) (parts planning : List (List Table)) (plan cert tables : List Table) (day : ℕ) (r : Result Outcome Status) →
+    AreParts parts planning plan cert
+    → length parts ≡ count + 2 → tables ≡ joined planning → IfErr r (IsModelRefused tables day) →
+    IfErr r (ArePartsRefused (Check count) parts day)
 check_refused_at count parts planning plan cert tables day (Ok o) are number same h = tt
 check_refused_at count parts planning plan cert tables day (Err s) are number same h =
     let number_of : length (planning ++ plan ∷ cert ∷ []) ≡ count + 2 = ap length (sym are) ∙ number in
@@ -93,10 +99,13 @@ check_refused_at count parts planning plan cert tables day (Err s) are number sa
     let R : ℕ → Type 0 = λ n. ArePartsRefused (Check n) parts day s in
     subst R count_same (subst Q (sym are) there)
 
-pub check_whole : (command : Command) (effort : Effort) (flow : Bool) (n : ℕ) → is_check command ≡ true → (parts planning : List (List Table)) (plan cert tables : List Table) (day : ℕ) (r : Result Outcome Status)
-    → AreParts parts planning plan cert → HasParts (task_for command effort flow n) (length parts) → tables ≡ joined planning → IfOk r (λ o. IsCheckText tables plan cert day o.ending o.text)
+pub check_whole : (command : Command) (effort : Effort) (flow : Bool) (n : ℕ) → is_check command ≡ true →
+    (parts planning : List (List Table)) (plan cert tables : List Table) (day : ℕ) (r : Result Outcome Status)
+    → AreParts parts planning plan cert → HasParts (task_for command effort flow n) (length parts) → tables ≡ joined planning →
+    IfOk r (λ o. IsCheckText tables plan cert day o.ending o.text)
     → IfOk r (λ o. IsWhole (task_for command effort flow n) parts day o.ending o.text)
-check_whole commands.Check effort flow n is parts planning plan cert tables day r are number same h = check_at (n - 2) parts planning plan cert tables day r are number same h
+check_whole commands.Check effort flow n is parts planning plan cert tables day r are number same h =
+    check_at (n - 2) parts planning plan cert tables day r are number same h
 check_whole commands.Trips effort flow n is parts planning plan cert tables day r are number same h = absurd (let bad = is in cc)
 check_whole commands.Day effort flow n is parts planning plan cert tables day r are number same h = absurd (let bad = is in cc)
 check_whole commands.Plan effort flow n is parts planning plan cert tables day r are number same h = absurd (let bad = is in cc)
@@ -105,30 +114,38 @@ check_whole (commands.Make making) effort flow n is parts planning plan cert tab
 check_whole (commands.Replan moment) effort flow n is parts planning plan cert tables day r are number same h = absurd (let bad = is in cc)
 check_whole commands.Week effort flow n is parts planning plan cert tables day r are number same h = absurd (let bad = is in cc)
 
-pub check_refused : (command : Command) (effort : Effort) (flow : Bool) (n : ℕ) → is_check command ≡ true → (parts planning : List (List Table)) (plan cert tables : List Table) (day : ℕ) (r : Result Outcome Status)
-    → AreParts parts planning plan cert → HasParts (task_for command effort flow n) (length parts) → tables ≡ joined planning → IfErr r (IsModelRefused tables day)
+pub check_refused : (command : Command) (effort : Effort) (flow : Bool) (n : ℕ) → is_check command ≡ true →
+    (parts planning : List (List Table)) (plan cert tables : List Table) (day : ℕ) (r : Result Outcome Status)
+    → AreParts parts planning plan cert → HasParts (task_for command effort flow n) (length parts) → tables ≡ joined planning →
+    IfErr r (IsModelRefused tables day)
     → IfErr r (ArePartsRefused (task_for command effort flow n) parts day)
-check_refused commands.Check effort flow n is parts planning plan cert tables day r are number same h = check_refused_at (n - 2) parts planning plan cert tables day r are number same h
+check_refused commands.Check effort flow n is parts planning plan cert tables day r are number same h =
+    check_refused_at (n - 2) parts planning plan cert tables day r are number same h
 check_refused commands.Trips effort flow n is parts planning plan cert tables day r are number same h = absurd (let bad = is in cc)
 check_refused commands.Day effort flow n is parts planning plan cert tables day r are number same h = absurd (let bad = is in cc)
 check_refused commands.Plan effort flow n is parts planning plan cert tables day r are number same h = absurd (let bad = is in cc)
 check_refused commands.Certify effort flow n is parts planning plan cert tables day r are number same h = absurd (let bad = is in cc)
 check_refused (commands.Make making) effort flow n is parts planning plan cert tables day r are number same h = absurd (let bad = is in cc)
-check_refused (commands.Replan moment) effort flow n is parts planning plan cert tables day r are number same h = absurd (let bad = is in cc)
+check_refused (commands.Replan moment) effort flow n is parts planning plan cert tables day r are number same h =
+    absurd (let bad = is in cc)
 check_refused commands.Week effort flow n is parts planning plan cert tables day r are number same h = absurd (let bad = is in cc)
 
 -- a text from planning tables alone is the task's whole answer, and ends with Ok
-made_whole : (run : Bool) (seed trips : ℕ) (asked : Asked) (parts : List (List Table)) (day : ℕ) (bytes : List ℕ) → IsText (make_task run seed trips asked) (joined parts) day bytes
+made_whole : (run : Bool) (seed trips : ℕ) (asked : Asked) (parts : List (List Table)) (day : ℕ) (bytes : List ℕ) →
+    IsText (make_task run seed trips asked) (joined parts) day bytes
     → IsWhole (make_task run seed trips asked) parts day statuses.Ok bytes
 made_whole true seed trips asked parts day bytes h = (h, refl)
 made_whole false seed trips asked parts day bytes h = (h, refl)
 
-text_whole : (command : Command) (effort : Effort) (flow : Bool) (n : ℕ) → reads_plan command ≡ false → (parts : List (List Table)) (tables : List Table) (day : ℕ) (bytes : List ℕ) → tables ≡ joined parts
+text_whole : (command : Command) (effort : Effort) (flow : Bool) (n : ℕ) → reads_plan command ≡ false →
+    (parts : List (List Table)) (tables : List Table) (day : ℕ) (bytes : List ℕ) → tables ≡ joined parts
     → IsText (task_for command effort flow n) tables day bytes → IsWhole (task_for command effort flow n) parts day statuses.Ok bytes
 text_whole commands.Trips effort flow n is parts tables day bytes same h = (subst (λ ts. IsText Trips ts day bytes) same h, refl)
 text_whole commands.Day effort flow n is parts tables day bytes same h = (subst (λ ts. IsText Day ts day bytes) same h, refl)
-text_whole commands.Plan effort flow n is parts tables day bytes same h = (subst (λ ts. IsText (Plan (asked_by effort flow)) ts day bytes) same h, refl)
-text_whole commands.Certify effort flow n is parts tables day bytes same h = (subst (λ ts. IsText (Certify (asked_by effort flow)) ts day bytes) same h, refl)
+text_whole commands.Plan effort flow n is parts tables day bytes same h =
+    (subst (λ ts. IsText (Plan (asked_by effort flow)) ts day bytes) same h, refl)
+text_whole commands.Certify effort flow n is parts tables day bytes same h =
+    (subst (λ ts. IsText (Certify (asked_by effort flow)) ts day bytes) same h, refl)
 text_whole commands.Check effort flow n is parts tables day bytes same h = absurd (let bad = is in cc)
 text_whole (commands.Make making) effort flow n is parts tables day bytes same h =
     let P : List Table → Type 0 = λ ts. IsText (make_task making.run making.seed making.trips (asked_by effort false)) ts day bytes in
@@ -136,17 +153,22 @@ text_whole (commands.Make making) effort flow n is parts tables day bytes same h
 text_whole (commands.Replan moment) effort flow n is parts tables day bytes same h = absurd (let bad = is in cc)
 text_whole commands.Week effort flow n is parts tables day bytes same h = (subst (λ ts. IsText Week ts day bytes) same h, refl)
 
-pub texts_whole : (command : Command) (effort : Effort) (flow : Bool) (n : ℕ) → reads_plan command ≡ false → (parts : List (List Table)) (tables : List Table) (day : ℕ) (r : Result Outcome Status) → tables ≡ joined parts
-    → IfOk r (λ o. IsText (task_for command effort flow n) tables day o.text × (o.ending ≡ statuses.Ok)) → IfOk r (λ o. IsWhole (task_for command effort flow n) parts day o.ending o.text)
+pub texts_whole : (command : Command) (effort : Effort) (flow : Bool) (n : ℕ) → reads_plan command ≡ false →
+    (parts : List (List Table)) (tables : List Table) (day : ℕ) (r : Result Outcome Status) → tables ≡ joined parts
+    → IfOk r (λ o. IsText (task_for command effort flow n) tables day o.text × (o.ending ≡ statuses.Ok)) →
+    IfOk r (λ o. IsWhole (task_for command effort flow n) parts day o.ending o.text)
 texts_whole command effort flow n is parts tables day (Ok o) same h =
-    let P : Status → Type 0 = λ s. IsWhole (task_for command effort flow n) parts day s o.text in subst P (sym h.1) (text_whole command effort flow n is parts tables day o.text same h.0)
+    let P : Status → Type 0 = λ s. IsWhole (task_for command effort flow n) parts day s o.text in
+    subst P (sym h.1) (text_whole command effort flow n is parts tables day o.text same h.0)
 texts_whole command effort flow n is parts tables day (Err s) same h = tt
 
-made_tables_all : (run : Bool) (seed trips : ℕ) (asked : Asked) (parts : List (List Table)) → joined parts ≡ tables_in (make_task run seed trips asked) parts
+made_tables_all : (run : Bool) (seed trips : ℕ) (asked : Asked) (parts : List (List Table)) →
+    joined parts ≡ tables_in (make_task run seed trips asked) parts
 made_tables_all true seed trips asked parts = refl
 made_tables_all false seed trips asked parts = refl
 
-tables_all : (command : Command) (effort : Effort) (flow : Bool) (n : ℕ) → reads_plan command ≡ false → (parts : List (List Table)) → joined parts ≡ tables_in (task_for command effort flow n) parts
+tables_all : (command : Command) (effort : Effort) (flow : Bool) (n : ℕ) → reads_plan command ≡ false → (parts : List (List Table)) →
+    joined parts ≡ tables_in (task_for command effort flow n) parts
 tables_all commands.Trips effort flow n is parts = refl
 tables_all commands.Day effort flow n is parts = refl
 tables_all commands.Plan effort flow n is parts = refl
@@ -157,28 +179,34 @@ tables_all (commands.Replan moment) effort flow n is parts = absurd (let bad = i
 tables_all commands.Week effort flow n is parts = refl
 
 made_refused : (run : Bool) (seed trips : ℕ) (asked : Asked) (parts : List (List Table)) (day : ℕ) (status : Status)
-    → IsRefused (make_task run seed trips asked) (tables_in (make_task run seed trips asked) parts) day status → ArePartsRefused (make_task run seed trips asked) parts day status
+    → IsRefused (make_task run seed trips asked) (tables_in (make_task run seed trips asked) parts) day status →
+    ArePartsRefused (make_task run seed trips asked) parts day status
 made_refused true seed trips asked parts day status h = h
 made_refused false seed trips asked parts day status h = h
 
-parts_refused : (command : Command) (effort : Effort) (flow : Bool) (n : ℕ) → reads_plan command ≡ false → (parts : List (List Table)) (day : ℕ) (status : Status)
-    → IsRefused (task_for command effort flow n) (tables_in (task_for command effort flow n) parts) day status → ArePartsRefused (task_for command effort flow n) parts day status
+parts_refused : (command : Command) (effort : Effort) (flow : Bool) (n : ℕ) → reads_plan command ≡ false →
+    (parts : List (List Table)) (day : ℕ) (status : Status)
+    → IsRefused (task_for command effort flow n) (tables_in (task_for command effort flow n) parts) day status →
+    ArePartsRefused (task_for command effort flow n) parts day status
 parts_refused commands.Trips effort flow n is parts day status h = h
 parts_refused commands.Day effort flow n is parts day status h = h
 parts_refused commands.Plan effort flow n is parts day status h = h
 parts_refused commands.Certify effort flow n is parts day status h = h
 parts_refused commands.Check effort flow n is parts day status h = absurd (let bad = is in cc)
-parts_refused (commands.Make making) effort flow n is parts day status h = made_refused making.run making.seed making.trips (asked_by effort false) parts day status h
+parts_refused (commands.Make making) effort flow n is parts day status h =
+    made_refused making.run making.seed making.trips (asked_by effort false) parts day status h
 parts_refused (commands.Replan moment) effort flow n is parts day status h = absurd (let bad = is in cc)
 parts_refused commands.Week effort flow n is parts day status h = h
 
-text_refused : (command : Command) (effort : Effort) (flow : Bool) (n : ℕ) → reads_plan command ≡ false → (parts : List (List Table)) (tables : List Table) (day : ℕ) (status : Status) → tables ≡ joined parts
+text_refused : (command : Command) (effort : Effort) (flow : Bool) (n : ℕ) → reads_plan command ≡ false →
+    (parts : List (List Table)) (tables : List Table) (day : ℕ) (status : Status) → tables ≡ joined parts
     → IsRefused (task_for command effort flow n) tables day status → ArePartsRefused (task_for command effort flow n) parts day status
 text_refused command effort flow n is parts tables day status same h =
     let P : List Table → Type 0 = λ ts. IsRefused (task_for command effort flow n) ts day status in
     parts_refused command effort flow n is parts day status (subst P (same ∙ tables_all command effort flow n is parts) h)
 
-pub texts_refused : (command : Command) (effort : Effort) (flow : Bool) (n : ℕ) → reads_plan command ≡ false → (parts : List (List Table)) (tables : List Table) (day : ℕ) (r : Result Outcome Status) → tables ≡ joined parts
+pub texts_refused : (command : Command) (effort : Effort) (flow : Bool) (n : ℕ) → reads_plan command ≡ false →
+    (parts : List (List Table)) (tables : List Table) (day : ℕ) (r : Result Outcome Status) → tables ≡ joined parts
     → IfErr r (IsRefused (task_for command effort flow n) tables day) → IfErr r (ArePartsRefused (task_for command effort flow n) parts day)
 texts_refused command effort flow n is parts tables day (Ok o) same h = tt
 texts_refused command effort flow n is parts tables day (Err s) same h = text_refused command effort flow n is parts tables day s same h
@@ -188,8 +216,10 @@ done_of : (answer : Answered) → is_done (ending_of answer) ≡ true
 done_of (Yes vehicles block_cost duty_count duty_cost) = refl
 done_of (No reason) = refl
 
-ends_so : (task : Task) (parts : List (List Table)) (day : ℕ) (ending : Status) (bytes : List ℕ) → IsWhole task parts day ending bytes → IsEndingOf task ending
-ends_so (Check count) parts day ending bytes h = let P : Status → Type 0 = λ s. is_done s ≡ true in subst P (sym h.check.ends) (done_of h.check.answer)
+ends_so : (task : Task) (parts : List (List Table)) (day : ℕ) (ending : Status) (bytes : List ℕ) → IsWhole task parts day ending bytes →
+    IsEndingOf task ending
+ends_so (Check count) parts day ending bytes h =
+    let P : Status → Type 0 = λ s. is_done s ≡ true in subst P (sym h.check.ends) (done_of h.check.answer)
 ends_so Trips parts day ending bytes h = h.1
 ends_so Day parts day ending bytes h = h.1
 ends_so (Plan asked) parts day ending bytes h = h.1
@@ -199,7 +229,8 @@ ends_so (MakeRun seed trips asked) parts day ending bytes h = h.1
 ends_so (Replan count moment numbers) parts day ending bytes h = h.1
 ends_so Week parts day ending bytes h = h.1
 
-pub ends_well : (task : Task) (parts : List (List Table)) (day : ℕ) (r : Result Outcome Status) → IfOk r (λ o. IsWhole task parts day o.ending o.text) → IfOk r (λ o. IsEndingOf task o.ending)
+pub ends_well : (task : Task) (parts : List (List Table)) (day : ℕ) (r : Result Outcome Status) →
+    IfOk r (λ o. IsWhole task parts day o.ending o.text) → IfOk r (λ o. IsEndingOf task o.ending)
 ends_well task parts day (Ok o) h = ends_so task parts day o.ending o.text h
 ends_well task parts day (Err s) h = tt
 
@@ -222,7 +253,8 @@ made_parts : (run : Bool) (seed trips : ℕ) (asked : Asked) (n : ℕ) → HasPa
 made_parts true seed trips asked n = tt
 made_parts false seed trips asked n = tt
 
-pub has_parts : (command : Command) (effort : Effort) (flow : Bool) (n : ℕ) → HasNames command n → HasParts (task_for command effort flow n) n
+pub has_parts : (command : Command) (effort : Effort) (flow : Bool) (n : ℕ) → HasNames command n →
+    HasParts (task_for command effort flow n) n
 has_parts commands.Trips effort flow n names = tt
 has_parts commands.Day effort flow n names = tt
 has_parts commands.Plan effort flow n names = tt
@@ -256,7 +288,8 @@ least_of_check commands.Week n is names = absurd (let bad = is in cc)
 one_less : (n : ℕ) → 3 ≤ n → n - 3 ≡ n - 2 - 1
 one_less n least = omega (arith, least)
 
-pub check_stage : (command : Command) (effort : Effort) (flow : Bool) (n : ℕ) → is_check command ≡ true → HasNames command n → stages.Planning (n - 3) most_bytes ≡ stage_of (task_for command effort flow n)
+pub check_stage : (command : Command) (effort : Effort) (flow : Bool) (n : ℕ) → is_check command ≡ true → HasNames command n →
+    stages.Planning (n - 3) most_bytes ≡ stage_of (task_for command effort flow n)
 check_stage commands.Check effort flow n is names = ap (λ m. stages.Planning m most_bytes) (one_less n names.0)
 check_stage commands.Trips effort flow n is names = absurd (let bad = is in cc)
 check_stage commands.Day effort flow n is names = absurd (let bad = is in cc)
@@ -270,7 +303,8 @@ made_stage : (run : Bool) (seed trips : ℕ) (asked : Asked) → stages.Planning
 made_stage true seed trips asked = refl
 made_stage false seed trips asked = refl
 
-pub text_stage : (command : Command) (effort : Effort) (flow : Bool) (n : ℕ) → reads_plan command ≡ false → stages.Planning 63 most_bytes ≡ stage_of (task_for command effort flow n)
+pub text_stage : (command : Command) (effort : Effort) (flow : Bool) (n : ℕ) → reads_plan command ≡ false →
+    stages.Planning 63 most_bytes ≡ stage_of (task_for command effort flow n)
 text_stage commands.Trips effort flow n is = refl
 text_stage commands.Day effort flow n is = refl
 text_stage commands.Plan effort flow n is = refl

@@ -30,8 +30,10 @@ module _ (seed trips : ℕ) (few : trips ≤ 3000) where
 
   no_fault_of_day : (fault : DayFault) → IsDayFault (net_of needs.All (made_tables seed trips)) 20260302 fault → ⊥
   no_fault_of_day days.NoDate wrong = wrong (has_kind seed trips).civil
-  no_fault_of_day days.NoVersion wrong = let same : ◌≡◌ {A = Option ℕ} None (Some 1) = sym wrong.1 ∙ (has_kind seed trips).version in absurd (cc)
-  no_fault_of_day days.NoDay wrong = let same : ◌≡◌ {A = Option ℕ} None (Some 1) = sym wrong.1 ∙ (has_kind seed trips).kind_is in absurd (cc)
+  no_fault_of_day days.NoVersion wrong =
+      let same : ◌≡◌ {A = Option ℕ} None (Some 1) = sym wrong.1 ∙ (has_kind seed trips).version in absurd (cc)
+  no_fault_of_day days.NoDay wrong =
+      let same : ◌≡◌ {A = Option ℕ} None (Some 1) = sym wrong.1 ∙ (has_kind seed trips).kind_is in absurd (cc)
 
   no_input : (fault : InputFault) → IsModelCause (made_tables seed trips) 20260302 (statuses.Input fault) → ⊥
   no_input (inputs.Text file fault) cause = cause
@@ -56,7 +58,8 @@ module _ (seed trips : ℕ) (few : trips ≤ 3000) where
 
   planned : (asked : Asked) (status : Status) → IsUnplanned asked (made_tables seed trips) 20260302 status → ⊥
   planned asked status un =
-      un.told (made_refused seed trips 20260302 un.facts few (record { kind_is = un.model.model.kind_is; day_is = un.model.model.day_is }) asked un.fault un.cause)
+      un.told (made_refused seed trips 20260302 un.facts few (record { kind_is = un.model.model.kind_is; day_is = un.model.model.day_is })
+      asked un.fault un.cause)
 
   no_cause : (asked : Asked) (status : Status) → IsPlanCause asked (made_tables seed trips) 20260302 status → ⊥
   no_cause asked status (inl model) = no_model_cause status model

@@ -30,14 +30,16 @@ use Rattle.planner_run.specs.Trips.{IsDayFault}
 use Rattle.planner_run.proofs.Outcomes.{kind_no_fault, kinds_same, none_some, one_day_fault, some_same}
 
 -- the first reason against a day does not hang on its weekday
-pub rows_same : (net : Net) (day : ℕ) (a b : DayKind) (xs ys : List ℕ) → IsKindOf net day a → IsKindOf net day b → AreDayRows net.trips a.version a.kind xs → AreDayRows net.trips b.version b.kind ys → xs ≡ ys
+pub rows_same : (net : Net) (day : ℕ) (a b : DayKind) (xs ys : List ℕ) → IsKindOf net day a → IsKindOf net day b →
+    AreDayRows net.trips a.version a.kind xs → AreDayRows net.trips b.version b.kind ys → xs ≡ ys
 rows_same net day a b xs ys p q rows rows' =
     let same = kinds_same net day a b p q in
     let P : ℕ → Type 0 = λ v. AreDayRows net.trips v a.kind xs in
     let Q : ℕ → Type 0 = λ k. AreDayRows net.trips b.version k xs in
     one_list net.trips b.version b.kind xs ys (subst Q same.1 (subst P same.0 rows)) rows'
 
-fault_same : (net : Net) (day : ℕ) (a b : DayKind) (xs ys : List ℕ) → IsKindOf net day a → IsKindOf net day b → AreDayRows net.trips a.version a.kind xs → AreDayRows net.trips b.version b.kind ys → day_fault net a xs ≡ day_fault net b ys
+fault_same : (net : Net) (day : ℕ) (a b : DayKind) (xs ys : List ℕ) → IsKindOf net day a → IsKindOf net day b →
+    AreDayRows net.trips a.version a.kind xs → AreDayRows net.trips b.version b.kind ys → day_fault net a xs ≡ day_fault net b ys
 fault_same net day a b xs ys p q rows rows' =
     let same = kinds_same net day a b p q in
     let list : xs ≡ ys = rows_same net day a b xs ys p q rows rows' in
@@ -49,7 +51,8 @@ one_fault net day f g p q =
     some_same (day_fault net p.kind p.wrong.places) f g p.wrong.is (same ∙ q.wrong.is)
 
 -- a day that is there has none
-no_fault : {A : Type 0} (net : Net) (day : ℕ) (facts : DayFacts) (f : DayModelFault) → IsModelIn net day facts → HasModelFaultIn net day f → A
+no_fault : {A : Type 0} (net : Net) (day : ℕ) (facts : DayFacts) (f : DayModelFault) → IsModelIn net day facts →
+    HasModelFaultIn net day f → A
 no_fault net day facts f p q =
     let same = fault_same net day facts.kind q.kind facts.rows q.wrong.places p.kind_is q.kind_is p.day_is.rows q.wrong.rows in
     none_some (day_fault net facts.kind facts.rows) f (faultless net facts.kind facts p.day_is) (same ∙ q.wrong.is)
@@ -58,7 +61,8 @@ no_fault net day facts f p q =
 abbrev Kinds : List Table → ℕ → Status → Type 0
 Kinds tables day status =
     ((fault : TableFault) × (status ≡ statuses.Input (inputs.Table fault)) × (first_fault (schemas_of needs.All) tables ≡ Some fault))
-    ⊎ (((fault : DayFault) × (status ≡ statuses.Day fault) × (first_fault (schemas_of needs.All) tables ≡ None) × IsDayFault (net_of needs.All tables) day fault)
+    ⊎ (((fault : DayFault) × (status ≡ statuses.Day fault) × (first_fault (schemas_of needs.All) tables ≡ None)
+    × IsDayFault (net_of needs.All tables) day fault)
     ⊎ ((fault : DayModelFault) × (status ≡ model_status fault) × HasModelFault tables day fault))
 
 kinds_of : (tables : List Table) (day : ℕ) (status : Status) → IsModelCause tables day status → Kinds tables day status
@@ -84,25 +88,33 @@ same_kinds tables day s t (inl p) (inl q) = p.1 ∙ ap (λ f. statuses.Input (in
 same_kinds tables day s t (inl p) (inr (inl q)) = none_some _ p.0 q.2 p.2
 same_kinds tables day s t (inl p) (inr (inr q)) = none_some _ p.0 q.2.faultless p.2
 same_kinds tables day s t (inr (inl p)) (inl q) = none_some _ q.0 p.2 q.2
-same_kinds tables day s t (inr (inl p)) (inr (inl q)) = p.1 ∙ ap (λ f. statuses.Day f) (one_day_fault (net_of needs.All tables) day p.0 q.0 p.3 q.3) ∙ sym q.1
-same_kinds tables day s t (inr (inl p)) (inr (inr q)) = absurd (kind_no_fault (net_of needs.All tables) day q.2.fault_in.kind p.0 q.2.fault_in.kind_is p.3)
+same_kinds tables day s t (inr (inl p)) (inr (inl q)) =
+    p.1 ∙ ap (λ f. statuses.Day f) (one_day_fault (net_of needs.All tables) day p.0 q.0 p.3 q.3) ∙ sym q.1
+same_kinds tables day s t (inr (inl p)) (inr (inr q)) =
+    absurd (kind_no_fault (net_of needs.All tables) day q.2.fault_in.kind p.0 q.2.fault_in.kind_is p.3)
 same_kinds tables day s t (inr (inr p)) (inl q) = none_some _ q.0 p.2.faultless q.2
-same_kinds tables day s t (inr (inr p)) (inr (inl q)) = absurd (kind_no_fault (net_of needs.All tables) day p.2.fault_in.kind q.0 p.2.fault_in.kind_is q.3)
-same_kinds tables day s t (inr (inr p)) (inr (inr q)) = p.1 ∙ ap model_status (one_fault (net_of needs.All tables) day p.0 q.0 p.2.fault_in q.2.fault_in) ∙ sym q.1
+same_kinds tables day s t (inr (inr p)) (inr (inl q)) =
+    absurd (kind_no_fault (net_of needs.All tables) day p.2.fault_in.kind q.0 p.2.fault_in.kind_is q.3)
+same_kinds tables day s t (inr (inr p)) (inr (inr q)) =
+    p.1 ∙ ap model_status (one_fault (net_of needs.All tables) day p.0 q.0 p.2.fault_in q.2.fault_in) ∙ sym q.1
 
 pub one_model_cause : (tables : List Table) (day : ℕ) (s t : Status) → IsModelCause tables day s → IsModelCause tables day t → s ≡ t
 one_model_cause tables day s t p q = same_kinds tables day s t (kinds_of tables day s p) (kinds_of tables day t q)
 
-no_kinds : {A : Type 0} (tables : List Table) (day : ℕ) (facts : DayFacts) (s : Status) → IsModelOf tables day facts → Kinds tables day s → A
+no_kinds : {A : Type 0} (tables : List Table) (day : ℕ) (facts : DayFacts) (s : Status) →
+    IsModelOf tables day facts → Kinds tables day s → A
 no_kinds tables day facts s model (inl q) = none_some _ q.0 model.faultless q.2
-no_kinds tables day facts s model (inr (inl q)) = absurd (kind_no_fault (net_of needs.All tables) day facts.kind q.0 model.model.kind_is q.3)
+no_kinds tables day facts s model (inr (inl q)) =
+    absurd (kind_no_fault (net_of needs.All tables) day facts.kind q.0 model.model.kind_is q.3)
 no_kinds tables day facts s model (inr (inr q)) = no_fault (net_of needs.All tables) day facts q.0 model.model q.2.fault_in
 
 -- a day that is there is not refused
-pub model_no_cause : {A : Type 0} (tables : List Table) (day : ℕ) (facts : DayFacts) (s : Status) → IsModelOf tables day facts → IsModelCause tables day s → A
+pub model_no_cause : {A : Type 0} (tables : List Table) (day : ℕ) (facts : DayFacts) (s : Status) → IsModelOf tables day facts →
+    IsModelCause tables day s → A
 model_no_cause tables day facts s model c = no_kinds tables day facts s model (kinds_of tables day s c)
 
-pub day_text_no_cause : (tables : List Table) (day : ℕ) (bytes : List ℕ) (s : Status) → IsDayText tables day bytes → IsModelCause tables day s → ⊥
+pub day_text_no_cause : (tables : List Table) (day : ℕ) (bytes : List ℕ) (s : Status) → IsDayText tables day bytes →
+    IsModelCause tables day s → ⊥
 day_text_no_cause tables day bytes s p q = model_no_cause tables day p.facts s p.model q
 
 abbrev result_or : {A E : Type 0} → A → Result A E → A
@@ -117,7 +129,8 @@ pub days_alike : (tables : List Table) (day : ℕ) (a b : DayFacts) → IsModelO
 days_alike tables day a b p q =
     let net : Net = net_of needs.All tables in
     let kinds = kinds_same net day a.kind b.kind p.model.kind_is q.model.kind_is in
-    let rows : a.rows ≡ b.rows = rows_same net day a.kind b.kind a.rows b.rows p.model.kind_is q.model.kind_is p.model.day_is.rows q.model.day_is.rows in
+    let rows : a.rows ≡ b.rows =
+    rows_same net day a.kind b.kind a.rows b.rows p.model.kind_is q.model.kind_is p.model.day_is.rows q.model.day_is.rows in
     let timed : timed_rows net a.kind.version (rows_at net.trips a.rows) ≡ timed_rows net b.kind.version (rows_at net.trips b.rows) =
     ap (λ v. timed_rows net v (rows_at net.trips a.rows)) kinds.0 ∙ ap (λ ps. timed_rows net b.kind.version (rows_at net.trips ps)) rows in
     let trips : a.trips ≡ b.trips = ok_same a.trips b.trips _ _ p.model.day_is.trips q.model.day_is.trips timed in
@@ -125,6 +138,7 @@ days_alike tables day a b p q =
     let deads : (x y : Point) → dead a x y ≡ dead b x y = λ x y.
     p.model.day_is.deads x y
     ∙ ap (λ v. if point_eq x y then Some 0 else dead_time_on net v a.params.settings.area a.params.settings.group x y) kinds.0
-    ∙ ap (λ (ps : ParamRows). if point_eq x y then Some 0 else dead_time_on net b.kind.version ps.settings.area ps.settings.group x y) params
+    ∙ ap (λ (ps : ParamRows). if point_eq x y then Some 0 else dead_time_on net b.kind.version ps.settings.area ps.settings.group x y)
+    params
     ∙ sym (q.model.day_is.deads x y) in
     record { versions = kinds.0; kinds = kinds.1; trips = trips; params = params; deads = deads }

@@ -42,7 +42,8 @@ use Rattle.planner_run.proofs.WeekOutcomes.{one_week_text}
 ok_same : {E : Type 0} (xs ys : List Table) (r : Result (List Table) E) → r ≡ Ok xs → r ≡ Ok ys → xs ≡ ys
 ok_same xs ys r p q = let both : Ok xs ≡ Ok ys = sym p ∙ q in cc
 
-one_spelling : (stage : Stage) (contents : List (List ℕ)) (xs ys : List (List Table)) → SpellTables stage contents xs → SpellTables stage contents ys → xs ≡ ys
+one_spelling : (stage : Stage) (contents : List (List ℕ)) (xs ys : List (List Table)) → SpellTables stage contents xs →
+    SpellTables stage contents ys → xs ≡ ys
 one_spelling stage [] xs ys p q = p ∙ sym q
 one_spelling stage (bytes ∷ files) xs ys p q =
     let first : p.0 ≡ q.0 = ok_same p.0 q.0 _ (reads_given (room stage) bytes p.0 p.2) (reads_given (room stage) bytes q.0 q.2) in
@@ -52,9 +53,12 @@ one_spelling stage (bytes ∷ files) xs ys p q =
 -- one text of trips
 one_trips_text : (tables : List Table) (day : ℕ) (xs ys : List ℕ) → IsTripsText tables day xs → IsTripsText tables day ys → xs ≡ ys
 one_trips_text tables day xs ys p q =
-    let places : p.places ≡ q.places = rows_same (net_of needs.Calendar tables) day p.kind q.kind p.places q.places p.day_is.kind_is q.day_is.kind_is p.day_is.rows q.day_is.rows in
+    let places : p.places ≡ q.places =
+    rows_same (net_of needs.Calendar tables) day p.kind q.kind p.places q.places p.day_is.kind_is q.day_is.kind_is
+    p.day_is.rows q.day_is.rows in
     let table : p.table ≡ q.table = some_same (table_of schema.trips tables) p.table q.table p.found q.found in
-    p.written ∙ ap (λ (t : Table). text (picked_table t p.places ∷ [])) table ∙ ap (λ ps. text (picked_table q.table ps ∷ [])) places ∙ sym q.written
+    p.written ∙ ap (λ (t : Table). text (picked_table t p.places ∷ [])) table
+    ∙ ap (λ ps. text (picked_table q.table ps ∷ [])) places ∙ sym q.written
 
 -- one weekday
 abbrev weekday_at : ℤ → ℕ → ℕ → ℕ
@@ -67,12 +71,14 @@ one_weekday day a b p q =
     let both_days : pos p.0.day ≡ pos q.0.day = p.1.2 ∙ sym q.1.2 in
     let months : p.0.month ≡ q.0.month = cc in
     let days : p.0.day ≡ q.0.day = cc in
-    p.2 ∙ ap (λ y. weekday_at y p.0.month p.0.day) years ∙ ap (λ m. weekday_at q.0.year m p.0.day) months ∙ ap (λ d. weekday_at q.0.year q.0.month d) days ∙ sym q.2
+    p.2 ∙ ap (λ y. weekday_at y p.0.month p.0.day) years ∙ ap (λ m. weekday_at q.0.year m p.0.day) months
+    ∙ ap (λ d. weekday_at q.0.year q.0.month d) days ∙ sym q.2
 
 -- one text of a day
 abbrev text_with : Net → DayFacts → ℕ → ℕ → ℕ → ℕ → List ℕ → List Trip → List ℕ
 text_with net facts version kind day weekday rows trips =
-    text (day_tables_of net (record facts { kind = record { version = version; kind = kind; day = day; weekday = weekday }; rows = rows; trips = trips }))
+    text (day_tables_of net
+    (record facts { kind = record { version = version; kind = kind; day = day; weekday = weekday }; rows = rows; trips = trips }))
 
 one_day_text : (tables : List Table) (day : ℕ) (xs ys : List ℕ) → IsDayText tables day xs → IsDayText tables day ys → xs ≡ ys
 one_day_text tables day xs ys p q =
@@ -81,8 +87,11 @@ one_day_text tables day xs ys p q =
     let b = q.facts in
     let kinds = kinds_same net day a.kind b.kind p.model.model.kind_is q.model.model.kind_is in
     let days : a.kind.day ≡ b.kind.day = p.model.model.kind_is.day_is ∙ sym q.model.model.kind_is.day_is in
-    let weekdays : a.kind.weekday ≡ b.kind.weekday = one_weekday day a.kind.weekday b.kind.weekday p.model.model.kind_is.weekday q.model.model.kind_is.weekday in
-    let rows : a.rows ≡ b.rows = rows_same net day a.kind b.kind a.rows b.rows p.model.model.kind_is q.model.model.kind_is p.model.model.day_is.rows q.model.model.day_is.rows in
+    let weekdays : a.kind.weekday ≡ b.kind.weekday =
+    one_weekday day a.kind.weekday b.kind.weekday p.model.model.kind_is.weekday q.model.model.kind_is.weekday in
+    let rows : a.rows ≡ b.rows =
+    rows_same net day a.kind b.kind a.rows b.rows p.model.model.kind_is q.model.model.kind_is p.model.model.day_is.rows
+    q.model.model.day_is.rows in
     let trips : a.trips ≡ b.trips = (days_alike tables day a b p.model q.model).trips in
     p.written
     ∙ ap (λ v. text_with net a v a.kind.kind a.kind.day a.kind.weekday a.rows a.trips) kinds.0
@@ -94,18 +103,24 @@ one_day_text tables day xs ys p q =
     ∙ sym q.written
 
 -- one text of a plan: two days of the tables plan alike, and a day has one text
-one_plan_text : (asked : Asked) → asked.numbers.climb ≡ false → (tables : List Table) (day : ℕ) (xs ys : List ℕ) → IsPlanText asked tables day xs → IsPlanText asked tables day ys → xs ≡ ys
+one_plan_text : (asked : Asked) → asked.numbers.climb ≡ false → (tables : List Table) (day : ℕ) (xs ys : List ℕ) →
+    IsPlanText asked tables day xs → IsPlanText asked tables day ys → xs ≡ ys
 one_plan_text asked fixed tables day xs ys p q =
     let table : p.table ≡ q.table = some_same (table_of schema.trips tables) p.table q.table p.found q.found in
     let P : Table → Type 0 = λ t. IsPlanTextOver p.facts asked t xs in
-    days_text q.facts asked fixed q.table xs ys (same_texts p.facts q.facts (days_alike tables day p.facts q.facts p.model q.model) asked q.table xs (subst P table p.plan)) q.plan
+    days_text q.facts asked fixed q.table xs ys
+    (same_texts p.facts q.facts (days_alike tables day p.facts q.facts p.model q.model) asked q.table xs (subst P table p.plan)) q.plan
 
 -- and one short text
-one_short_text : (asked : Asked) → asked.numbers.climb ≡ false → (tables : List Table) (day : ℕ) (xs ys : List ℕ) → IsShortText asked tables day xs → IsShortText asked tables day ys → xs ≡ ys
+one_short_text : (asked : Asked) → asked.numbers.climb ≡ false → (tables : List Table) (day : ℕ) (xs ys : List ℕ) →
+    IsShortText asked tables day xs → IsShortText asked tables day ys → xs ≡ ys
 one_short_text asked fixed tables day xs ys p q =
-    days_short q.facts asked fixed xs ys (same_short_texts p.facts q.facts (days_alike tables day p.facts q.facts p.model q.model) asked xs p.plan) q.plan
+    days_short q.facts asked fixed xs ys
+    (same_short_texts p.facts q.facts (days_alike tables day p.facts q.facts p.model q.model) asked xs p.plan) q.plan
 
-one_text : (task : Task) → climbs task ≡ false → checks task ≡ false → (parts : List (List Table)) (day : ℕ) (s t : Status) (xs ys : List ℕ) → IsWhole task parts day s xs → IsWhole task parts day t ys → xs ≡ ys
+one_text : (task : Task) → climbs task ≡ false → checks task ≡ false →
+    (parts : List (List Table)) (day : ℕ) (s t : Status) (xs ys : List ℕ) → IsWhole task parts day s xs →
+    IsWhole task parts day t ys → xs ≡ ys
 one_text Trips fixed text parts day s t xs ys p q = one_trips_text (joined parts) day xs ys p.0 q.0
 one_text Day fixed text parts day s t xs ys p q = one_day_text (joined parts) day xs ys p.0 q.0
 one_text (Plan asked) fixed text parts day s t xs ys p q = one_plan_text asked fixed (joined parts) day xs ys p.0 q.0
@@ -115,17 +130,23 @@ one_text (Replan count moment numbers) fixed text parts day s t xs ys p q =
     one_replan_text numbers fixed moment (joined (take count parts)) (slice_index_or parts count []) day xs ys p.0 q.0
 one_text (Make seed trips) fixed text parts day s t xs ys p q = p.0 ∙ sym q.0
 one_text Week fixed text parts day s t xs ys p q = one_week_text (joined parts) xs ys p.0 q.0
-one_text (MakeRun seed trips asked) fixed text parts day s t xs ys p q = one_short_text asked fixed (made_tables seed trips) day xs ys p.0 q.0
+one_text (MakeRun seed trips asked) fixed text parts day s t xs ys p q =
+    one_short_text asked fixed (made_tables seed trips) day xs ys p.0 q.0
 
-pub one_answer : (task : Task) → climbs task ≡ false → checks task ≡ false → (contents : List (List ℕ)) (day : ℕ) (s t : Status) (xs ys : List ℕ) → IsAnswer task contents day s xs → IsAnswer task contents day t ys → xs ≡ ys
+pub one_answer : (task : Task) → climbs task ≡ false → checks task ≡ false →
+    (contents : List (List ℕ)) (day : ℕ) (s t : Status) (xs ys : List ℕ) → IsAnswer task contents day s xs →
+    IsAnswer task contents day t ys → xs ≡ ys
 one_answer task fixed text contents day s t xs ys p q =
     let same : p.parts ≡ q.parts = one_spelling (stage_of task) contents p.parts q.parts p.spelled q.spelled in
     let P : List (List Table) → Type 0 = λ ps. IsWhole task ps day s xs in
     one_text task fixed text q.parts day s t xs ys (subst P same p.written) q.written
 
 -- what was taken is any text that is the one written
-pub same_taken : (old new : Option (List ℕ)) (before now : ℕ) (text bytes : List ℕ) (ending status : Status) → text ≡ bytes → IsWritten old new before now text ending status → is_done status ≡ true → IfSome old (λ bytes_before. new ≡ Some (bytes_before ++ bytes))
+pub same_taken : (old new : Option (List ℕ)) (before now : ℕ) (text bytes : List ℕ) (ending status : Status) → text ≡ bytes →
+    IsWritten old new before now text ending status → is_done status ≡ true →
+    IfSome old (λ bytes_before. new ≡ Some (bytes_before ++ bytes))
 same_taken old new before now text bytes ending status same (inl (is, whole)) done =
     let Q : List ℕ → Type 0 = λ t. IfSome old (λ bytes_before. new ≡ Some (bytes_before ++ t)) in
     subst Q same whole
-same_taken old new before now text bytes ending status same (inr (is, front, rose)) done = let P : Status → Type 0 = λ s. is_done s ≡ true in absurd (let bad = subst P is done in cc)
+same_taken old new before now text bytes ending status same (inr (is, front, rose)) done =
+    let P : Status → Type 0 = λ s. is_done s ≡ true in absurd (let bad = subst P is done in cc)

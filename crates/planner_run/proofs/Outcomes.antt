@@ -27,17 +27,21 @@ pub none_some : {A B : Type 0} (o : Option A) (x : A) → o ≡ None → o ≡ S
 none_some o x p q = let both : None ≡ Some x = sym p ∙ q in cc
 
 -- the number of the day's trips
-rows_count : (trips : List TripRow) (version kind : ℕ) (places : List ℕ) → AreDayRows trips version kind places → length places ≡ length (day_trips trips version kind)
+rows_count : (trips : List TripRow) (version kind : ℕ) (places : List ℕ) → AreDayRows trips version kind places →
+    length places ≡ length (day_trips trips version kind)
 rows_count trips version kind places rows =
-    ap (λ (ps : List ℕ). length ps) rows.are ∙ length-map rows.ordered (λ (t : DayTrip). t.place) ∙ length_permutation (day_trips trips version kind) rows.ordered rows.same
+    ap (λ (ps : List ℕ). length ps) rows.are ∙ length-map rows.ordered (λ (t : DayTrip). t.place)
+    ∙ length_permutation (day_trips trips version kind) rows.ordered rows.same
 
-pub kinds_same : (net : Net) (day : ℕ) (a b : DayKind) → IsKindOf net day a → IsKindOf net day b → (a.version ≡ b.version) × (a.kind ≡ b.kind)
+pub kinds_same : (net : Net) (day : ℕ) (a b : DayKind) → IsKindOf net day a → IsKindOf net day b →
+    (a.version ≡ b.version) × (a.kind ≡ b.kind)
 kinds_same net day a b p q =
     let versions : a.version ≡ b.version = some_same (version_on net day) a.version b.version p.version q.version in
     let there : kind_on net b.version day ≡ Some a.kind = ap (λ v. kind_on net v day) (sym versions) ∙ p.kind_is in
     (versions, some_same (kind_on net b.version day) a.kind b.kind there q.kind_is)
 
-day_count : (tables : List Table) (day : ℕ) (a b : DayKind) (xs ys : List ℕ) → IsDayOf tables day a xs → IsDayOf tables day b ys → length xs ≡ length ys
+day_count : (tables : List Table) (day : ℕ) (a b : DayKind) (xs ys : List ℕ) → IsDayOf tables day a xs →
+    IsDayOf tables day b ys → length xs ≡ length ys
 day_count tables day a b xs ys p q =
     let same = kinds_same (net_of needs.Calendar tables) day a b p.kind_is q.kind_is in
     let trips = (net_of needs.Calendar tables).trips in
@@ -68,8 +72,10 @@ one_day_fault net day days.NoDay days.NoVersion p q =
 one_day_fault net day days.NoDay days.NoDay p q = refl
 
 -- two causes are of one status
-one_cause_from_table : (tables : List Table) (day : ℕ) (fault : TableFault) (t : Status) → first_fault (schemas_of needs.Calendar) tables ≡ Some fault → IsDayCause tables day t → statuses.Input (inputs.Table fault) ≡ t
-one_cause_from_table tables day fault (statuses.Input (inputs.Table other)) p q = ap (λ f. statuses.Input (inputs.Table f)) (some_same _ fault other p q)
+one_cause_from_table : (tables : List Table) (day : ℕ) (fault : TableFault) (t : Status) →
+    first_fault (schemas_of needs.Calendar) tables ≡ Some fault → IsDayCause tables day t → statuses.Input (inputs.Table fault) ≡ t
+one_cause_from_table tables day fault (statuses.Input (inputs.Table other)) p q =
+    ap (λ f. statuses.Input (inputs.Table f)) (some_same _ fault other p q)
 one_cause_from_table tables day fault (statuses.Input (inputs.Trips count)) p q = none_some _ fault q.day_is.faultless p
 one_cause_from_table tables day fault (statuses.Input (inputs.Params other)) p q = absurd q
 one_cause_from_table tables day fault (statuses.Input (inputs.Days first last)) p q = absurd q
@@ -86,13 +92,16 @@ one_cause_from_table tables day fault statuses.WriteFault p q = absurd q
 one_cause_from_table tables day fault (statuses.CheckNo reason) p q = absurd q
 one_cause_from_table tables day fault (statuses.OldPlan reason) p q = absurd q
 
-one_cause_from_day : (tables : List Table) (day : ℕ) (fault : DayFault) (t : Status) → IsDayCause tables day (statuses.Day fault) → IsDayCause tables day t → statuses.Day fault ≡ t
+one_cause_from_day : (tables : List Table) (day : ℕ) (fault : DayFault) (t : Status) → IsDayCause tables day (statuses.Day fault) →
+    IsDayCause tables day t → statuses.Day fault ≡ t
 one_cause_from_day tables day fault (statuses.Input (inputs.Table other)) p q = none_some _ other p.0 q
-one_cause_from_day tables day fault (statuses.Input (inputs.Trips count)) p q = absurd (kind_no_fault (net_of needs.Calendar tables) day q.kind fault q.day_is.kind_is p.1)
+one_cause_from_day tables day fault (statuses.Input (inputs.Trips count)) p q =
+    absurd (kind_no_fault (net_of needs.Calendar tables) day q.kind fault q.day_is.kind_is p.1)
 one_cause_from_day tables day fault (statuses.Input (inputs.Params other)) p q = absurd q
 one_cause_from_day tables day fault (statuses.Input (inputs.Days first last)) p q = absurd q
 one_cause_from_day tables day fault (statuses.Input (inputs.Trip fid other)) p q = absurd q
-one_cause_from_day tables day fault (statuses.Day other) p q = ap (λ f. statuses.Day f) (one_day_fault (net_of needs.Calendar tables) day fault other p.1 q.1)
+one_cause_from_day tables day fault (statuses.Day other) p q =
+    ap (λ f. statuses.Day f) (one_day_fault (net_of needs.Calendar tables) day fault other p.1 q.1)
 one_cause_from_day tables day fault (statuses.NoPlan side bound places) p q = absurd q
 one_cause_from_day tables day fault (statuses.NotPlaced side item name partial) p q = absurd q
 one_cause_from_day tables day fault (statuses.Input (inputs.Text file other)) p q = absurd q
@@ -104,14 +113,17 @@ one_cause_from_day tables day fault statuses.WriteFault p q = absurd q
 one_cause_from_day tables day fault (statuses.CheckNo reason) p q = absurd q
 one_cause_from_day tables day fault (statuses.OldPlan reason) p q = absurd q
 
-one_cause_from_crowd : (tables : List Table) (day count : ℕ) (t : Status) → HasTooMany tables day count → IsDayCause tables day t → statuses.Input (inputs.Trips count) ≡ t
+one_cause_from_crowd : (tables : List Table) (day count : ℕ) (t : Status) → HasTooMany tables day count → IsDayCause tables day t →
+    statuses.Input (inputs.Trips count) ≡ t
 one_cause_from_crowd tables day count (statuses.Input (inputs.Table other)) p q = none_some _ other p.day_is.faultless q
 one_cause_from_crowd tables day count (statuses.Input (inputs.Trips other)) p q =
-    ap (λ n. statuses.Input (inputs.Trips n)) (p.count_is ∙ day_count tables day p.kind q.kind p.places q.places p.day_is q.day_is ∙ sym q.count_is)
+    ap (λ n. statuses.Input (inputs.Trips n))
+    (p.count_is ∙ day_count tables day p.kind q.kind p.places q.places p.day_is q.day_is ∙ sym q.count_is)
 one_cause_from_crowd tables day count (statuses.Input (inputs.Params fault)) p q = absurd q
 one_cause_from_crowd tables day count (statuses.Input (inputs.Days first last)) p q = absurd q
 one_cause_from_crowd tables day count (statuses.Input (inputs.Trip fid fault)) p q = absurd q
-one_cause_from_crowd tables day count (statuses.Day other) p q = absurd (kind_no_fault (net_of needs.Calendar tables) day p.kind other p.day_is.kind_is q.1)
+one_cause_from_crowd tables day count (statuses.Day other) p q =
+    absurd (kind_no_fault (net_of needs.Calendar tables) day p.kind other p.day_is.kind_is q.1)
 one_cause_from_crowd tables day count (statuses.NoPlan side bound places) p q = absurd q
 one_cause_from_crowd tables day count (statuses.NotPlaced side item name partial) p q = absurd q
 one_cause_from_crowd tables day count (statuses.Input (inputs.Text file other)) p q = absurd q
@@ -142,7 +154,8 @@ one_cause tables day (statuses.CheckNo reason) t p q = absurd p
 one_cause tables day (statuses.OldPlan reason) t p q = absurd p
 
 -- a day with a text is not refused
-pub text_no_cause : (tables : List Table) (day : ℕ) (bytes : List ℕ) (s : Status) → IsTripsText tables day bytes → IsDayCause tables day s → ⊥
+pub text_no_cause : (tables : List Table) (day : ℕ) (bytes : List ℕ) (s : Status) → IsTripsText tables day bytes →
+    IsDayCause tables day s → ⊥
 text_no_cause tables day bytes (statuses.Input (inputs.Table fault)) p q = none_some _ fault p.day_is.faultless q
 text_no_cause tables day bytes (statuses.Input (inputs.Trips count)) p q =
     let same = day_count tables day p.kind q.kind p.places q.places p.day_is q.day_is in

@@ -65,16 +65,20 @@ line_of day (statuses.Input (inputs.Text file fault)) =
     joined (codes "file " ∷ decimal file ∷ codes " line " ∷ decimal fault.line ∷ codes ": " ∷ text_kind fault.kind ∷ codes "\n" ∷ [])
 line_of day (statuses.Input (inputs.Table fault)) =
     joined
-    (codes "table " ∷ fault.table ∷ codes " column " ∷ fault.column ∷ codes " row " ∷ decimal fault.row ∷ codes ": " ∷ table_kind fault.kind ∷ codes "\n" ∷ [])
+    (codes "table " ∷ fault.table ∷ codes " column " ∷ fault.column ∷ codes " row " ∷ decimal fault.row ∷ codes ": "
+    ∷ table_kind fault.kind ∷ codes "\n" ∷ [])
 line_of day (statuses.Input (inputs.Trips count)) = joined (codes "trips: " ∷ decimal count ∷ codes "\n" ∷ [])
-line_of day (statuses.Input (inputs.Days first last)) = joined (codes "days: " ∷ decimal first ∷ codes " to " ∷ decimal last ∷ codes "\n" ∷ [])
+line_of day (statuses.Input (inputs.Days first last)) =
+    joined (codes "days: " ∷ decimal first ∷ codes " to " ∷ decimal last ∷ codes "\n" ∷ [])
 line_of day (statuses.Input (inputs.Params fault)) =
     joined (codes "table " ∷ fault.table ∷ codes " row " ∷ decimal fault.row ∷ codes ": " ∷ param_kind fault.kind ∷ codes "\n" ∷ [])
-line_of day (statuses.Input (inputs.Trip fid fault)) = joined (codes "trip " ∷ decimal fid ∷ codes ": " ∷ (trip_words fault ++ codes "\n" ∷ []))
+line_of day (statuses.Input (inputs.Trip fid fault)) =
+    joined (codes "trip " ∷ decimal fid ∷ codes ": " ∷ (trip_words fault ++ codes "\n" ∷ []))
 line_of day (statuses.NoPlan side bound places) =
     joined (codes "no plan: " ∷ side_name side ∷ codes " bound " ∷ decimal bound ∷ codes " places " ∷ decimal places ∷ codes "\n" ∷ [])
 line_of day (statuses.NotPlaced side item name partial) = joined (codes "not placed: " ∷ (item_words name ++ codes "\n" ∷ []))
-line_of day (statuses.OldPlan reason) = joined (codes "old plan " ∷ decimal (reason_number reason) ∷ codes " " ∷ reason_name reason ∷ codes "\n" ∷ [])
+line_of day (statuses.OldPlan reason) =
+    joined (codes "old plan " ∷ decimal (reason_number reason) ∷ codes " " ∷ reason_name reason ∷ codes "\n" ∷ [])
 line_of day (statuses.Day fault) = joined (codes "day " ∷ day ∷ codes ": " ∷ day_kind fault ∷ codes "\n" ∷ [])
 line_of day (statuses.ReadFault file) = joined (codes "read fault: file " ∷ decimal file ∷ codes "\n" ∷ [])
 line_of day statuses.WriteFault = codes "write fault\n"

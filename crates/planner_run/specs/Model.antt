@@ -45,7 +45,8 @@ IsModelCause tables day (statuses.Input (inputs.Table fault)) = first_fault (sch
 IsModelCause tables day (statuses.Input (inputs.Trips count)) = HasModelFault tables day (models.TooManyTrips count)
 IsModelCause tables day (statuses.Input (inputs.Params fault)) = HasModelFault tables day (models.Params fault)
 IsModelCause tables day (statuses.Input (inputs.Trip fid fault)) = HasModelFault tables day (models.Trip fid fault)
-IsModelCause tables day (statuses.Day fault) = (first_fault (schemas_of needs.All) tables ≡ None) × IsDayFault (net_of needs.All tables) day fault
+IsModelCause tables day (statuses.Day fault) =
+    (first_fault (schemas_of needs.All) tables ≡ None) × IsDayFault (net_of needs.All tables) day fault
 IsModelCause tables day _ = ⊥
 
 -- memory ran out, or the tables tell no day
@@ -62,9 +63,11 @@ model_status models.Memory = statuses.Memory
 -- a network has no day: the day has no kind, or there is a first reason against it
 abbrev pub IsModelRefusalIn : Net → ℕ → Status → Type 0
 IsModelRefusalIn net day status =
-    (status ≡ statuses.Memory) ⊎ (IsDayRefusal net day status ⊎ ((fault : DayModelFault) × HasModelFaultIn net day fault × (status ≡ model_status fault)))
+    (status ≡ statuses.Memory) ⊎
+    (IsDayRefusal net day status ⊎ ((fault : DayModelFault) × HasModelFaultIn net day fault × (status ≡ model_status fault)))
 
 -- memory ran out, or the tables that are needed have this first fault
 abbrev pub IsTableRefusal : Needs → List Table → Status → Type 0
 IsTableRefusal needed tables status =
-    (status ≡ statuses.Memory) ⊎ ((fault : TableFault) × (first_fault (schemas_of needed) tables ≡ Some fault) × (status ≡ statuses.Input (inputs.Table fault)))
+    (status ≡ statuses.Memory) ⊎ ((fault : TableFault) × (first_fault (schemas_of needed) tables ≡ Some fault)
+    × (status ≡ statuses.Input (inputs.Table fault)))

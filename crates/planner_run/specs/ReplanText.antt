@@ -14,9 +14,9 @@ use Rattle.planner_run.specs.declared.status.Status.TheVariants as statuses
 use Rattle.planner_run.specs.Model.{IsModelCause, IsModelOf}
 use Rattle.planner_run.specs.PlanText.{plan_status_of}
 
--- The text of the new plan of the day that the planning tables tell, by the tables of an earlier plan and the moment from which it is planned
--- anew: the tables that `plan` writes, of blocks and duties that keep what has begun before the moment, and of bounds on the numbers and costs
--- of all that do.
+-- The text of the new plan of the day that the planning tables tell, by the tables of an earlier plan and the moment from which it is
+-- planned anew: the tables that `plan` writes, of blocks and duties that keep what has begun before the moment, and of bounds on the
+-- numbers and costs of all that do.
 pub record IsReplanText (numbers : Numbers) (moment : ℕ) (tables old : List Table) (day : ℕ) (bytes : List ℕ) : Type 0 where
   pub facts : DayFacts
   pub model : IsModelOf tables day facts
@@ -29,8 +29,8 @@ abbrev pub replan_status_of : ReplanFault → Status
 replan_status_of (faults.OldPlan reason) = statuses.OldPlan reason
 replan_status_of (faults.Plan fault) = plan_status_of fault
 
--- The day that the planning tables tell has no new plan: the tables of the earlier one are no plan of it, or else what is left of the day has
--- none.
+-- The day that the planning tables tell has no new plan: the tables of the earlier one are no plan of it, or else what is left of the day
+-- has none.
 pub record IsNotReplanned (numbers : Numbers) (moment : ℕ) (tables old : List Table) (day : ℕ) (status : Status) : Type 0 where
   pub facts : DayFacts
   pub model : IsModelOf tables day facts

@@ -28,8 +28,8 @@ use Rattle.planner_run.specs.WeekText.{IsWeekCause, IsWeekText}
 use Rattle.planner_run.specs.Tasks.{Task, climbs}
 use Rattle.planner_run.specs.Tasks.{Certify, Check, Day, Make, MakeRun, Plan, Replan, Trips, Week}
 
--- What the first file is: a planning file. Before a plan and a certificate that are checked, and before an earlier plan, there are so many of
--- these, and else at most 64.
+-- What the first file is: a planning file. Before a plan and a certificate that are checked, and before an earlier plan, there are so
+-- many of these, and else at most 64.
 abbrev pub stage_of : Task → Stage
 stage_of (Check count) = stages.Planning (count - 1) most_bytes
 stage_of (Replan count moment numbers) = stages.Planning (count - 1) most_bytes
@@ -84,8 +84,8 @@ IsCause (MakeRun seed trips asked) tables day status = IsPlanCause asked (made_t
 abbrev pub IsRefused : Task → List Table → ℕ → Status → Type 0
 IsRefused task tables day status = (status ≡ statuses.Memory) ⊎ IsCause task tables day status
 
--- Why a command refuses the tables of each file, for a day. Where a day is planned anew the earlier plan may be the cause, or what is left of
--- the day beside it; every other command refuses planning tables alone.
+-- Why a command refuses the tables of each file, for a day. Where a day is planned anew the earlier plan may be the cause, or what is
+-- left of the day beside it; every other command refuses planning tables alone.
 abbrev pub IsPartsCause : Task → List (List Table) → ℕ → Status → Type 0
 IsPartsCause (Replan count moment numbers) parts day status =
     IsReplanCause numbers moment (joined (take count parts)) (slice_index_or parts count []) day status
@@ -112,12 +112,16 @@ abbrev pub IsRefusal : Task → List (List ℕ) → ℕ → Status → Type 0
 IsRefusal task contents day (statuses.Input (inputs.Text file fault)) = HasTextFault (stage_of task) 1 contents file fault.line fault.kind
 IsRefusal task contents day (statuses.Input (inputs.Table fault)) = IsTablesRefusal task contents day (statuses.Input (inputs.Table fault))
 IsRefusal task contents day (statuses.Input (inputs.Trips count)) = IsTablesRefusal task contents day (statuses.Input (inputs.Trips count))
-IsRefusal task contents day (statuses.Input (inputs.Params fault)) = IsTablesRefusal task contents day (statuses.Input (inputs.Params fault))
-IsRefusal task contents day (statuses.Input (inputs.Days first last)) = IsTablesRefusal task contents day (statuses.Input (inputs.Days first last))
-IsRefusal task contents day (statuses.Input (inputs.Trip fid fault)) = IsTablesRefusal task contents day (statuses.Input (inputs.Trip fid fault))
+IsRefusal task contents day (statuses.Input (inputs.Params fault)) =
+    IsTablesRefusal task contents day (statuses.Input (inputs.Params fault))
+IsRefusal task contents day (statuses.Input (inputs.Days first last)) =
+    IsTablesRefusal task contents day (statuses.Input (inputs.Days first last))
+IsRefusal task contents day (statuses.Input (inputs.Trip fid fault)) =
+    IsTablesRefusal task contents day (statuses.Input (inputs.Trip fid fault))
 IsRefusal task contents day (statuses.Day fault) = IsTablesRefusal task contents day (statuses.Day fault)
 IsRefusal task contents day (statuses.NoPlan side bound places) = IsTablesRefusal task contents day (statuses.NoPlan side bound places)
-IsRefusal task contents day (statuses.NotPlaced side item name partial) = IsTablesRefusal task contents day (statuses.NotPlaced side item name partial)
+IsRefusal task contents day (statuses.NotPlaced side item name partial) =
+    IsTablesRefusal task contents day (statuses.NotPlaced side item name partial)
 IsRefusal task contents day (statuses.OldPlan reason) = IsTablesRefusal task contents day (statuses.OldPlan reason)
 IsRefusal task contents day _ = ⊥
 
@@ -133,7 +137,8 @@ IsAnswerCause refusal read_fault (statuses.OldPlan reason) = refusal (statuses.O
 IsAnswerCause refusal read_fault _ = ⊥
 
 -- the whole text was added to what was taken before
-pub record TakesAnswer (task : Task) (contents : List (List ℕ)) (day : ℕ) (ending : Status) (taken : Option (List ℕ)) (old : List ℕ) : Type 0 where
+pub record TakesAnswer (task : Task) (contents : List (List ℕ)) (day : ℕ) (ending : Status) (taken : Option (List ℕ))
+    (old : List ℕ) : Type 0 where
   pub bytes : List ℕ
   pub answer : IsAnswer task contents day ending bytes
   pub whole : taken ≡ Some (old ++ bytes)

@@ -31,8 +31,8 @@ make_task true seed trips asked = MakeRun seed trips asked
 abbrev pub asked_by : Effort → Bool → Asked
 asked_by effort flow = record { numbers = numbers_of effort; flow = flow }
 
--- By the command, the effort, whether the flow is asked for, and how many files are named. A day that is made is planned without the flow, and
--- so is what is left of a day.
+-- By the command, the effort, whether the flow is asked for, and how many files are named. A day that is made is planned without the
+-- flow, and so is what is left of a day.
 abbrev pub task_for : Command → Effort → Bool → ℕ → Task
 task_for commands.Trips effort flow files = Trips
 task_for commands.Day effort flow files = Day

@@ -65,7 +65,8 @@ pub record HasTooMany (tables : List Table) (day count : ℕ) : Type 0 where
 abbrev pub IsDayCause : List Table → ℕ → Status → Type 0
 IsDayCause tables day (statuses.Input (inputs.Table fault)) = first_fault (schemas_of needs.Calendar) tables ≡ Some fault
 IsDayCause tables day (statuses.Input (inputs.Trips count)) = HasTooMany tables day count
-IsDayCause tables day (statuses.Day fault) = (first_fault (schemas_of needs.Calendar) tables ≡ None) × IsDayFault (net_of needs.Calendar tables) day fault
+IsDayCause tables day (statuses.Day fault) =
+    (first_fault (schemas_of needs.Calendar) tables ≡ None) × IsDayFault (net_of needs.Calendar tables) day fault
 IsDayCause tables day _ = ⊥
 
 -- memory ran out, or the tables are refused for the day
@@ -93,7 +94,8 @@ IsDayRefusal net day status = (fault : DayFault) × (status ≡ statuses.Day fau
 abbrev pub IsCrowdRefusal : List TripRow → ℕ → ℕ → Status → Type 0
 IsCrowdRefusal trips version kind status =
     (status ≡ statuses.Memory)
-    ⊎ ((places : List ℕ) × AreDayRows trips version kind places × (most_trips < length places) × (status ≡ statuses.Input (inputs.Trips (length places))))
+    ⊎ ((places : List ℕ) × AreDayRows trips version kind places × (most_trips < length places)
+    × (status ≡ statuses.Input (inputs.Trips (length places))))
 
 -- the day's kind in a network, and the places of its trips, which are not too many
 pub record IsDayIn (net : Net) (day : ℕ) (kind : DayKind) (places : List ℕ) : Type 0 where
@@ -103,4 +105,5 @@ pub record IsDayIn (net : Net) (day : ℕ) (kind : DayKind) (places : List ℕ) 
 
 -- why a network is refused for a day
 abbrev pub IsRefusalIn : Net → ℕ → Status → Type 0
-IsRefusalIn net day status = IsDayRefusal net day status ⊎ ((kind : DayKind) × IsKindOf net day kind × IsCrowdRefusal net.trips kind.version kind.kind status)
+IsRefusalIn net day status =
+    IsDayRefusal net day status ⊎ ((kind : DayKind) × IsKindOf net day kind × IsCrowdRefusal net.trips kind.version kind.kind status)

@@ -28,7 +28,8 @@ row_more : (r n c m : ℕ) → m ≡ n → suc r * n + c ≡ m + (r * n + c)
 row_more r n c m e = omega (arith, e)
 
 -- in rows of one length
-pub flat_at : {A B : Type 0} (f : A → List B) (n : ℕ) → ((a : A) → length (f a) ≡ n) → (rows : List A) (r : ℕ) (a : A) → slice_get rows r ≡ Some a →
+pub flat_at : {A B : Type 0} (f : A → List B) (n : ℕ) → ((a : A) → length (f a) ≡ n) → (rows : List A) (r : ℕ) (a : A) →
+    slice_get rows r ≡ Some a →
     (c : ℕ) (b : B) → slice_get (f a) c ≡ Some b → (k : ℕ) → k ≡ r * n + c → slice_get (flat_map f rows) k ≡ Some b
 flat_at f n wide [] r a at c b is k e = absurd (cc)
 flat_at {A = A} {B = B} f n wide (x ∷ rows) zero a at c b is k e =
@@ -37,7 +38,8 @@ flat_at {A = A} {B = B} f n wide (x ∷ rows) zero a at c b is k e =
     let place : k ≡ c = omega (arith, e) in
     ap (λ (i : ℕ). slice_get (f x ++ flat_map f rows) i) place ∙ get_left (f x) (flat_map f rows) c b first
 flat_at f n wide (x ∷ rows) (suc r) a at c b is k e =
-    get_right (f x) (flat_map f rows) k (r * n + c) (e ∙ row_more r n c (length (f x)) (wide x)) ∙ flat_at f n wide rows r a at c b is (r * n + c) refl
+    get_right (f x) (flat_map f rows) k (r * n + c) (e ∙ row_more r n c (length (f x)) (wide x))
+    ∙ flat_at f n wide rows r a at c b is (r * n + c) refl
 
 pub mapped_at : {A B : Type 0} (f : A → B) (xs : List A) (i : ℕ) (x : A) → slice_get xs i ≡ Some x → slice_get (map f xs) i ≡ Some (f x)
 mapped_at f [] i x e = absurd (cc)
@@ -45,7 +47,8 @@ mapped_at f (y ∷ xs) zero x e = ap (λ z. Some (f z)) (same_Some y x e)
 mapped_at f (y ∷ xs) (suc i) x e = mapped_at f xs i x e
 
 -- the cell of a grid
-pub grid_cell : (time : Point → Point → Option ℕ) (rows columns : List Point) (grid : Grid) (r c : ℕ) (from to : Point) → IsGrid time rows columns grid →
+pub grid_cell : (time : Point → Point → Option ℕ) (rows columns : List Point) (grid : Grid) (r c : ℕ) (from to : Point) →
+    IsGrid time rows columns grid →
     slice_get rows r ≡ Some from → slice_get columns c ≡ Some to → IsCell grid r c (time from to)
 grid_cell time rows columns grid r c from to is at at' =
     let row : Point → List (Option ℕ) = λ a. map (λ (b : Point). time a b) columns in
@@ -58,6 +61,8 @@ cell_within grid r c time is =
     let within = slice_get_within (map told grid.cells) (r * grid.columns + c) time is in
     omega (arith, within, length-map grid.cells told)
 
-pub cell_told : (grid : Grid) (r c : ℕ) (time : Option ℕ) → IsCell grid r c time → told (slice_index grid.cells (r * grid.columns + c)) ≡ time
+pub cell_told : (grid : Grid) (r c : ℕ) (time : Option ℕ) → IsCell grid r c time →
+    told (slice_index grid.cells (r * grid.columns + c)) ≡ time
 cell_told grid r c time is =
-    sym (get_or-map told grid.cells (r * grid.columns + c) 0 None (cell_within grid r c time is)) ∙ get_or_from_slice_get (map told grid.cells) (r * grid.columns + c) time None is
+    sym (get_or-map told grid.cells (r * grid.columns + c) 0 None (cell_within grid r c time is))
+    ∙ get_or_from_slice_get (map told grid.cells) (r * grid.columns + c) time None is

@@ -10,4 +10,5 @@ AreKept old new = (k : ℕ) (point : Point) → slice_get old k ≡ Some point �
 -- for each of the given points a number at which it stands
 pub record AreNumbered (given : List Point) (numbering : Numbering) : Type 0 where
   pub count : length numbering.numbers ≡ length given
-  pub points : (i : ℕ) (point : Point) → slice_get given i ≡ Some point → slice_get numbering.points (slice_index numbering.numbers i) ≡ Some point
+  pub points : (i : ℕ) (point : Point) → slice_get given i ≡ Some point →
+      slice_get numbering.points (slice_index numbering.numbers i) ≡ Some point

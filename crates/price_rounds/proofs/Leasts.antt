@@ -22,20 +22,25 @@ from_all : (p : Problem) (cs : List Column) → All (IsColumn p) cs → AreColum
 from_all p [] h = tt
 from_all p (c ∷ cs) h = (All-head (IsColumn p) c cs h, from_all p cs (All-tail (IsColumn p) c cs h))
 
-option_all : (p : Problem) (o : Option Column) (cs : List Column) → ((c : Column) → o ≡ Some c → IsColumn p c) → All (IsColumn p) cs → All (IsColumn p) (cons_option o cs)
+option_all : (p : Problem) (o : Option Column) (cs : List Column) → ((c : Column) → o ≡ Some c → IsColumn p c) → All (IsColumn p) cs →
+    All (IsColumn p) (cons_option o cs)
 option_all p None cs h rest = rest
 option_all p (Some c) cs h rest = All-cons (IsColumn p) c cs (h c refl) rest
 
-range_all : (p : Problem) (f : ℕ → Option Column) (a n : ℕ) → ((g : ℕ) (c : Column) → f g ≡ Some c → IsColumn p c) → All (IsColumn p) (filter_map f (range_with_len a n))
+range_all : (p : Problem) (f : ℕ → Option Column) (a n : ℕ) → ((g : ℕ) (c : Column) → f g ≡ Some c → IsColumn p c) →
+    All (IsColumn p) (filter_map f (range_with_len a n))
 range_all p f a zero h = All-nil (IsColumn p)
 range_all p f a (suc n) h = option_all p (f a) (filter_map f (range_with_len (a + 1) n)) (h a) (range_all p f (a + 1) n h)
 
-classes_all : (p : Problem) (prices : List Price) (a n : ℕ) → BestIsFirstLeast p → a + n ≤ length p.caps → All (IsColumn p) (flat_map (λ class. kept_columns prices (first_leasts p prices class)) (range_with_len a n))
+classes_all : (p : Problem) (prices : List Price) (a n : ℕ) → BestIsFirstLeast p → a + n ≤ length p.caps →
+    All (IsColumn p) (flat_map (λ class. kept_columns prices (first_leasts p prices class)) (range_with_len a n))
 classes_all p prices a zero best low = All-nil (IsColumn p)
 classes_all p prices a (suc n) best low =
     let class : a < length p.caps = omega arith in
-    let firsts : All (IsColumn p) (first_leasts p prices a) = range_all p (best_of p prices a) 0 (groups_of p.items) (λ g c is. ((best prices a g class).is_first_least c is).listed) in
-    All-append (IsColumn p) (kept_columns prices (first_leasts p prices a)) (flat_map (λ class. kept_columns prices (first_leasts p prices class)) (range_with_len (a + 1) n))
+    let firsts : All (IsColumn p) (first_leasts p prices a) =
+    range_all p (best_of p prices a) 0 (groups_of p.items) (λ g c is. ((best prices a g class).is_first_least c is).listed) in
+    All-append (IsColumn p) (kept_columns prices (first_leasts p prices a))
+    (flat_map (λ class. kept_columns prices (first_leasts p prices class)) (range_with_len (a + 1) n))
     (All-filter (is_kept prices (least_value prices (first_leasts p prices a))) (IsColumn p) (first_leasts p prices a) firsts)
     (classes_all p prices (a + 1) n best (omega arith))
 
@@ -49,8 +54,11 @@ at_least low f a (suc n) h = (h a (omega arith), at_least low f (a + 1) n (λ k 
 deeper : (z : ℤ) → neg_ℤ (pos 30000000000000000) ≤ℤ z → neg_ℤ (pos 1000000000000000000) ≤ℤ z
 deeper z h = omega (arith, ints)
 
-pub least_is_low : (p : Problem) (prices : List Price) → LeastIsBounded p → p.items ≤ 3000 → AllWithin 10000000000000 prices → AreAtLeast (neg_ℤ (pos 1000000000000000000)) (priced_least p prices)
-least_is_low p prices bounded few within = at_least (neg_ℤ (pos 1000000000000000000)) (least_of p prices) 0 (length p.caps) (λ k below. deeper (least_of p prices k) (bounded prices k few within (omega arith)))
+pub least_is_low : (p : Problem) (prices : List Price) → LeastIsBounded p → p.items ≤ 3000 → AllWithin 10000000000000 prices →
+    AreAtLeast (neg_ℤ (pos 1000000000000000000)) (priced_least p prices)
+least_is_low p prices bounded few within =
+    at_least (neg_ℤ (pos 1000000000000000000)) (least_of p prices) 0 (length p.caps)
+    (λ k below. deeper (least_of p prices k) (bounded prices k few within (omega arith)))
 
 pub least_length : (p : Problem) (prices : List Price) → length (priced_least p prices) ≡ length p.caps
 least_length p prices = length-map-range_with_len (least_of p prices) 0 (length p.caps)
@@ -60,14 +68,18 @@ number_in f a zero i below = absurd (omega arith)
 number_in f a (suc n) zero below = (let e : a ≡ a + 0 = omega arith in ap f e)
 number_in f a (suc n) (suc i) below = number_in f (a + 1) n i (omega arith) ∙ (let e : (a + 1) + i ≡ a + suc i = omega arith in ap f e)
 
-number_of_class : (p : Problem) (prices : List Price) (class : ℕ) → class < length p.caps → least_of p prices class ≡ number_at (priced_least p prices) class
-number_of_class p prices class low = sym (number_in (least_of p prices) 0 (length p.caps) class low ∙ (let e : 0 + class ≡ class = omega arith in ap (least_of p prices) e))
+number_of_class : (p : Problem) (prices : List Price) (class : ℕ) → class < length p.caps →
+    least_of p prices class ≡ number_at (priced_least p prices) class
+number_of_class p prices class low =
+    sym (number_in (least_of p prices) 0 (length p.caps) class low ∙ (let e : 0 + class ≡ class = omega arith in ap (least_of p prices) e))
 
 -- prices are paid with the class prices of their least values
-pub offer_paid : (p : Problem) (prices : List Price) → LeastIsOfLists p → LeastIsPaid p → IsPaid p prices (class_prices_of (priced_least p prices))
+pub offer_paid : (p : Problem) (prices : List Price) → LeastIsOfLists p → LeastIsPaid p →
+    IsPaid p prices (class_prices_of (priced_least p prices))
 offer_paid p prices lists paid =
     paid prices (priced_least p prices) (least_length p prices)
-    (λ class low. let P : ℤ → Type 0 = λ z. IsAtMostAll p prices class z in subst P (number_of_class p prices class low) (lists prices class low).below)
+    (λ class low. let P : ℤ → Type 0 = λ z. IsAtMostAll p prices class z in
+    subst P (number_of_class p prices class low) (lists prices class low).below)
 
 class_prices_length : (zs : List ℤ) → length (class_prices_of zs) ≡ length zs
 class_prices_length [] = refl
@@ -79,14 +91,16 @@ kept_prices p kept offer =
     subst P (sym offer.is) offer.ready
 
 pub kept_class_prices : (p : Problem) (kept : Kept) → IsOffer p kept → length kept.class_prices ≡ length p.caps
-kept_class_prices p kept offer = ap (λ (k : Kept). length k.class_prices) offer.is ∙ (class_prices_length (priced_least p offer.prices) ∙ least_length p offer.prices)
+kept_class_prices p kept offer =
+    ap (λ (k : Kept). length k.class_prices) offer.is ∙ (class_prices_length (priced_least p offer.prices) ∙ least_length p offer.prices)
 
 pub kept_bound_is : (p : Problem) (kept : Kept) → IsOffer p kept → kept.bound ≡ bound_of kept.prices.items kept.class_prices p.caps
 kept_bound_is p kept offer =
     let P : Kept → Type 0 = λ k. k.bound ≡ bound_of k.prices.items k.class_prices p.caps in
     subst P (sym offer.is) refl
 
-pub kept_is_paid : (p : Problem) (kept : Kept) → LeastIsOfLists p → LeastIsPaid p → IsOffer p kept → IsPaid p kept.prices.items kept.class_prices
+pub kept_is_paid : (p : Problem) (kept : Kept) → LeastIsOfLists p → LeastIsPaid p → IsOffer p kept →
+    IsPaid p kept.prices.items kept.class_prices
 kept_is_paid p kept lists paid offer =
     let P : Kept → Type 0 = λ k. IsPaid p k.prices.items k.class_prices in
     subst P (sym offer.is) (offer_paid p offer.prices lists paid)

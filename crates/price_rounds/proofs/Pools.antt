@@ -22,7 +22,8 @@ fit_get n k [] i d below h = absurd (omega arith)
 fit_get n k (c ∷ cs) zero d below h = h.0
 fit_get n k (c ∷ cs) (suc i) d below h = fit_get n k cs i d (omega arith) h.1
 
-pub ready_after : (p : Problem) (pool : List Column) (c : Column) (cs : List Column) → AreReady p pool → AreReady p (c ∷ cs) → AreReady p (pool_after pool c)
+pub ready_after : (p : Problem) (pool : List Column) (c : Column) (cs : List Column) → AreReady p pool → AreReady p (c ∷ cs) →
+    AreReady p (pool_after pool c)
 ready_after p pool c cs old new = go (is_refused pool c)
   where
     go : (b : Bool) → AreReady p (cond b pool (pool ++ c ∷ []))

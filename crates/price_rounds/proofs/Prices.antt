@@ -17,7 +17,8 @@ prices_from-length (suc n) k rule = ap suc (prices_from-length n (suc k) rule)
 pub starting-length : (p : Problem) → length (starting_prices p) ≡ p.items
 starting-length p = prices_from-length p.items 0 (start_price p)
 
-pub turned-length : (pool : List Column) (prices : List Price) (caps : List ℕ) (size : ℤ) → length (turned_prices pool prices caps size) ≡ length prices
+pub turned-length : (pool : List Column) (prices : List Price) (caps : List ℕ) (size : ℤ) →
+    length (turned_prices pool prices caps size) ≡ length prices
 turned-length pool prices caps size = prices_from-length (length prices) 0 (turned_price pool prices caps size)
 
 pub lowered-length : (prices : List Price) (c : Column) → length (lowered_prices prices c) ≡ length prices
@@ -58,11 +59,13 @@ pub turned_none : (pool : List Column) (caps : List ℕ) (size : ℤ) (prices : 
 unfolding turned_often
 turned_none pool caps size prices = refl
 
-turned_next : (k : ℕ) (pool : List Column) (caps : List ℕ) (size : ℤ) (prices : List Price) → turned_prices pool (turned_often k pool caps size prices) caps size ≡ turned_often (suc k) pool caps size prices
+turned_next : (k : ℕ) (pool : List Column) (caps : List ℕ) (size : ℤ) (prices : List Price) →
+    turned_prices pool (turned_often k pool caps size prices) caps size ≡ turned_often (suc k) pool caps size prices
 unfolding turned_often
 turned_next k pool caps size prices = refl
 
-pub turned_more : (k : ℕ) (pool shown : List Column) (caps given : List ℕ) (size : ℤ) (start now new : List Price) → shown ≡ pool → given ≡ caps →
+pub turned_more : (k : ℕ) (pool shown : List Column) (caps given : List ℕ) (size : ℤ) (start now new : List Price) →
+    shown ≡ pool → given ≡ caps →
     now ≡ turned_often k pool caps size start → new ≡ turned_prices shown now given size → new ≡ turned_often (k + 1) pool caps size start
 turned_more k pool shown caps given size start now new shows gives at made =
     let is : new ≡ turned_often (suc k) pool caps size start =
@@ -73,7 +76,8 @@ turned_more k pool shown caps given size start now new shows gives at made =
     subst P more is
 
 -- one column more
-pub lowered_more : (columns : List Column) (k : ℕ) (column : Column) (now new : List Price) → k < length columns → column ≡ get_or columns k column →
+pub lowered_more : (columns : List Column) (k : ℕ) (column : Column) (now new : List Price) → k < length columns →
+    column ≡ get_or columns k column →
     new ≡ lowered_prices now column → lowered_in_order (drop (k + 1) columns) new ≡ lowered_in_order (drop k columns) now
 lowered_more columns k column now new below is made =
     ap (λ (l : List Price). lowered_in_order (drop (k + 1) columns) l) (made ∙ ap (λ (c : Column). lowered_prices now c) is)

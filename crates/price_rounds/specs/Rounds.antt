@@ -40,7 +40,8 @@ pub record Standing : Type 0 where
 -- a price round, counted from 1: what is priced is added to the pool in its order, and then 16 turns are made
 unfoldable pub round_from : Problem → ℕ → Standing → Standing
 round_from p round s = record {
-  prices = turned_often 16 (pool_with s.pool (priced_columns p s.prices)) p.caps (step_size_of (greatest_of (starting_prices p)) round) s.prices;
+  prices = turned_often 16 (pool_with s.pool (priced_columns p s.prices)) p.caps
+      (step_size_of (greatest_of (starting_prices p)) round) s.prices;
   pool = pool_with s.pool (priced_columns p s.prices);
 }
 

@@ -25,7 +25,8 @@ module _ (one other : DayFacts) (alike : AreAlike one other) where
   read_alike : (tables : List Table) → read_of one tables ≡ read_of other tables
   read_alike tables =
       let with : List Trip → ParamRows → DayFacts = λ trips params. record one { trips = trips; params = params } in
-      ap (λ trips. read_of (with trips one.params) tables) alike.trips ∙ ap (λ params. read_of (with other.trips params) tables) alike.params
+      ap (λ trips. read_of (with trips one.params) tables) alike.trips
+      ∙ ap (λ params. read_of (with other.trips params) tables) alike.params
 
   fids_alike : fids_of one ≡ fids_of other
   fids_alike = ap (λ (trips : List Trip). map (λ (trip : Trip). trip.fid) trips) alike.trips
@@ -39,7 +40,8 @@ module _ (one other : DayFacts) (alike : AreAlike one other) where
       ap (λ params. lists params (old_pieces one text)) alike.params ∙ ap (λ pieces. lists other.params pieces) (pieces_alike text)
 
   trips_once : (text : PlanText) → HasTripsOnce one text → HasTripsOnce other text
-  trips_once text h = let P : (Bool → Problem) → Type 0 = λ problem. StandOnce (problem false) text.blocks.columns in subst P (same_blocks one other alike) h
+  trips_once text h = let P : (Bool → Problem) → Type 0 = λ problem. StandOnce (problem false) text.blocks.columns in
+      subst P (same_blocks one other alike) h
 
   lawful_blocks : (text : PlanText) → HasLawfulBlocks one text → HasLawfulBlocks other text
   lawful_blocks text h =
@@ -53,7 +55,8 @@ module _ (one other : DayFacts) (alike : AreAlike one other) where
       subst Q (duties_alike text) (subst P (pieces_alike text) h)
 
   old_plan_alike : (text : PlanText) → IsOldPlan one text → IsOldPlan other text
-  old_plan_alike text h = record { trips = trips_once text h.trips; blocks = lawful_blocks text h.blocks; pieces = pieces_once text h.pieces }
+  old_plan_alike text h =
+      record { trips = trips_once text h.trips; blocks = lawful_blocks text h.blocks; pieces = pieces_once text h.pieces }
 
   -- of the kinds that the tables by themselves have no reason of there is none on either day
   against_alike : (text : PlanText) (reason : Reason) → IsAgainst one text reason → IsAgainst other text reason

@@ -45,7 +45,8 @@ module _ (one other : DayFacts) (alike : AreAlike one other) where
   leaves_alike moment class t =
       let leaves : List Trip → ParamRows → (Pool → Trip → Option ℕ) → Bool = λ trips params outward.
       option_map_or (λ (trip : Trip). option_map_or (λ (out : ℕ). int_lt (trip.begin.0 -ℤ pos out) (pos moment))
-      (option_and_then (λ (pool : Pool). option_and_then (λ (trip : Trip). outward pool trip) (slice_get trips t)) (slice_get params.pools class)) false) (slice_get trips t) false in
+      (option_and_then (λ (pool : Pool). option_and_then (λ (trip : Trip). outward pool trip) (slice_get trips t))
+      (slice_get params.pools class)) false) (slice_get trips t) false in
       ap (λ trips. leaves trips one.params (pull_out one)) alike.trips
       ∙ ap (λ params. leaves other.trips params (pull_out one)) alike.params
       ∙ ap (λ outward. leaves other.trips other.params outward) outs_alike
@@ -55,7 +56,8 @@ module _ (one other : DayFacts) (alike : AreAlike one other) where
   head_alike moment first class (t ∷ ts) =
       let head : List Trip → Bool → List Head = λ trips leaves.
       cond (t == first) (cond leaves (head_from (with trips) moment class t (kept_after (with trips) moment t ts) ∷ []) []) [] in
-      ap (λ trips. head trips (leaves_before one moment class t)) alike.trips ∙ ap (λ leaves. head other.trips leaves) (leaves_alike moment class t)
+      ap (λ trips. head trips (leaves_before one moment class t)) alike.trips
+      ∙ ap (λ leaves. head other.trips leaves) (leaves_alike moment class t)
 
   heads_at_alike : (moment : ℕ) (blocks : List Column) (first : ℕ) → heads_at one moment blocks first ≡ heads_at other moment blocks first
   heads_at_alike moment [] first = refl
@@ -63,7 +65,8 @@ module _ (one other : DayFacts) (alike : AreAlike one other) where
       ap (λ heads. heads ++ heads_at one moment cs first) (head_alike moment first c.class c.items)
       ∙ ap (λ heads. head_at other moment first c.class c.items ++ heads) (heads_at_alike moment cs first)
 
-  heads_from_alike : (moment : ℕ) (blocks : List Column) (n first : ℕ) → heads_from one moment blocks n first ≡ heads_from other moment blocks n first
+  heads_from_alike : (moment : ℕ) (blocks : List Column) (n first : ℕ) →
+      heads_from one moment blocks n first ≡ heads_from other moment blocks n first
   heads_from_alike moment blocks zero first = refl
   heads_from_alike moment blocks (suc n) first =
       ap (λ heads. heads ++ heads_from one moment blocks n (suc first)) (heads_at_alike moment blocks first)
@@ -71,7 +74,8 @@ module _ (one other : DayFacts) (alike : AreAlike one other) where
 
   pub heads_alike : (moment : ℕ) (blocks : List Column) → heads_of one moment blocks ≡ heads_of other moment blocks
   heads_alike moment blocks =
-      heads_from_alike moment blocks (length one.trips) 0 ∙ ap (λ (trips : List Trip). heads_from other moment blocks (length trips) 0) alike.trips
+      heads_from_alike moment blocks (length one.trips) 0
+      ∙ ap (λ (trips : List Trip). heads_from other moment blocks (length trips) 0) alike.trips
 
   may_at : (moment class : ℕ) (list : List ℕ) → may_begin one moment class list ≡ may_begin other moment class list
   may_at moment class [] = refl
@@ -83,7 +87,8 @@ module _ (one other : DayFacts) (alike : AreAlike one other) where
   -- what the duties over blocks are made of
   pub facts_alike : duty_facts one ≡ duty_facts other
   facts_alike =
-      let facts : (List Column → List WorkPiece) → ParamRows → List Column → Bool → DutyFacts = λ pieces params blocks counts. record { pieces = pieces blocks; params = params; counts = counts } in
+      let facts : (List Column → List WorkPiece) → ParamRows → List Column → Bool → DutyFacts =
+      λ pieces params blocks counts. record { pieces = pieces blocks; params = params; counts = counts } in
       ap (λ pieces. facts pieces one.params) (same_pieces one other alike) ∙ ap (λ params. facts (pieces_of_plan other) params) alike.params
 
 -- the side of the duties by what the duties over blocks are made of: the heads, what their items stand for, and their rest
@@ -104,7 +109,8 @@ module _ (one other : DayFacts) (alike : AreAlike one other) (earlier : PlanText
 
   pub same_left : blocks_left (replan_of one earlier moment) ≡ blocks_left (replan_of other earlier moment)
   same_left =
-      let left : (Bool → Problem) → List Head → (ℕ → List ℕ → Bool) → Bool → Problem = λ problem heads may counts. rest_of (problem counts) (begun_blocks_of heads) may in
+      let left : (Bool → Problem) → List Head → (ℕ → List ℕ → Bool) → Bool → Problem =
+      λ problem heads may counts. rest_of (problem counts) (begun_blocks_of heads) may in
       ap (λ problem. left problem (block_heads (replan_of one earlier moment)) (may_begin one moment)) (same_blocks one other alike)
       ∙ ap (λ heads. left (blocks_of other) heads (may_begin one moment)) same_heads
       ∙ ap (λ may. left (blocks_of other) (block_heads (replan_of other earlier moment)) may) (may_alike one other alike moment)
@@ -128,4 +134,5 @@ module _ (one other : DayFacts) (alike : AreAlike one other) (earlier : PlanText
       } in
       ap (λ problem. problems problem (block_items (replan_of one earlier moment)) (duty_facts one)) same_left
       ∙ ap (λ items. problems (blocks_left (replan_of other earlier moment)) items (duty_facts one)) same_items
-      ∙ ap (λ facts. problems (blocks_left (replan_of other earlier moment)) (block_items (replan_of other earlier moment)) facts) (facts_alike one other alike)
+      ∙ ap (λ facts. problems (blocks_left (replan_of other earlier moment)) (block_items (replan_of other earlier moment)) facts)
+      (facts_alike one other alike)

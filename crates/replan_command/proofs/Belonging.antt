@@ -38,14 +38,16 @@ one-named x (y ∷ ys) some =
     ] some
 
 -- a part that duties name belongs to one of them, where their groups are there
-rows-belong : (groups : List Group) (x : ℕ × ℕ) (rows : List DutyRow) → AreKnown groups rows → 1 ≤ part_times x (all_parts rows) → belongs_to groups (Some x) rows ≡ true
+rows-belong : (groups : List Group) (x : ℕ × ℕ) (rows : List DutyRow) → AreKnown groups rows → 1 ≤ part_times x (all_parts rows) →
+    belongs_to groups (Some x) rows ≡ true
 rows-belong groups x [] known some = absurd (omega (arith, some))
 rows-belong groups x (row ∷ rows) known some =
     let both = parts-append x row.parts (all_parts rows) in
     elim (cases_lt 0 (part_times x row.parts)) [
       | inl here ↦
           let one : is_one_of (Some x) row.parts ≡ true = one-named x row.parts (omega (arith, here)) in
-          let own : (is_one_of (Some x) row.parts && is_known groups row.group) ≡ true = ap (λ (t : Bool). t && is_known groups row.group) one ∙ known.0 in
+          let own : (is_one_of (Some x) row.parts && is_known groups row.group) ≡ true =
+          ap (λ (t : Bool). t && is_known groups row.group) one ∙ known.0 in
           ap (λ (t : Bool). t || belongs_to groups (Some x) rows) own
       | inr none ↦
           let rest : belongs_to groups (Some x) rows ≡ true = rows-belong groups x rows known.1 (omega (arith, both, none, some)) in
@@ -66,25 +68,29 @@ part-begun blocks earlier moment p x is =
       | false ↦ λ before e. absurd (cc)
     ] refl is
 
-begun-part : (blocks earlier : List Column) (moment : ℕ) (p : Piece) (x : ℕ × ℕ) → begins_before moment p ≡ true → part_of blocks earlier p ≡ Some x →
+begun-part : (blocks earlier : List Column) (moment : ℕ) (p : Piece) (x : ℕ × ℕ) → begins_before moment p ≡ true →
+    part_of blocks earlier p ≡ Some x →
     begun_part blocks earlier moment p ≡ Some x
 begun-part blocks earlier moment p x before is = ap (λ (t : Bool). cond t (part_of blocks earlier p) None) before ∙ is
 
 -- a part that names an earlier piece stands once in the earlier duties
 named-once : (day : DayFacts) (earlier : PlanText) → HasPiecesOnce day earlier → (x : ℕ × ℕ) (n : ℕ) (q : Piece) →
-    slice_get (pieces_of_plan day earlier.blocks.columns) n ≡ Some q → q.block ≡ x.0 → q.index ≡ x.1 → part_times x (all_parts earlier.duties) ≡ 1
+    slice_get (pieces_of_plan day earlier.blocks.columns) n ≡ Some q → q.block ≡ x.0 → q.index ≡ x.1 →
+    part_times x (all_parts earlier.duties) ≡ 1
 named-once day earlier once x n q at block index =
     let pieces : List Piece = pieces_of_plan day earlier.blocks.columns in
     let there = number-there pieces x n q at block index in
     sym (rows-times day.params.groups pieces x there earlier.duties) ∙ once (part_number pieces x) there
 
-pub have_duties : (day : DayFacts) (old : List Table) (earlier : PlanText) (moment : ℕ) (blocks : List Column) → IsOldAnswer day old (Good earlier) →
+pub have_duties : (day : DayFacts) (old : List Table) (earlier : PlanText) (moment : ℕ) (blocks : List Column) →
+    IsOldAnswer day old (Good earlier) →
     IsFound day earlier moment blocks → HaveDuties day earlier moment blocks
 have_duties day old earlier moment blocks good found = record {
   belongs = λ k begun.
       let pieces : List Piece = pieces_of_plan day blocks in
       elim (slice_get pieces k) as (λ o. slice_get pieces k ≡ o → option_map_or (begins_before moment) o false ≡ true →
-      option_map_or (λ (p : Piece). belongs_to day.params.groups (begun_part blocks earlier.blocks.columns moment p) earlier.duties) o false ≡ true) [
+      option_map_or (λ (p : Piece). belongs_to day.params.groups (begun_part blocks earlier.blocks.columns moment p) earlier.duties) o false
+      ≡ true) [
         | None ↦ λ at e. absurd (cc)
         | Some p ↦ λ at e.
             let (x, part, (n, q, there, block, index)) = found k p at e in

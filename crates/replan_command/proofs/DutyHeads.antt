@@ -20,12 +20,15 @@ use Rattle.replan_command.specs.Replanning.{KeepsDuties, Replan, begun_duties}
 pub duty_heads_are : (r : Replan) (blocks : List Column) → HaveDuties r.day r.earlier r.moment blocks → (counts : Bool) →
     AreHeads (duties_over r.day blocks counts) (begun_duties r blocks)
 duty_heads_are r blocks have counts =
-    let heads = heads-are (duty_facts r.day blocks false) blocks r.earlier r.moment (λ k p x at is. let once = have.once k p x at is in omega (arith, once)) in
+    let heads = heads-are (duty_facts r.day blocks false) blocks r.earlier r.moment (λ k p x at is. let once =
+    have.once k p x at is in omega (arith, once)) in
     record { some = heads.some; below = heads.below; once = heads.once }
 
 -- a list without a begun piece of an earlier duty is one without a begun piece
-list-free : (day : DayFacts) (earlier : PlanText) (moment : ℕ) (blocks : List Column) → HaveDuties day earlier moment blocks → (list : List ℕ) →
-    none_begun_in (duty_facts day blocks false) blocks earlier moment list ≡ true → none_begun moment (pieces_of_plan day blocks) list ≡ true
+list-free : (day : DayFacts) (earlier : PlanText) (moment : ℕ) (blocks : List Column) →
+    HaveDuties day earlier moment blocks → (list : List ℕ) →
+    none_begun_in (duty_facts day blocks false) blocks earlier moment list ≡ true →
+    none_begun moment (pieces_of_plan day blocks) list ≡ true
 list-free day earlier moment blocks have [] free = refl
 list-free day earlier moment blocks have (k ∷ ks) free =
     let d = duty_facts day blocks false in
@@ -46,7 +49,8 @@ list-free day earlier moment blocks have (k ∷ ks) free =
     not-both false e f = cc
 
 -- a plan of the duties that keeps the heads leaves no begun piece to other duties
-pub none_begun_kept : (r : Replan) (blocks columns : List Column) → HaveDuties r.day r.earlier r.moment blocks → IsPlan (duties_over r.day blocks false) columns →
+pub none_begun_kept : (r : Replan) (blocks columns : List Column) → HaveDuties r.day r.earlier r.moment blocks →
+    IsPlan (duties_over r.day blocks false) columns →
     KeepsBegun (begun_duties r blocks) may_begin columns → KeepsDuties r blocks columns
 none_begun_kept r blocks columns have plan keeps =
     let free = none-begun (duty_facts r.day blocks false) blocks r.earlier r.moment columns plan keeps in
@@ -59,5 +63,6 @@ none_begun_kept r blocks columns have plan keeps =
     }
 
 -- and keeping what has begun is keeping the heads
-pub kept_weaker : (r : Replan) (blocks columns : List Column) → KeepsDuties r blocks columns → KeepsBegun (begun_duties r blocks) may_begin columns
+pub kept_weaker : (r : Replan) (blocks columns : List Column) → KeepsDuties r blocks columns →
+    KeepsBegun (begun_duties r blocks) may_begin columns
 kept_weaker r blocks columns keeps = record { kept = keeps.keeps.kept; others = λ j c at others. refl }

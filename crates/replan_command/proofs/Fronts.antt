@@ -1,5 +1,5 @@
--- Blocks of one pool that begin with the same trips begin with the same legs. The legs up to the last of these trips are told by the trips and
--- the pool, and the legs behind it begin when it has ended or later.
+-- Blocks of one pool that begin with the same trips begin with the same legs. The legs up to the last of these trips are told by the
+-- trips and the pool, and the legs behind it begin when it has ended or later.
 use Rattle.std.proofs.Common.{◌≡◌, ℕ, ℤ, pos, negsuc, ◌+ℤ◌, ◌-ℤ◌, ◌≤ℤ◌, false, ◌&&◌, nat_le, List, [], ◌∷◌, ◌++◌, All, Option, Some, None, refl, sym, ap, subst, ◌∙◌, arith, append_assoc, slice_get, int_lt}
 use Rattle.std.specs.Prelude.{option_and_then}
 use Rattle.std.specs.Option.{option_map_or}
@@ -32,31 +32,48 @@ record Follows (pool : Pool) (t u : Trip) (l : Link) : Type 0 where
 
 direct-follows : (day : DayFacts) (pool : Pool) (t u : Trip) (l : Link) → direct_link day t u ≡ Some l → Follows pool t u l
 direct-follows day pool t u l e =
-    let moved = and_then_some (λ (m : ℕ). direct_for day.params.settings m (seconds (u.begin.0 -ℤ t.end.0 -ℤ pos m))) (dead day t.to u.from) l e in
-    let stood = and_then_some (λ (s : ℕ). given (nat_le day.params.settings.turn s && nat_le s day.params.settings.max_wait) (Some (Direct moved.0 s))) (seconds (u.begin.0 -ℤ t.end.0 -ℤ pos moved.0)) l moved.2 in
-    let is : Direct moved.0 stood.0 ≡ l = some_same (Direct moved.0 stood.0) l (given_some (nat_le day.params.settings.turn stood.0 && nat_le stood.0 day.params.settings.max_wait) (Some (Direct moved.0 stood.0)) l stood.2) in
+    let moved = and_then_some (λ (m : ℕ). direct_for day.params.settings m (seconds (u.begin.0 -ℤ t.end.0 -ℤ pos m)))
+    (dead day t.to u.from) l e in
+    let stood = and_then_some
+    (λ (s : ℕ). given (nat_le day.params.settings.turn s && nat_le s day.params.settings.max_wait) (Some (Direct moved.0 s)))
+    (seconds (u.begin.0 -ℤ t.end.0 -ℤ pos moved.0)) l moved.2 in
+    let is : Direct moved.0 stood.0 ≡ l =
+    some_same (Direct moved.0 stood.0) l
+    (given_some (nat_le day.params.settings.turn stood.0 && nat_le stood.0 day.params.settings.max_wait)
+    (Some (Direct moved.0 stood.0)) l stood.2) in
     let z = seconds-some (u.begin.0 -ℤ t.end.0 -ℤ pos moved.0) stood.0 stood.1 in
-    let follows : Follows pool t u (Direct moved.0 stood.0) = record { from = (omega (arith, ints), (omega (arith, ints), tt)); next = omega (arith, ints, z) } in
+    let follows : Follows pool t u (Direct moved.0 stood.0) =
+    record { from = (omega (arith, ints), (omega (arith, ints), tt)); next = omega (arith, ints, z) } in
     let P : Link → Type 0 = λ l. Follows pool t u l in
     subst P {x = Direct moved.0 stood.0} is follows
 
 depot-follows : (day : DayFacts) (pool : Pool) (t u : Trip) (l : Link) → depot_link day pool t u ≡ Some l → Follows pool t u l
 depot-follows day pool t u l e =
-    let inward = and_then_some (λ (i : ℕ). option_and_then (λ (o : ℕ). option_and_then (λ (s : ℕ). Some (Depot i o s)) (seconds (u.begin.0 -ℤ t.end.0 -ℤ pos i -ℤ pos o))) (dead day pool.depot u.from)) (dead day t.to pool.depot) l e in
-    let outward = and_then_some (λ (o : ℕ). option_and_then (λ (s : ℕ). Some (Depot inward.0 o s)) (seconds (u.begin.0 -ℤ t.end.0 -ℤ pos inward.0 -ℤ pos o))) (dead day pool.depot u.from) l inward.2 in
-    let stood = and_then_some (λ (s : ℕ). Some (Depot inward.0 outward.0 s)) (seconds (u.begin.0 -ℤ t.end.0 -ℤ pos inward.0 -ℤ pos outward.0)) l outward.2 in
+    let inward = and_then_some
+    (λ (i : ℕ). option_and_then
+    (λ (o : ℕ). option_and_then (λ (s : ℕ). Some (Depot i o s)) (seconds (u.begin.0 -ℤ t.end.0 -ℤ pos i -ℤ pos o)))
+    (dead day pool.depot u.from)) (dead day t.to pool.depot) l e in
+    let outward = and_then_some
+    (λ (o : ℕ). option_and_then (λ (s : ℕ). Some (Depot inward.0 o s)) (seconds (u.begin.0 -ℤ t.end.0 -ℤ pos inward.0 -ℤ pos o)))
+    (dead day pool.depot u.from) l inward.2 in
+    let stood = and_then_some (λ (s : ℕ). Some (Depot inward.0 outward.0 s))
+    (seconds (u.begin.0 -ℤ t.end.0 -ℤ pos inward.0 -ℤ pos outward.0)) l outward.2 in
     let is : Depot inward.0 outward.0 stood.0 ≡ l = some_same (Depot inward.0 outward.0 stood.0) l stood.2 in
     let z = seconds-some (u.begin.0 -ℤ t.end.0 -ℤ pos inward.0 -ℤ pos outward.0) stood.0 stood.1 in
-    let follows : Follows pool t u (Depot inward.0 outward.0 stood.0) = record { from = (omega (arith, ints), (omega (arith, ints), (omega (arith, ints, z), tt))); next = omega (arith, ints, z) } in
+    let follows : Follows pool t u (Depot inward.0 outward.0 stood.0) =
+    record { from = (omega (arith, ints), (omega (arith, ints), (omega (arith, ints, z), tt))); next = omega (arith, ints, z) } in
     let P : Link → Type 0 = λ l. Follows pool t u l in
     subst P {x = Depot inward.0 outward.0 stood.0} is follows
 
-either-follows : (P : Link → Type 0) (a b : Option Link) (l : Link) → ((l : Link) → a ≡ Some l → P l) → ((l : Link) → b ≡ Some l → P l) → first_of a b ≡ Some l → P l
+either-follows : (P : Link → Type 0) (a b : Option Link) (l : Link) → ((l : Link) → a ≡ Some l → P l) → ((l : Link) → b ≡ Some l → P l) →
+    first_of a b ≡ Some l → P l
 either-follows P None b l first second e = second l e
 either-follows P (Some m) b l first second e = first l e
 
 link-follows : (day : DayFacts) (pool : Pool) (t u : Trip) (l : Link) → link day pool t u ≡ Some l → Follows pool t u l
-link-follows day pool t u l e = either-follows (λ l. Follows pool t u l) (direct_link day t u) (depot_link day pool t u) l (direct-follows day pool t u) (depot-follows day pool t u) e
+link-follows day pool t u l e =
+    either-follows (λ l. Follows pool t u l) (direct_link day t u) (depot_link day pool t u) l (direct-follows day pool t u)
+    (depot-follows day pool t u) e
 
 -- a trip of the day begins not after its end
 in-order : (day : DayFacts) (k : ℕ) (t : Trip) → All IsDaily day.trips → slice_get day.trips k ≡ Some t → t.begin.0 ≤ℤ t.end.0
@@ -92,16 +109,34 @@ module _ (day : DayFacts) (pool : Pool) where
 
   goes : (k : ℕ) (t : Trip) (j : ℕ) (js : List ℕ) (legs : List Leg) → legs_from day pool k t (j ∷ js) ≡ Some legs → Goes k t j js legs
   goes k t j js legs e =
-      let second = and_then_some (λ (u : Trip). option_and_then (λ (l : Link). onward k t u (legs_from day pool j u js) l) (link day pool t u)) (slice_get day.trips j) legs e in
+      let second = and_then_some
+      (λ (u : Trip). option_and_then (λ (l : Link). onward k t u (legs_from day pool j u js) l) (link day pool t u))
+      (slice_get day.trips j) legs e in
       let u : Trip = second.0 in
       let linked = and_then_some (λ (l : Link). onward k t u (legs_from day pool j u js) l) (link day pool t u) legs second.2 in
-      let others = and_then_some (λ (rest : List Leg). Some ((trip_leg k t ∷ link_legs pool t u linked.0) ++ rest)) (legs_from day pool j u js) legs linked.2 in
-      record { next = u; at = second.1; way = linked.0; linked = linked.1; rest = others.0; on = others.1; is = sym (some_same ((trip_leg k t ∷ link_legs pool t u linked.0) ++ others.0) legs others.2) }
+      let others = and_then_some (λ (rest : List Leg). Some ((trip_leg k t ∷ link_legs pool t u linked.0) ++ rest))
+      (legs_from day pool j u js) legs linked.2 in
+      record {
+        next = u;
+        at = second.1;
+        way = linked.0;
+        linked = linked.1;
+        rest = others.0;
+        on = others.1;
+        is =
+            sym (some_same ((trip_leg k t ∷ link_legs pool t u linked.0) ++ others.0) legs others.2);
+      }
 
-  behind : (k : ℕ) (t : Trip) (js : List ℕ) (legs : List Leg) → All IsDaily day.trips → legs_from day pool k t js ≡ Some legs → Behind k t legs
+  behind : (k : ℕ) (t : Trip) (js : List ℕ) (legs : List Leg) → All IsDaily day.trips →
+      legs_from day pool k t js ≡ Some legs → Behind k t legs
   behind k t [] legs daily e =
       let (inward, there, is) = and_then_some (λ (inward : ℕ). Some (homeward k t inward)) (pull_in day pool t) legs e in
-      record { others = leg PullIn None t.to t.end.0 pool.depot (t.end.0 +ℤ pos inward) ∷ []; is = sym (some_same (homeward k t inward) legs is); later = (omega (arith, ints), tt) }
+      record {
+        others = leg PullIn None t.to t.end.0 pool.depot (t.end.0 +ℤ pos inward) ∷ [];
+        is =
+            sym (some_same (homeward k t inward) legs is);
+        later = (omega (arith, ints), tt);
+      }
   behind k t (j ∷ js) legs daily e =
       let g = goes k t j js legs e in
       let rest = behind j g.next js g.rest daily g.on in
@@ -111,10 +146,16 @@ module _ (day : DayFacts) (pool : Pool) where
       let after : AreFrom t.end.0 rest.others = from-lower t.end.0 g.next.end.0 rest.others (omega (arith, ints, next, order)) rest.later in
       let P : List Leg → Type 0 = λ ls. AreFrom t.end.0 ls in
       let all : AreFrom t.end.0 g.rest = subst P (sym rest.is) (next, after) in
-      record { others = link_legs pool t g.next g.way ++ g.rest; is = g.is; later = from-append t.end.0 (link_legs pool t g.next g.way) g.rest follows.from all }
+      record {
+        others = link_legs pool t g.next g.way ++ g.rest;
+        is = g.is;
+        later =
+            from-append t.end.0 (link_legs pool t g.next g.way) g.rest follows.from all;
+      }
 
   -- the legs from a trip on begin when it begins or later
-  all-from : (k : ℕ) (t : Trip) (js : List ℕ) (legs : List Leg) → All IsDaily day.trips → slice_get day.trips k ≡ Some t → legs_from day pool k t js ≡ Some legs → AreFrom t.begin.0 legs
+  all-from : (k : ℕ) (t : Trip) (js : List ℕ) (legs : List Leg) → All IsDaily day.trips → slice_get day.trips k ≡ Some t →
+      legs_from day pool k t js ≡ Some legs → AreFrom t.begin.0 legs
   all-from k t js legs daily at e =
       let b = behind k t js legs daily e in
       let order = in-order day k t daily at in
@@ -124,9 +165,11 @@ module _ (day : DayFacts) (pool : Pool) where
   -- the legs from a trip up to the last one of some trips
   abbrev legs-up : ℕ → Trip → List ℕ → Option (List Leg)
   legs-up k t [] = Some (trip_leg k t ∷ [])
-  legs-up k t (j ∷ js) = option_and_then (λ (u : Trip). option_and_then (λ (l : Link). onward k t u (legs-up j u js) l) (link day pool t u)) (slice_get day.trips j)
+  legs-up k t (j ∷ js) = option_and_then (λ (u : Trip). option_and_then (λ (l : Link). onward k t u (legs-up j u js) l) (link day pool t u))
+      (slice_get day.trips j)
 
-  up-more : (k : ℕ) (t : Trip) (j : ℕ) (js : List ℕ) (u : Trip) (l : Link) (front : List Leg) → slice_get day.trips j ≡ Some u → link day pool t u ≡ Some l → legs-up j u js ≡ Some front →
+  up-more : (k : ℕ) (t : Trip) (j : ℕ) (js : List ℕ) (u : Trip) (l : Link) (front : List Leg) → slice_get day.trips j ≡ Some u →
+      link day pool t u ≡ Some l → legs-up j u js ≡ Some front →
       legs-up k t (j ∷ js) ≡ Some ((trip_leg k t ∷ link_legs pool t u l) ++ front)
   up-more k t j js u l front at linked up = rw (at, linked, up) refl
 
@@ -140,14 +183,23 @@ module _ (day : DayFacts) (pool : Pool) where
 
   not-ended : (moment k : ℕ) (t : Trip) → slice_get day.trips k ≡ Some t → ends_before day moment k ≡ false → pos moment ≤ℤ t.end.0
   not-ended moment k t at runs =
-      let is : int_lt t.end.0 (pos moment) ≡ false = sym (ap (λ (o : Option Trip). option_map_or (λ (trip : Trip). int_lt trip.end.0 (pos moment)) o false) at) ∙ runs in
+      let is : int_lt t.end.0 (pos moment) ≡ false =
+      sym (ap (λ (o : Option Trip). option_map_or (λ (trip : Trip). int_lt trip.end.0 (pos moment)) o false) at) ∙ runs in
       grind (arith, ints)
 
-  fronted : (moment k : ℕ) (t : Trip) (js more : List ℕ) (legs : List Leg) → All IsDaily day.trips → slice_get day.trips k ≡ Some t → legs_from day pool k t (js ++ more) ≡ Some legs →
+  fronted : (moment k : ℕ) (t : Trip) (js more : List ℕ) (legs : List Leg) → All IsDaily day.trips → slice_get day.trips k ≡ Some t →
+      legs_from day pool k t (js ++ more) ≡ Some legs →
       Fronted moment (last_trip k js) (legs-up k t js) legs
   fronted moment k t [] more legs daily at e =
       let b = behind k t more legs daily e in
-      record { front = trip_leg k t ∷ []; back = b.others; there = refl; is = b.is; later = λ runs. from-lower (pos moment) t.end.0 b.others (not-ended moment k t at runs) b.later }
+      record {
+        front = trip_leg k t ∷ [];
+        back = b.others;
+        there = refl;
+        is = b.is;
+        later =
+            λ runs. from-lower (pos moment) t.end.0 b.others (not-ended moment k t at runs) b.later;
+      }
   fronted moment k t (j ∷ js) more legs daily at e =
       let g = goes k t j (js ++ more) legs e in
       let f = fronted moment j g.next js more g.rest daily g.at g.on in
@@ -176,22 +228,40 @@ module _ (day : DayFacts) (pool : Pool) where
 
   pub opens : (first : ℕ) (others : List ℕ) (legs : List Leg) → legs_of day pool (first ∷ others) ≡ Some legs → Opens first others legs
   opens k ks legs e =
-      let first = and_then_some (λ (t : Trip). option_and_then (λ (out : ℕ). option_and_then (λ (rest : List Leg). Some (shown (outward t out ∷ rest))) (legs_from day pool k t ks)) (pull_out day pool t)) (slice_get day.trips k) legs e in
+      let first = and_then_some
+      (λ (t : Trip). option_and_then
+      (λ (out : ℕ). option_and_then (λ (rest : List Leg). Some (shown (outward t out ∷ rest))) (legs_from day pool k t ks))
+      (pull_out day pool t)) (slice_get day.trips k) legs e in
       let t : Trip = first.0 in
-      let out = and_then_some (λ (out : ℕ). option_and_then (λ (rest : List Leg). Some (shown (outward t out ∷ rest))) (legs_from day pool k t ks)) (pull_out day pool t) legs first.2 in
+      let out = and_then_some
+      (λ (out : ℕ). option_and_then (λ (rest : List Leg). Some (shown (outward t out ∷ rest))) (legs_from day pool k t ks))
+      (pull_out day pool t) legs first.2 in
       let rest = and_then_some (λ (rest : List Leg). Some (shown (outward t out.0 ∷ rest))) (legs_from day pool k t ks) legs out.2 in
-      record { trip = t; at = first.1; out = out.0; leaves = out.1; rest = rest.0; on = rest.1; is = sym {a = shown (outward t out.0 ∷ rest.0)} (some_same (shown (outward t out.0 ∷ rest.0)) legs rest.2) }
+      record {
+        trip = t;
+        at = first.1;
+        out = out.0;
+        leaves = out.1;
+        rest = rest.0;
+        on = rest.1;
+        is =
+            sym {a = shown (outward t out.0 ∷ rest.0)} (some_same (shown (outward t out.0 ∷ rest.0)) legs rest.2);
+      }
 
   -- the shown legs of a block up to the last one of its first trips
   abbrev pub block-up : ℕ → List ℕ → Option (List Leg)
   block-up first js =
-      with_trip day first (λ (t : Trip). option_and_then (λ (out : ℕ). option_and_then (λ (front : List Leg). Some (shown (outward t out ∷ front))) (legs-up first t js)) (pull_out day pool t))
+      with_trip day first (λ (t : Trip). option_and_then
+      (λ (out : ℕ). option_and_then (λ (front : List Leg). Some (shown (outward t out ∷ front))) (legs-up first t js))
+      (pull_out day pool t))
 
-  up-is : (first : ℕ) (js : List ℕ) (t : Trip) (out : ℕ) (front : List Leg) → slice_get day.trips first ≡ Some t → pull_out day pool t ≡ Some out → legs-up first t js ≡ Some front →
+  up-is : (first : ℕ) (js : List ℕ) (t : Trip) (out : ℕ) (front : List Leg) → slice_get day.trips first ≡ Some t →
+      pull_out day pool t ≡ Some out → legs-up first t js ≡ Some front →
       block-up first js ≡ Some (shown (outward t out ∷ front))
   up-is first js t out front at leaves up = rw (at, leaves, up) refl
 
-  pub block-fronted : (moment first : ℕ) (js more : List ℕ) (legs : List Leg) → All IsDaily day.trips → legs_of day pool (first ∷ (js ++ more)) ≡ Some legs →
+  pub block-fronted : (moment first : ℕ) (js more : List ℕ) (legs : List Leg) → All IsDaily day.trips →
+      legs_of day pool (first ∷ (js ++ more)) ≡ Some legs →
       Fronted moment (last_trip first js) (block-up first js) legs
   block-fronted moment first js more legs daily e =
       let o = opens first (js ++ more) legs e in
@@ -206,19 +276,23 @@ module _ (day : DayFacts) (pool : Pool) where
       }
 
   -- where a block leaves its depot at a moment or later all its legs begin then or later
-  pub leaves-later : (moment class first : ℕ) (others : List ℕ) (legs : List Leg) → All IsDaily day.trips → slice_get day.params.pools class ≡ Some pool → legs_of day pool (first ∷ others) ≡ Some legs →
+  pub leaves-later : (moment class first : ℕ) (others : List ℕ) (legs : List Leg) → All IsDaily day.trips →
+      slice_get day.params.pools class ≡ Some pool → legs_of day pool (first ∷ others) ≡ Some legs →
       leaves_before day moment class first ≡ false → AreFrom (pos moment) legs
   leaves-later moment class first others legs daily there e late =
       let o = opens first others legs e in
-      let is : leaves_before day moment class first ≡ int_lt (o.trip.begin.0 -ℤ pos o.out) (pos moment) = leaves-is moment class first o.trip o.out there o.at o.leaves in
+      let is : leaves_before day moment class first ≡ int_lt (o.trip.begin.0 -ℤ pos o.out) (pos moment) =
+      leaves-is moment class first o.trip o.out there o.at o.leaves in
       let no : int_lt (o.trip.begin.0 -ℤ pos o.out) (pos moment) ≡ false = sym is ∙ late in
       let low : pos moment ≤ℤ (o.trip.begin.0 -ℤ pos o.out) = not-before (o.trip.begin.0 -ℤ pos o.out) moment no in
       let rest = all-from first o.trip others o.rest daily o.at o.on in
-      let all : AreFrom (pos moment) (outward o.trip o.out ∷ o.rest) = (low, from-lower (pos moment) o.trip.begin.0 o.rest (omega (arith, ints, low)) rest) in
+      let all : AreFrom (pos moment) (outward o.trip o.out ∷ o.rest) =
+      (low, from-lower (pos moment) o.trip.begin.0 o.rest (omega (arith, ints, low)) rest) in
       let P : List Leg → Type 0 = λ ls. AreFrom (pos moment) ls in
       subst P (sym o.is) (from-shown (pos moment) (outward o.trip o.out ∷ o.rest) all)
     where
-      leaves-is : (moment class first : ℕ) (t : Trip) (out : ℕ) → slice_get day.params.pools class ≡ Some pool → slice_get day.trips first ≡ Some t → pull_out day pool t ≡ Some out →
+      leaves-is : (moment class first : ℕ) (t : Trip) (out : ℕ) → slice_get day.params.pools class ≡ Some pool →
+          slice_get day.trips first ≡ Some t → pull_out day pool t ≡ Some out →
           leaves_before day moment class first ≡ int_lt (t.begin.0 -ℤ pos out) (pos moment)
       leaves-is moment class first t out there at leaves = rw (at, there, leaves) refl
 

@@ -1,4 +1,5 @@
--- A side that is made over a rest keeps what has begun, and its bounds hold of all plans that do: those are the plans of the rest, written out.
+-- A side that is made over a rest keeps what has begun, and its bounds hold of all plans that do: those are the plans of the rest,
+-- written out.
 use Rattle.std.proofs.Common.{◌≡◌, ℕ, Bool, List, [], ◌∷◌, length, Some, sym, ap, ◌∙◌, subst, arith}
 use Rattle.cover_core.specs.declared.Column.{Column}
 use Rattle.cover_core.specs.Cover.{Problem}
@@ -21,16 +22,19 @@ use Rattle.replan_command.specs.Replanning.{IsKeptSide}
 use Rattle.replan_command.proofs.Orders.{order-keeps}
 
 -- the rest of a problem that counts is the rest with costs, counted
-pub rest-counts : (p q : Problem) (heads : List Begun) (may : ℕ → List ℕ → Bool) → q.items ≡ p.items → IsCountOf p q → IsCountOf (rest_of p heads may) (rest_of q heads may)
+pub rest-counts : (p q : Problem) (heads : List Begun) (may : ℕ → List ℕ → Bool) → q.items ≡ p.items → IsCountOf p q →
+    IsCountOf (rest_of p heads may) (rest_of q heads may)
 rest-counts p q heads may same is =
     let bs : List (List ℕ) = bodies heads p.items in
-    let P : ℕ → Type 0 = λ n. (class : ℕ) (list : List ℕ) (worth : ℕ) → rest_worth p heads bs may class list ≡ Some worth → rest_worth q heads (bodies heads n) may class list ≡ Some 1 in
+    let P : ℕ → Type 0 = λ n. (class : ℕ) (list : List ℕ) (worth : ℕ) → rest_worth p heads bs may class list ≡ Some worth →
+    rest_worth q heads (bodies heads n) may class list ≡ Some 1 in
     record {
       items = ap (λ n. length (bodies heads n)) same;
       caps = is.caps;
       one = subst P (sym same) (λ class list worth e.
           let (test, there) = from-cond (is_rest_list heads bs may class list) (p.worth class (written bs list)) worth e in
-          onto-cond (is_rest_list heads bs may class list) (q.worth class (written bs list)) test ∙ is.one class (written bs list) worth there);
+          onto-cond (is_rest_list heads bs may class list) (q.worth class (written bs list)) test
+          ∙ is.one class (written bs list) worth there);
     }
 
 -- a plan that keeps what has begun
@@ -43,19 +47,25 @@ module _ (p : Problem) (heads : List Begun) (may : ℕ → List ℕ → Bool) (l
   rest = rest_of p heads may
 
   -- each plan that keeps what has begun has as many columns as a plan of the rest, and its cost
-  in-rest : (columns : List Column) → KeepsOf p heads may columns → (found : List Column) × IsPlan rest found × (length columns ≡ length found) × (cost columns ≡ cost found)
+  in-rest : (columns : List Column) → KeepsOf p heads may columns →
+      (found : List Column) × IsPlan rest found × (length columns ≡ length found) × (cost columns ≡ cost found)
   in-rest columns of =
       let (found, plan, is) = kept-is-rest p listed heads may are columns of.plan of.keeps in
       let bs : List (List ℕ) = bodies heads p.items in
       (found, plan, ap length (sym is) ∙ written-number bs found, ap cost (sym is) ∙ written-cost bs found)
 
-  pub kept-side : (side : SidePlan) (columns : List Column) → IsPlan rest columns → side.columns ≡ printed (written_plan (bodies heads p.items) columns) →
+  pub kept-side : (side : SidePlan) (columns : List Column) → IsPlan rest columns →
+      side.columns ≡ printed (written_plan (bodies heads p.items) columns) →
       IsCountBoundOf rest side.count.bound → IsBoundOf rest side.cost.bound → IsKeptSide (KeepsOf p heads may) side
   kept-side side columns plan order number least =
       let kept = rest-is-kept p heads may are columns plan in
       let P : List Column → Type 0 = KeepsOf p heads may in
       record {
-        keeps = subst P (sym order) (record { plan = order_plan p (written_plan (bodies heads p.items) columns) kept.plan; keeps = order-keeps heads may (written_plan (bodies heads p.items) columns) kept.keeps });
+        keeps = subst P (sym order) (record {
+          plan = order_plan p (written_plan (bodies heads p.items) columns) kept.plan;
+          keeps =
+              order-keeps heads may (written_plan (bodies heads p.items) columns) kept.keeps;
+        });
         number = λ others of. let (found, is, long, dear) = in-rest others of in let bound = number found is in omega (arith, bound, long);
         cost = λ others of. let (found, is, long, dear) = in-rest others of in let bound = least found is in omega (arith, bound, dear);
       }
@@ -65,7 +75,8 @@ module _ (p : Problem) (heads : List Begun) (may : ℕ → List ℕ → Bool) (l
   kept-none none columns of = let (found, is, long, dear) = in-rest columns of in none found is
 
 -- the same of what is said in other words
-pub kept-where : (A B : List Column → Type 0) → ((columns : List Column) → A columns → B columns) → ((columns : List Column) → B columns → A columns) → (side : SidePlan) → IsKeptSide A side → IsKeptSide B side
+pub kept-where : (A B : List Column → Type 0) → ((columns : List Column) → A columns → B columns) →
+    ((columns : List Column) → B columns → A columns) → (side : SidePlan) → IsKeptSide A side → IsKeptSide B side
 kept-where A B onto back side is = record {
   keeps = onto side.columns is.keeps;
   number = λ columns of. is.number columns (back columns of);

@@ -25,7 +25,8 @@ abbrev number_of : Group → ℕ
 number_of group = group.number
 
 -- a group among whose numbers there is one has a class
-place-known : (groups : List Group) (n class k : ℕ) → place_in (map number_of groups) n ≡ Some k → option_map_or (λ (c : ℕ). true) (class_of groups n class) false ≡ true
+place-known : (groups : List Group) (n class k : ℕ) → place_in (map number_of groups) n ≡ Some k →
+    option_map_or (λ (c : ℕ). true) (class_of groups n class) false ≡ true
 place-known [] n class k is = absurd (cc)
 place-known (g ∷ gs) n class k is =
     elim (nat_eq g.number n) as (λ t. cond t (Some 0) (option_map (λ k. k + 1) (place_in (map number_of gs) n)) ≡ Some k →
@@ -44,7 +45,8 @@ among-known : (groups : List Group) (z : Option ℤ) (g : ℕ) → number_among 
 among-known groups None g is = absurd (cc)
 among-known groups (Some (negsuc n)) g is = absurd (cc)
 among-known groups (Some (pos n)) g is =
-    elim (place_in (map number_of groups) n) as (λ o. place_in (map number_of groups) n ≡ o → option_and_then (λ (place : ℕ). cond (nat_le n 4294967295) (Some n) None) o ≡ Some g →
+    elim (place_in (map number_of groups) n) as (λ o. place_in (map number_of groups) n ≡ o →
+    option_and_then (λ (place : ℕ). cond (nat_le n 4294967295) (Some n) None) o ≡ Some g →
     is_known groups g ≡ true) [
       | None ↦ λ found e. absurd (cc)
       | Some k ↦ λ found e.
@@ -57,14 +59,16 @@ among-known groups (Some (pos n)) g is =
     kept false e = absurd (cc)
 
 -- the number that a row says is one of a group
-entry-known : (day : DayFacts) (tables : List Table) (row : ℕ) (zs : List (Option ℤ)) (g : ℕ) → duty_entry (numbers_of day tables) row zs ≡ Some g →
+entry-known : (day : DayFacts) (tables : List Table) (row : ℕ) (zs : List (Option ℤ)) (g : ℕ) →
+    duty_entry (numbers_of day tables) row zs ≡ Some g →
     is_known day.params.groups g ≡ true
 entry-known day tables row [] g is = absurd (cc)
 entry-known day tables row (duty ∷ []) g is = absurd (cc)
 entry-known day tables row (duty ∷ group ∷ z ∷ zs) g is = absurd (cc)
 entry-known day tables row (duty ∷ group ∷ []) g is = own (own_number row duty) is
   where
-    own : (o : Option ℕ) → option_and_then (λ (own : ℕ). number_among (map number_of day.params.groups) group) o ≡ Some g → is_known day.params.groups g ≡ true
+    own : (o : Option ℕ) → option_and_then (λ (own : ℕ). number_among (map number_of day.params.groups) group) o ≡ Some g →
+        is_known day.params.groups g ≡ true
     own None e = absurd (cc)
     own (Some m) e = among-known day.params.groups group g e
 
@@ -80,10 +84,12 @@ entries-known day tables parts (zs ∷ rest) row from =
     ] refl
 
 -- the groups of the duties that tables say are there
-pub groups-known : (day : DayFacts) (old : List Table) (earlier : PlanText) → read_of day old ≡ Ok earlier → AreKnown day.params.groups earlier.duties
+pub groups-known : (day : DayFacts) (old : List Table) (earlier : PlanText) → read_of day old ≡ Ok earlier →
+    AreKnown day.params.groups earlier.duties
 groups-known day old earlier is =
     let P : PlanText → Type 0 = λ text. AreKnown day.params.groups text.duties in
-    subst P (is-said (first (places_of day old)) is) (entries-known day old (given_of (part_entries (numbers_of day old) old)) (rows_of duties old) 0 0)
+    subst P (is-said (first (places_of day old)) is)
+    (entries-known day old (given_of (part_entries (numbers_of day old) old)) (rows_of duties old) 0 0)
   where
     is-said : (o : Option Place) → read_or (said day old) o ≡ Ok earlier → said day old ≡ earlier
     is-said None e = cc

@@ -62,13 +62,15 @@ module _ {A : Type 0} (number : A → ℕ) where
         | inr later ↦ (suc (suc later.0), later.1)
       ]
 
-      either : (Stands (put_in_order number item items) x → Stands (item ∷ items) x) → (next ≡ x) ⊎ Stands (put_in_order number item items) x → Stands (item ∷ next ∷ items) x
+      either : (Stands (put_in_order number item items) x → Stands (item ∷ items) x) →
+          (next ≡ x) ⊎ Stands (put_in_order number item items) x → Stands (item ∷ next ∷ items) x
       either out e = elim e [
         | inl here ↦ (1, ap (λ (y : A). Some y) here)
         | inr later ↦ behind (stands-first item items x (out later))
       ]
 
-      by : (b : Bool) → (Stands (put_in_order number item items) x → Stands (item ∷ items) x) → Stands (if b then next ∷ put_in_order number item items else item ∷ next ∷ items) x → Stands (item ∷ next ∷ items) x
+      by : (b : Bool) → (Stands (put_in_order number item items) x → Stands (item ∷ items) x) →
+          Stands (if b then next ∷ put_in_order number item items else item ∷ next ∷ items) x → Stands (item ∷ next ∷ items) x
       by true out s = either out (stands-first next (put_in_order number item items) x s)
       by false out s = s
 
@@ -76,19 +78,22 @@ module _ {A : Type 0} (number : A → ℕ) where
   put-in item x [] s = s
   put-in item x (next ∷ items) s = by (nat_lt (number next) (number item)) (λ s. put-in item x items s) s
     where
-      below : (next ≡ x) ⊎ Stands items x → (Stands (item ∷ items) x → Stands (put_in_order number item items) x) → Stands (next ∷ put_in_order number item items) x
+      below : (next ≡ x) ⊎ Stands items x → (Stands (item ∷ items) x → Stands (put_in_order number item items) x) →
+          Stands (next ∷ put_in_order number item items) x
       below e into = elim e [
         | inl here ↦ (0, ap (λ (y : A). Some y) here)
         | inr later ↦ stands-later next (put_in_order number item items) x (into (stands-later item items x later))
       ]
 
-      either : (item ≡ x) ⊎ Stands (next ∷ items) x → (Stands (item ∷ items) x → Stands (put_in_order number item items) x) → Stands (next ∷ put_in_order number item items) x
+      either : (item ≡ x) ⊎ Stands (next ∷ items) x → (Stands (item ∷ items) x → Stands (put_in_order number item items) x) →
+          Stands (next ∷ put_in_order number item items) x
       either e into = elim e [
         | inl here ↦ stands-later next (put_in_order number item items) x (into (0, ap (λ (y : A). Some y) here))
         | inr later ↦ below (stands-first next items x later) into
       ]
 
-      by : (b : Bool) → (Stands (item ∷ items) x → Stands (put_in_order number item items) x) → Stands (item ∷ next ∷ items) x → Stands (if b then next ∷ put_in_order number item items else item ∷ next ∷ items) x
+      by : (b : Bool) → (Stands (item ∷ items) x → Stands (put_in_order number item items) x) → Stands (item ∷ next ∷ items) x →
+          Stands (if b then next ∷ put_in_order number item items else item ∷ next ∷ items) x
       by true into s = either (stands-first item (next ∷ items) x s) into
       by false into s = s
 

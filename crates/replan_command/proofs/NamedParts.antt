@@ -1,6 +1,6 @@
--- A part that names a piece stands in duties exactly as often as the number of that piece stands in the lists of these duties. A part has the
--- number of the first piece with its block and index, or the number of all pieces where there is none; so where one of two parts names a
--- piece, they have one number exactly where they are the same.
+-- A part that names a piece stands in duties exactly as often as the number of that piece stands in the lists of these duties. A part has
+-- the number of the first piece with its block and index, or the number of all pieces where there is none; so where one of two parts
+-- names a piece, they have one number exactly where they are the same.
 use Rattle.std.proofs.Common.{◌≡◌, ◌==◌, ℕ, ◌+◌, ◌<◌, Bool, true, false, cond, ◌&&◌, zero, suc, List, [], ◌∷◌, ◌++◌, length, map, refl, sym, ap, subst, ◌∙◌, arith, Option, Some, None, slice_get, nat_eq}
 use Rattle.std.specs.List.{position_from}
 use Rattle.std.specs.Prelude.{unwrap_or}
@@ -51,7 +51,8 @@ passing-found : (test : Piece → Bool) (ps : List Piece) (from n : ℕ) (q : Pi
     (m : ℕ) × (position_from test from ps ≡ Some m) × (m < from + length ps)
 passing-found test [] from n q at passes = absurd (cc)
 passing-found test (p ∷ ps) from n q at passes =
-    elim (test p) as (λ t. test p ≡ t → (m : ℕ) × (cond t (Some from) (position_from test (from + 1) ps) ≡ Some m) × (m < from + length (p ∷ ps))) [
+    elim (test p) as (λ t. test p ≡ t → (m : ℕ) × (cond t (Some from) (position_from test (from + 1) ps) ≡ Some m)
+    × (m < from + length (p ∷ ps))) [
       | true ↦ λ is. (from, refl, omega arith)
       | false ↦ λ is.
           let (k, there) = later n at is in
@@ -78,7 +79,8 @@ number-there pieces x n q at block index =
 number-names : (pieces : List Piece) (x : ℕ × ℕ) (m : ℕ) → part_number pieces x ≡ m → m < length pieces →
     (p : Piece) × (slice_get pieces m ≡ Some p) × (p.block ≡ x.0) × (p.index ≡ x.1)
 number-names pieces x m is below =
-    elim (position_from (is_piece_of x.0 x.1) 0 pieces) as (λ o. position_from (is_piece_of x.0 x.1) 0 pieces ≡ o → unwrap_or o (length pieces) ≡ m →
+    elim (position_from (is_piece_of x.0 x.1) 0 pieces) as (λ o. position_from (is_piece_of x.0 x.1) 0 pieces ≡ o →
+    unwrap_or o (length pieces) ≡ m →
     (p : Piece) × (slice_get pieces m ≡ Some p) × (p.block ≡ x.0) × (p.index ≡ x.1)) [
       | None ↦ λ found e. absurd (omega (arith, e, below))
       | Some j ↦ λ found e.
@@ -90,13 +92,15 @@ number-names pieces x m is below =
     ] refl is
 
 -- parts have one number exactly where they are the same
-same-number : (pieces : List Piece) (x y : ℕ × ℕ) → part_number pieces x < length pieces → (part_number pieces x == part_number pieces y) ≡ same_part x y
+same-number : (pieces : List Piece) (x y : ℕ × ℕ) → part_number pieces x < length pieces →
+    (part_number pieces x == part_number pieces y) ≡ same_part x y
 same-number pieces x y below =
     elim (same_part x y) as (λ t. same_part x y ≡ t → (part_number pieces x == part_number pieces y) ≡ t) [
       | true ↦ λ is.
           let (block, index) = both-are x.0 x.1 y.0 y.1 is in
           let number : ℕ → ℕ → ℕ = λ b i. part_number pieces (b, i) in
-          let same : part_number pieces x ≡ part_number pieces y = ap (λ (b : ℕ). number b x.1) block ∙ ap (λ (i : ℕ). number y.0 i) index in
+          let same : part_number pieces x ≡ part_number pieces y =
+          ap (λ (b : ℕ). number b x.1) block ∙ ap (λ (i : ℕ). number y.0 i) index in
           alike (part_number pieces x) (part_number pieces y) same
       | false ↦ λ is.
           elim (part_number pieces x == part_number pieces y) as (λ t. (part_number pieces x == part_number pieces y) ≡ t → t ≡ false) [
@@ -129,7 +133,8 @@ parts-times pieces x below [] = refl
 parts-times pieces x below (y ∷ ys) =
     let rest = parts-times pieces x below ys in
     let here = same-number pieces x y below in
-    ap (λ (t : Bool). cond t 1 0 + times (part_number pieces x) (map (part_number pieces) ys)) here ∙ ap (λ (n : ℕ). cond (same_part x y) 1 0 + n) rest
+    ap (λ (t : Bool). cond t 1 0 + times (part_number pieces x) (map (part_number pieces) ys)) here
+    ∙ ap (λ (n : ℕ). cond (same_part x y) 1 0 + n) rest
 
 -- a part stands in duties as often as its number in their lists
 pub rows-times : (groups : List Group) (pieces : List Piece) (x : ℕ × ℕ) → part_number pieces x < length pieces → (rows : List DutyRow) →

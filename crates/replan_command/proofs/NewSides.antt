@@ -47,28 +47,33 @@ blocks-onto r columns of = record { plan = of.plan; keeps = of.keeps }
 blocks-back : (r : Replan) (columns : List Column) → KeepsBlocks r columns → KeepsBlocksOf r columns
 blocks-back r columns of = record { plan = of.plan; keeps = of.keeps }
 
-pub new-blocks : (r : Replan) (numbers : Numbers) (side : SidePlan) → IsEarlierPlan r.day r.earlier → IsMadeSide (blocks_left r true) (blocks_left r false) (block_items r) numbers side → AreNewBlocks r numbers side
+pub new-blocks : (r : Replan) (numbers : Numbers) (side : SidePlan) → IsEarlierPlan r.day r.earlier →
+    IsMadeSide (blocks_left r true) (blocks_left r false) (block_items r) numbers side → AreNewBlocks r numbers side
 new-blocks r numbers side earlier made = record {
   written = record { columns = made.columns; made = made.made; order = made.order };
   kept =
       kept-where (KeepsBlocksOf r) (KeepsBlocks r) (blocks-onto r) (blocks-back r) side
-      (kept-side (blocks_of r.day false) (begun_blocks r) (may_begin r.day r.moment) (blocks_listed (record { day = r.day; counts = false })) (block-heads-are r earlier false)
+      (kept-side (blocks_of r.day false) (begun_blocks r) (may_begin r.day r.moment)
+      (blocks_listed (record { day = r.day; counts = false })) (block-heads-are r earlier false)
       side made.columns made.plan made.order made.count_bound made.cost_bound);
 }
 
 pub blocks-cause : (r : Replan) (numbers : Numbers) (fault : PlanFault) → IsEarlierPlan r.day r.earlier →
-    IsWrittenCause Vehicles (blocks_left r true) (blocks_left r false) (trip_name r.day.trips (block_items r)) (block_items r) numbers fault → IsRestCause r numbers fault
+    IsWrittenCause Vehicles (blocks_left r true) (blocks_left r false) (trip_name r.day.trips (block_items r)) (block_items r) numbers
+    fault → IsRestCause r numbers fault
 blocks-cause r numbers fault earlier is = by is.cover is.cause is.told
   where
     P : PlanFault → Type 0
     P f = IsRestCause r numbers f
 
-    by : (cover : CoverFault) → IsCause (blocks_left r true) (blocks_left r false) numbers cover → IsWrittenFault Vehicles (trip_name r.day.trips (block_items r)) (block_items r) cover fault → IsRestCause r numbers fault
+    by : (cover : CoverFault) → IsCause (blocks_left r true) (blocks_left r false) numbers cover →
+        IsWrittenFault Vehicles (trip_name r.day.trips (block_items r)) (block_items r) cover fault → IsRestCause r numbers fault
     by (covers.NoPlan bound places) cause told =
         subst P (sym told) (
           record { blocks = no_plan bound places; ends = cause.0; goes_on = refl },
           (λ columns of.
-              kept-none (blocks_of r.day false) (begun_blocks r) (may_begin r.day r.moment) (blocks_listed (record { day = r.day; counts = false })) (block-heads-are r earlier false)
+              kept-none (blocks_of r.day false) (begun_blocks r) (may_begin r.day r.moment)
+              (blocks_listed (record { day = r.day; counts = false })) (block-heads-are r earlier false)
               cause.1 columns (blocks-back r columns of)),
         )
     by (covers.NotPlaced item partial) cause (inl told) = subst P (sym told) tt
@@ -90,18 +95,22 @@ module _ (r : Replan) (blocks : List Column) (have : HaveDuties r.day r.earlier 
   duties-back : (columns : List Column) → KeepsDuties r blocks columns → KeepsDutiesOf r blocks columns
   duties-back columns of = record { plan = of.plan; keeps = kept_weaker r blocks columns of }
 
-  pub new-duties : (numbers : Numbers) (side : SidePlan) → IsMadeSide (duties_left r blocks true) (duties_left r blocks false) (duty_items r blocks) numbers side → AreNewDuties r numbers blocks side
+  pub new-duties : (numbers : Numbers) (side : SidePlan) →
+      IsMadeSide (duties_left r blocks true) (duties_left r blocks false) (duty_items r blocks) numbers side →
+      AreNewDuties r numbers blocks side
   new-duties numbers side made = record {
     written = record { columns = made.columns; made = made.made; order = made.order };
     kept =
         kept-where (KeepsDutiesOf r blocks) (KeepsDuties r blocks) duties-onto duties-back side
-        (kept-side (duties_over r.day blocks false) (begun_duties r blocks) may_begin_duty (duties_listed (duty_facts r.day blocks false)) (duty_heads_are r blocks have false)
+        (kept-side (duties_over r.day blocks false) (begun_duties r blocks) may_begin_duty (duties_listed (duty_facts r.day blocks false))
+        (duty_heads_are r blocks have false)
         side made.columns made.plan made.order made.count_bound made.cost_bound);
   }
 
   none-kept : HasNone (duties_left r blocks false) → (columns : List Column) → KeepsDuties r blocks columns → ⊥
   none-kept none columns of =
-      kept-none (duties_over r.day blocks false) (begun_duties r blocks) may_begin_duty (duties_listed (duty_facts r.day blocks false)) (duty_heads_are r blocks have false)
+      kept-none (duties_over r.day blocks false) (begun_duties r blocks) may_begin_duty (duties_listed (duty_facts r.day blocks false))
+      (duty_heads_are r blocks have false)
       none columns (duties-back columns of)
 
 -- a side with these columns
@@ -110,12 +119,14 @@ with_columns side columns = record { columns = columns; count = side.count; cost
 
 module _ (r : Replan) (numbers : Numbers) where
   -- the blocks are made, and then the duties
-  blocks-first : (blocks : SidePlan) (ending : DayEnding) (are : AreWrittenBlocks r numbers blocks) → DutiesEndAs (rest_problems r) numbers blocks ending → DayEndsAs (rest_problems r) numbers ending
+  blocks-first : (blocks : SidePlan) (ending : DayEnding) (are : AreWrittenBlocks r numbers blocks) →
+      DutiesEndAs (rest_problems r) numbers blocks ending → DayEndsAs (rest_problems r) numbers ending
   blocks-first blocks ending are ends =
       let P : List Column → Type 0 = λ columns. DutiesEndAs (rest_problems r) numbers (with_columns blocks columns) ending in
       record { blocks = planned blocks.count blocks.cost are.columns; ends = are.made; goes_on = subst P are.order ends }
 
-  pub replanned : (blocks duties : SidePlan) → AreNewBlocks r numbers blocks → AreNewDuties r numbers blocks.columns duties → IsReplanned r numbers blocks duties
+  pub replanned : (blocks duties : SidePlan) → AreNewBlocks r numbers blocks → AreNewDuties r numbers blocks.columns duties →
+      IsReplanned r numbers blocks duties
   replanned blocks duties blocks_are duties_are = record {
     ends = blocks-first blocks (answered blocks duties) blocks_are.written (record {
       duties = planned duties.count duties.cost duties_are.written.columns;
@@ -126,8 +137,10 @@ module _ (r : Replan) (numbers : Numbers) where
     duties_are = duties_are.kept;
   }
 
-  pub duties-cause : (blocks : SidePlan) → AreNewBlocks r numbers blocks → HaveDuties r.day r.earlier r.moment blocks.columns → (fault : PlanFault) →
-      IsWrittenCause Drivers (duties_left r blocks.columns true) (duties_left r blocks.columns false) (piece_name (pieces_of_plan r.day blocks.columns) (duty_items r blocks.columns)) (duty_items r blocks.columns) numbers fault →
+  pub duties-cause : (blocks : SidePlan) → AreNewBlocks r numbers blocks → HaveDuties r.day r.earlier r.moment blocks.columns →
+      (fault : PlanFault) →
+      IsWrittenCause Drivers (duties_left r blocks.columns true) (duties_left r blocks.columns false)
+      (piece_name (pieces_of_plan r.day blocks.columns) (duty_items r blocks.columns)) (duty_items r blocks.columns) numbers fault →
       IsRestCause r numbers fault
   duties-cause blocks are have fault is = by is.cover is.cause is.told
     where
@@ -135,16 +148,19 @@ module _ (r : Replan) (numbers : Numbers) where
       P f = IsRestCause r numbers f
 
       by : (cover : CoverFault) → IsCause (duties_left r blocks.columns true) (duties_left r blocks.columns false) numbers cover →
-          IsWrittenFault Drivers (piece_name (pieces_of_plan r.day blocks.columns) (duty_items r blocks.columns)) (duty_items r blocks.columns) cover fault → IsRestCause r numbers fault
+          IsWrittenFault Drivers (piece_name (pieces_of_plan r.day blocks.columns) (duty_items r blocks.columns))
+          (duty_items r blocks.columns) cover fault → IsRestCause r numbers fault
       by (covers.NoPlan bound places) cause told =
           subst P (sym told) (
-            blocks-first blocks (refused Drivers bound places) are.written (record { duties = no_plan bound places; ends = cause.0; is = refl }),
+            blocks-first blocks (refused Drivers bound places) are.written
+                (record { duties = no_plan bound places; ends = cause.0; is = refl }),
             (blocks, are.written, none-kept r blocks.columns have cause.1),
           )
       by (covers.NotPlaced item partial) cause (inl told) = subst P (sym told) tt
       by (covers.NotPlaced item partial) cause (inr (name, named, told)) =
           subst P (sym told) (
-            blocks-first blocks (left_out Drivers item (written_plan (duty_items r blocks.columns) partial.columns)) are.written (record { duties = not_placed item partial.columns; ends = cause.0; is = refl }),
+            blocks-first blocks (left_out Drivers item (written_plan (duty_items r blocks.columns) partial.columns)) are.written
+                (record { duties = not_placed item partial.columns; ends = cause.0; is = refl }),
             record {
               blocks = blocks;
               blocks_are = are.written;
@@ -159,7 +175,8 @@ cheap-cost : (columns : List Column) → AreCheap columns → cost columns ≤ 4
 cheap-cost [] cheap = omega arith
 cheap-cost (c ∷ cs) cheap = let first = cheap.0 in omega (arith, first, cheap-cost cs cheap.1)
 
-pub printable : (r : Replan) (numbers : Numbers) (blocks duties : SidePlan) → IsReplanned r numbers blocks duties → length r.day.trips ≤ 3000 → length (pieces_of_plan r.day blocks.columns) ≤ 3000 →
+pub printable : (r : Replan) (numbers : Numbers) (blocks duties : SidePlan) → IsReplanned r numbers blocks duties →
+    length r.day.trips ≤ 3000 → length (pieces_of_plan r.day blocks.columns) ≤ 3000 →
     AreCheap blocks.columns → AreCheap duties.columns → IsPrintable r.day blocks duties
 printable r numbers blocks duties plan few few_pieces cheap_blocks cheap_duties =
     let blocks_plan = plan.blocks_are.keeps.plan in
@@ -179,8 +196,11 @@ printable r numbers blocks duties plan few few_pieces cheap_blocks cheap_duties 
       cheap_blocks = cheap_blocks;
       cheap_duties = cheap_duties;
       bounds =
-          All-cons small blocks.count.bound (blocks.cost.bound ∷ duties.count.bound ∷ duties.cost.bound ∷ []) (omega (arith, some_blocks, vehicles))
-          (All-cons small blocks.cost.bound (duties.count.bound ∷ duties.cost.bound ∷ []) (omega (arith, some_blocks, block_cost, cheap-cost blocks.columns cheap_blocks))
+          All-cons small blocks.count.bound (blocks.cost.bound ∷ duties.count.bound ∷ duties.cost.bound ∷ [])
+          (omega (arith, some_blocks, vehicles))
+          (All-cons small blocks.cost.bound (duties.count.bound ∷ duties.cost.bound ∷ [])
+          (omega (arith, some_blocks, block_cost, cheap-cost blocks.columns cheap_blocks))
           (All-cons small duties.count.bound (duties.cost.bound ∷ []) (omega (arith, some_duties, drivers))
-          (All-cons small duties.cost.bound [] (omega (arith, some_duties, duty_cost, cheap-cost duties.columns cheap_duties)) (All-nil small))));
+          (All-cons small duties.cost.bound [] (omega (arith, some_duties, duty_cost, cheap-cost duties.columns cheap_duties))
+          (All-nil small))));
     }

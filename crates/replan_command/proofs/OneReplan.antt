@@ -42,17 +42,23 @@ module _ (r : Replan) (numbers : Numbers) (fixed : numbers.climb ≡ false) wher
   one_blocks : (a b : SidePlan) → AreWrittenBlocks r numbers a → AreWrittenBlocks r numbers b → a.columns ≡ b.columns
   one_blocks a b h k =
       let same : planned a.count a.cost h.columns ≡ planned b.count b.cost k.columns =
-      one_ending (blocks_left r true) (blocks_left r false) numbers fixed (planned a.count a.cost h.columns) (planned b.count b.cost k.columns) h.made k.made in
-      h.order ∙ (ap (λ (columns : List Column). printed (written_plan (block_items r) columns)) (same_planned a.count a.cost b.count b.cost h.columns k.columns same) ∙ sym k.order)
+      one_ending (blocks_left r true) (blocks_left r false) numbers fixed (planned a.count a.cost h.columns)
+      (planned b.count b.cost k.columns) h.made k.made in
+      h.order ∙ (ap (λ (columns : List Column). printed (written_plan (block_items r) columns))
+      (same_planned a.count a.cost b.count b.cost h.columns k.columns same) ∙ sym k.order)
 
-  one_name : (side : Side) (item : ℕ) (name other : ItemName) (columns : List Column) → IsLeftItem r numbers side item name columns → IsLeftItem r numbers side item other columns → name ≡ other
+  one_name : (side : Side) (item : ℕ) (name other : ItemName) (columns : List Column) → IsLeftItem r numbers side item name columns →
+      IsLeftItem r numbers side item other columns → name ≡ other
   one_name Vehicles item name other columns h k = some-same (trip_name r.day.trips (block_items r) item) name other h.1 k.1
   one_name Drivers item name other columns h k =
       let P : List Column → Type 0 = λ blocks. piece_name (pieces_of_plan r.day blocks) (duty_items r blocks) item ≡ Some name in
-      some-same (piece_name (pieces_of_plan r.day k.blocks.columns) (duty_items r k.blocks.columns) item) name other (subst P (one_blocks h.blocks k.blocks h.blocks_are k.blocks_are) h.named) k.named
+      some-same (piece_name (pieces_of_plan r.day k.blocks.columns) (duty_items r k.blocks.columns) item) name other
+      (subst P (one_blocks h.blocks k.blocks h.blocks_are k.blocks_are) h.named) k.named
 
-  one_left : (side other : Side) (i j : ℕ) (name other_name : ItemName) (a b : Plan) → left_out side i a.columns ≡ left_out other j b.columns →
-      IsLeftItem r numbers side i name a.columns → IsLeftItem r numbers other j other_name b.columns → plans.NotPlaced side i name a ≡ plans.NotPlaced other j other_name b
+  one_left : (side other : Side) (i j : ℕ) (name other_name : ItemName) (a b : Plan) →
+      left_out side i a.columns ≡ left_out other j b.columns →
+      IsLeftItem r numbers side i name a.columns → IsLeftItem r numbers other j other_name b.columns →
+      plans.NotPlaced side i name a ≡ plans.NotPlaced other j other_name b
   one_left side other i j name other_name a b same h k =
       let sides : side ≡ other = same_side side other i j a.columns b.columns same in
       let items : i ≡ j = same_item side other i j a.columns b.columns same in
@@ -63,35 +69,46 @@ module _ (r : Replan) (numbers : Numbers) (fixed : numbers.climb ≡ false) wher
       let names : name ≡ other_name = one_name other j name other_name b.columns (subst R columns (subst Q items (subst P sides h))) k in
       ap (λ (s : Side). plans.NotPlaced s i name a) sides
       ∙ (ap (λ (n : ℕ). plans.NotPlaced other n name a) items
-      ∙ (ap (λ (n : ItemName). plans.NotPlaced other j n a) names ∙ ap (λ (cs : List Column). plans.NotPlaced other j other_name (record { columns = cs })) columns))
+      ∙ (ap (λ (n : ItemName). plans.NotPlaced other j n a) names
+      ∙ ap (λ (cs : List Column). plans.NotPlaced other j other_name (record { columns = cs })) columns))
 
   -- two causes in what is left are the same, but for want of memory
-  cause_once : (one other : PlanFault) → IsRestCause r numbers one → IsRestCause r numbers other → (one ≡ other) ⊎ ((one ≡ plans.Memory) ⊎ (other ≡ plans.Memory))
+  cause_once : (one other : PlanFault) → IsRestCause r numbers one → IsRestCause r numbers other →
+      (one ≡ other) ⊎ ((one ≡ plans.Memory) ⊎ (other ≡ plans.Memory))
   cause_once plans.Memory other h k = inr (inl refl)
   cause_once (plans.NoPlan side bound places) plans.Memory h k = inr (inr refl)
   cause_once (plans.NotPlaced side item name partial) plans.Memory h k = inr (inr refl)
   cause_once (plans.NoPlan side bound places) (plans.NoPlan side' bound' places') h k =
-      inl (same_refusal side side' bound places bound' places' (rest_once (refused side bound places) (refused side' bound' places') h.0 k.0))
+      inl (same_refusal side side' bound places bound' places'
+      (rest_once (refused side bound places) (refused side' bound' places') h.0 k.0))
   cause_once (plans.NoPlan side bound places) (plans.NotPlaced side' item name partial) h k =
-      absurd (not_both side side' bound places item partial.columns (rest_once (refused side bound places) (left_out side' item partial.columns) h.0 k.0))
+      absurd (not_both side side' bound places item partial.columns
+      (rest_once (refused side bound places) (left_out side' item partial.columns) h.0 k.0))
   cause_once (plans.NotPlaced side' item name partial) (plans.NoPlan side bound places) h k =
-      absurd (not_both side side' bound places item partial.columns (rest_once (refused side bound places) (left_out side' item partial.columns) k.0 h.0))
+      absurd (not_both side side' bound places item partial.columns
+      (rest_once (refused side bound places) (left_out side' item partial.columns) k.0 h.0))
   cause_once (plans.NotPlaced side i name a) (plans.NotPlaced other j other_name b) h k =
       inl (one_left side other i j name other_name a b (rest_once (left_out side i a.columns) (left_out other j b.columns) h.0 k.0) h.1 k.1)
 
   text_once : (table : Table) (one other : List ℕ) → IsTextOf r numbers table one → IsTextOf r numbers table other → one ≡ other
   text_once table one other h k =
-      let same : answered h.blocks h.duties ≡ answered k.blocks k.duties = rest_once (answered h.blocks h.duties) (answered k.blocks k.duties) h.plan.ends k.plan.ends in
+      let same : answered h.blocks h.duties ≡ answered k.blocks k.duties =
+      rest_once (answered h.blocks h.duties) (answered k.blocks k.duties) h.plan.ends k.plan.ends in
       h.written
-      ∙ (ap (λ (s : SidePlan). text (answer_tables r.day table (answer_of r.day s h.duties))) (same_blocks h.blocks h.duties k.blocks k.duties same)
-      ∙ (ap (λ (s : SidePlan). text (answer_tables r.day table (answer_of r.day k.blocks s))) (same_duties h.blocks h.duties k.blocks k.duties same) ∙ sym k.written))
+      ∙ (ap (λ (s : SidePlan). text (answer_tables r.day table (answer_of r.day s h.duties)))
+      (same_blocks h.blocks h.duties k.blocks k.duties same)
+      ∙ (ap (λ (s : SidePlan). text (answer_tables r.day table (answer_of r.day k.blocks s)))
+      (same_duties h.blocks h.duties k.blocks k.duties same) ∙ sym k.written))
 
   -- what is left and has a text has no cause
-  plan_or_cause : (table : Table) (bytes : List ℕ) (fault : PlanFault) → IsTextOf r numbers table bytes → IsRestCause r numbers fault → fault ≡ plans.Memory
+  plan_or_cause : (table : Table) (bytes : List ℕ) (fault : PlanFault) → IsTextOf r numbers table bytes →
+      IsRestCause r numbers fault → fault ≡ plans.Memory
   plan_or_cause table bytes (plans.NoPlan side bound places) h cause =
-      absurd (not_refused h.blocks h.duties side bound places (rest_once (answered h.blocks h.duties) (refused side bound places) h.plan.ends cause.0))
+      absurd (not_refused h.blocks h.duties side bound places
+      (rest_once (answered h.blocks h.duties) (refused side bound places) h.plan.ends cause.0))
   plan_or_cause table bytes (plans.NotPlaced side item name partial) h cause =
-      absurd (not_left h.blocks h.duties side item partial.columns (rest_once (answered h.blocks h.duties) (left_out side item partial.columns) h.plan.ends cause.0))
+      absurd (not_left h.blocks h.duties side item partial.columns
+      (rest_once (answered h.blocks h.duties) (left_out side item partial.columns) h.plan.ends cause.0))
   plan_or_cause table bytes plans.Memory h cause = refl
 
 -- The tables of an earlier plan say one plan, or one reason is against them, and not both.
@@ -107,20 +124,26 @@ module _ (day : DayFacts) (old : List Table) where
 
 -- texts and causes of what is left, whose earlier plan is one
 module _ (day : DayFacts) (old : List Table) (moment : ℕ) (numbers : Numbers) (fixed : numbers.climb ≡ false) where
-  same_text : (table : Table) (one other : List ℕ) → IsReplanTextOver day old moment numbers table one → IsReplanTextOver day old moment numbers table other → one ≡ other
+  same_text : (table : Table) (one other : List ℕ) → IsReplanTextOver day old moment numbers table one →
+      IsReplanTextOver day old moment numbers table other → one ≡ other
   same_text table one other h k =
       let P : PlanText → Type 0 = λ earlier. IsTextOf (replan_of day earlier moment) numbers table one in
-      text_once (replan_of day k.earlier moment) numbers fixed table one other (subst P (one_earlier day old h.earlier k.earlier h.good k.good) h.text_is) k.text_is
+      text_once (replan_of day k.earlier moment) numbers fixed table one other
+      (subst P (one_earlier day old h.earlier k.earlier h.good k.good) h.text_is) k.text_is
 
-  same_cause : (one other : PlanFault) → IsUnplannedRest day old moment numbers one → IsUnplannedRest day old moment numbers other → (one ≡ other) ⊎ ((one ≡ plans.Memory) ⊎ (other ≡ plans.Memory))
+  same_cause : (one other : PlanFault) → IsUnplannedRest day old moment numbers one → IsUnplannedRest day old moment numbers other →
+      (one ≡ other) ⊎ ((one ≡ plans.Memory) ⊎ (other ≡ plans.Memory))
   same_cause one other h k =
       let P : PlanText → Type 0 = λ earlier. IsRestCause (replan_of day earlier moment) numbers one in
-      cause_once (replan_of day k.earlier moment) numbers fixed one other (subst P (one_earlier day old h.earlier k.earlier h.good k.good) h.cause) k.cause
+      cause_once (replan_of day k.earlier moment) numbers fixed one other
+      (subst P (one_earlier day old h.earlier k.earlier h.good k.good) h.cause) k.cause
 
-  text_or_memory : (table : Table) (bytes : List ℕ) (fault : PlanFault) → IsReplanTextOver day old moment numbers table bytes → IsUnplannedRest day old moment numbers fault → fault ≡ plans.Memory
+  text_or_memory : (table : Table) (bytes : List ℕ) (fault : PlanFault) → IsReplanTextOver day old moment numbers table bytes →
+      IsUnplannedRest day old moment numbers fault → fault ≡ plans.Memory
   text_or_memory table bytes fault h k =
       let P : PlanText → Type 0 = λ earlier. IsTextOf (replan_of day earlier moment) numbers table bytes in
-      plan_or_cause (replan_of day k.earlier moment) numbers fixed table bytes fault (subst P (one_earlier day old h.earlier k.earlier h.good k.good) h.text_is) k.cause
+      plan_or_cause (replan_of day k.earlier moment) numbers fixed table bytes fault
+      (subst P (one_earlier day old h.earlier k.earlier h.good k.good) h.text_is) k.cause
 
 -- a cause as a fault of replanning
 abbrev as_fault : PlanFault → ReplanFault
@@ -140,33 +163,43 @@ module _ (day : DayFacts) where
   pub one_text : HasOneText day
   one_text = λ old moment numbers fixed table one other h k. same_text day old moment numbers fixed table one other h k
 
-  cause_of : (old : List Table) (moment : ℕ) (numbers : Numbers) → numbers.climb ≡ false → (one other : ReplanFault) → IsReplanCauseOver day old moment numbers one → IsReplanCauseOver day old moment numbers other →
+  cause_of : (old : List Table) (moment : ℕ) (numbers : Numbers) → numbers.climb ≡ false → (one other : ReplanFault) →
+      IsReplanCauseOver day old moment numbers one → IsReplanCauseOver day old moment numbers other →
       (one ≡ other) ⊎ ((one ≡ faults.Plan plans.Memory) ⊎ (other ≡ faults.Plan plans.Memory))
-  cause_of old moment numbers fixed (faults.OldPlan a) (faults.OldPlan b) h k = inl (ap (λ (reason : Reason). faults.OldPlan reason) (one_reason day old a b h k))
+  cause_of old moment numbers fixed (faults.OldPlan a) (faults.OldPlan b) h k =
+      inl (ap (λ (reason : Reason). faults.OldPlan reason) (one_reason day old a b h k))
   cause_of old moment numbers fixed (faults.OldPlan a) (faults.Plan b) h (inl none) = inr (inr (lacks b none))
-  cause_of old moment numbers fixed (faults.OldPlan a) (faults.Plan b) h (inr rest) = absurd (good_or_bad day old rest.earlier a rest.good h)
+  cause_of old moment numbers fixed (faults.OldPlan a) (faults.Plan b) h (inr rest) =
+      absurd (good_or_bad day old rest.earlier a rest.good h)
   cause_of old moment numbers fixed (faults.Plan a) (faults.OldPlan b) (inl none) k = inr (inl (lacks a none))
-  cause_of old moment numbers fixed (faults.Plan a) (faults.OldPlan b) (inr rest) k = absurd (good_or_bad day old rest.earlier b rest.good k)
+  cause_of old moment numbers fixed (faults.Plan a) (faults.OldPlan b) (inr rest) k =
+      absurd (good_or_bad day old rest.earlier b rest.good k)
   cause_of old moment numbers fixed (faults.Plan a) (faults.Plan b) (inl none) k = inr (inl (lacks a none))
   cause_of old moment numbers fixed (faults.Plan a) (faults.Plan b) (inr rest) (inl none) = inr (inr (lacks b none))
-  cause_of old moment numbers fixed (faults.Plan a) (faults.Plan b) (inr rest) (inr again) = same_faults a b (same_cause day old moment numbers fixed a b rest again)
+  cause_of old moment numbers fixed (faults.Plan a) (faults.Plan b) (inr rest) (inr again) =
+      same_faults a b (same_cause day old moment numbers fixed a b rest again)
 
   pub one_cause : HasOneCause day
   one_cause = λ old moment numbers fixed one other h k. cause_of old moment numbers fixed one other h k
 
-  memory_of : (old : List Table) (moment : ℕ) (numbers : Numbers) → numbers.climb ≡ false → (table : Table) (bytes : List ℕ) (fault : ReplanFault) →
-      IsReplanTextOver day old moment numbers table bytes → IsReplanCauseOver day old moment numbers fault → fault ≡ faults.Plan plans.Memory
+  memory_of : (old : List Table) (moment : ℕ) (numbers : Numbers) → numbers.climb ≡ false →
+      (table : Table) (bytes : List ℕ) (fault : ReplanFault) →
+      IsReplanTextOver day old moment numbers table bytes → IsReplanCauseOver day old moment numbers fault →
+      fault ≡ faults.Plan plans.Memory
   memory_of old moment numbers fixed table bytes (faults.OldPlan reason) h k = absurd (good_or_bad day old h.earlier reason h.good k)
   memory_of old moment numbers fixed table bytes (faults.Plan fault) h (inl none) = lacks fault none
-  memory_of old moment numbers fixed table bytes (faults.Plan fault) h (inr rest) = lacks fault (text_or_memory day old moment numbers fixed table bytes fault h rest)
+  memory_of old moment numbers fixed table bytes (faults.Plan fault) h (inr rest) =
+      lacks fault (text_or_memory day old moment numbers fixed table bytes fault h rest)
 
   pub text_or_cause : HasTextOrCause day
   text_or_cause = λ old moment numbers fixed table bytes fault h k. memory_of old moment numbers fixed table bytes fault h k
 
   -- by whichever method
-  reason_of : (old : List Table) (moment : ℕ) (numbers : Numbers) (reason : Reason) → IsOldAnswer day old (Bad reason) → (fault : ReplanFault) →
+  reason_of : (old : List Table) (moment : ℕ) (numbers : Numbers) (reason : Reason) → IsOldAnswer day old (Bad reason) →
+      (fault : ReplanFault) →
       IsReplanCauseOver day old moment numbers fault → (fault ≡ faults.OldPlan reason) ⊎ (fault ≡ faults.Plan plans.Memory)
-  reason_of old moment numbers reason bad (faults.OldPlan other) h = inl (ap (λ (r : Reason). faults.OldPlan r) (one_reason day old other reason h bad))
+  reason_of old moment numbers reason bad (faults.OldPlan other) h =
+      inl (ap (λ (r : Reason). faults.OldPlan r) (one_reason day old other reason h bad))
   reason_of old moment numbers reason bad (faults.Plan fault) (inl none) = inr (lacks fault none)
   reason_of old moment numbers reason bad (faults.Plan fault) (inr rest) = absurd (good_or_bad day old rest.earlier reason rest.good bad)
 

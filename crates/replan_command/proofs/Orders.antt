@@ -49,7 +49,8 @@ put-from c d (next ∷ cs) j at = by (nat_lt (first_of_column next) (first_of_co
     skip (zero, is) = (0, is)
     skip (suc i, is) = (suc (suc i), is)
 
-    by : (b : Bool) (i : ℕ) → slice_get (if b then next ∷ put c cs else c ∷ next ∷ cs) i ≡ Some d → ((k : ℕ) → slice_get (put c cs) k ≡ Some d → IsIn d (c ∷ cs)) →
+    by : (b : Bool) (i : ℕ) → slice_get (if b then next ∷ put c cs else c ∷ next ∷ cs) i ≡ Some d →
+        ((k : ℕ) → slice_get (put c cs) k ≡ Some d → IsIn d (c ∷ cs)) →
         IsIn d (c ∷ next ∷ cs)
     by true zero is rest = (1, is)
     by true (suc i) is rest = skip (rest i is)
@@ -57,7 +58,8 @@ put-from c d (next ∷ cs) j at = by (nat_lt (first_of_column next) (first_of_co
 
 printed-there : (d : Column) (cs : List Column) (j : ℕ) → slice_get cs j ≡ Some d → IsIn d (printed cs)
 printed-there d [] j at = absurd (cc)
-printed-there d (c ∷ cs) zero at = let P : Column → Type 0 = λ e. IsIn e (put c (printed cs)) in subst P (some-same c d at) (put-there c (printed cs))
+printed-there d (c ∷ cs) zero at =
+    let P : Column → Type 0 = λ e. IsIn e (put c (printed cs)) in subst P (some-same c d at) (put-there c (printed cs))
 printed-there d (c ∷ cs) (suc j) at = let (i, here) = printed-there d cs j at in put-stays c d (printed cs) i here
 
 there-printed : (d : Column) (cs : List Column) (j : ℕ) → slice_get (printed cs) j ≡ Some d → IsIn d cs
@@ -69,7 +71,8 @@ there-printed d (c ∷ cs) j at = go (put-from c d (printed cs) j at) (λ i is. 
     go (suc i, is) rest = later c d cs (rest i is)
 
 -- columns that keep what has begun keep it in printed order
-pub order-keeps : (heads : List Begun) (may : ℕ → List ℕ → Bool) (cs : List Column) → KeepsBegun heads may cs → KeepsBegun heads may (printed cs)
+pub order-keeps : (heads : List Begun) (may : ℕ → List ℕ → Bool) (cs : List Column) → KeepsBegun heads may cs →
+    KeepsBegun heads may (printed cs)
 order-keeps heads may cs keeps = record {
   kept = λ k h at.
       let (j, c, there, begins) = keeps.kept k h at in

@@ -39,7 +39,8 @@ module _ (day : DayFacts) where
         record { place = suc f.place; block = f.block; there = f.there; stands = subst P n f.stands }
   ]
 
-  pub in-all : (number : ℕ) (blocks : List Column) (place : ℕ) (c : Column) (p : Piece) → slice_get blocks place ≡ Some c → Stands (block_pieces day (number + place) c) p → Stands (pieces_by_block day number blocks) p
+  pub in-all : (number : ℕ) (blocks : List Column) (place : ℕ) (c : Column) (p : Piece) → slice_get blocks place ≡ Some c →
+      Stands (block_pieces day (number + place) c) p → Stands (pieces_by_block day number blocks) p
   in-all number [] place c p at s = absurd (cc)
   in-all number (d ∷ ds) zero c p at s =
       let P : Column → Type 0 = λ c. Stands (block_pieces day (number + 0) c) p in
@@ -70,17 +71,20 @@ module _ (day : DayFacts) where
   pub has-legs : (number : ℕ) (column : Column) (p : Piece) → Stands (block_pieces day number column) p → HasLegs number column p
   has-legs number column p s = of-pool (slice_get day.params.pools column.class) refl s
     where
-      of-legs : (pool : Pool) → slice_get day.params.pools column.class ≡ Some pool → (o : Option (List Leg)) → legs_of day pool column.items ≡ o → Stands (by-legs pool number o) p → HasLegs number column p
+      of-legs : (pool : Pool) → slice_get day.params.pools column.class ≡ Some pool → (o : Option (List Leg)) →
+          legs_of day pool column.items ≡ o → Stands (by-legs pool number o) p → HasLegs number column p
       of-legs pool there None e s = absurd (stands-none p s)
       of-legs pool there (Some legs) e s =
           let P : List Piece → Type 0 = λ ps. Stands ps p in
           record { pool = pool; there = there; legs = legs; made = e; stands = subst P (sym (cut_whole day pool number legs)) s }
 
-      of-pool : (o : Option Pool) → slice_get day.params.pools column.class ≡ o → Stands (by-pool number column.items o) p → HasLegs number column p
+      of-pool : (o : Option Pool) → slice_get day.params.pools column.class ≡ o → Stands (by-pool number column.items o) p →
+          HasLegs number column p
       of-pool None e s = absurd (stands-none p s)
       of-pool (Some pool) e s = of-legs pool e (legs_of day pool column.items) refl s
 
-  pub legs-in : (number : ℕ) (column : Column) (pool : Pool) (legs : List Leg) (p : Piece) → slice_get day.params.pools column.class ≡ Some pool → legs_of day pool column.items ≡ Some legs →
+  pub legs-in : (number : ℕ) (column : Column) (pool : Pool) (legs : List Leg) (p : Piece) →
+      slice_get day.params.pools column.class ≡ Some pool → legs_of day pool column.items ≡ Some legs →
       Stands (cut_on day pool number 1 None legs) p → Stands (block_pieces day number column) p
   legs-in number column pool legs p there made s =
       let is : block_pieces day number column ≡ cut_on day pool number 1 None legs =
@@ -103,20 +107,26 @@ module _ (day : DayFacts) where
       of : (o : Option (List Leg)) → legs_of day pool list ≡ o → (legs : List Leg) × (legs_of day pool list ≡ Some legs)
       of None e =
           let no : can_be_driven day pool list ≡ false =
-          ap (λ (o : Option (List Leg)). option_map_or (λ (pieces : List Piece). list_all may_be_driven pieces) (option_and_then (λ (legs : List Leg). Some (pieces_from 1 1 (parts day pool legs))) o) false) e in
+          ap (λ (o : Option (List Leg)). option_map_or (λ (pieces : List Piece). list_all may_be_driven pieces)
+          (option_and_then (λ (legs : List Leg). Some (pieces_from 1 1 (parts day pool legs))) o) false) e in
           absurd (let bad : true ≡ false = sym driven ∙ no in cc)
       of (Some legs) e = (legs, e)
 
   -- the cost of a list where it can be driven
   abbrev cost-if : Pool → List ℕ → Option ℕ
-  cost-if pool list = given (can_be_driven day pool list) (option_and_then (λ (ts : List Trip). option_and_then (λ (c : ℕ). Some c) (block_cost day pool ts)) (trips_at day.trips list))
+  cost-if pool list = given (can_be_driven day pool list)
+      (option_and_then (λ (ts : List Trip). option_and_then (λ (c : ℕ). Some c) (block_cost day pool ts)) (trips_at day.trips list))
 
-  pub worth-legs : (class : ℕ) (list : List ℕ) (pool : Pool) → is_some (block_worth day false class list) ≡ true → slice_get day.params.pools class ≡ Some pool → (legs : List Leg) × (legs_of day pool list ≡ Some legs)
+  pub worth-legs : (class : ℕ) (list : List ℕ) (pool : Pool) → is_some (block_worth day false class list) ≡ true →
+      slice_get day.params.pools class ≡ Some pool → (legs : List Leg) × (legs_of day pool list ≡ Some legs)
   worth-legs class list pool some there =
       let worth = some-from (block_worth day false class list) some in
-      let risen = given-true (rises list) (option_and_then (λ (pool : Pool). cost-if pool list) (slice_get day.params.pools class)) worth.0 worth.1 in
+      let risen = given-true (rises list) (option_and_then (λ (pool : Pool). cost-if pool list) (slice_get day.params.pools class))
+      worth.0 worth.1 in
       let own = and_then_some (λ (pool : Pool). cost-if pool list) (slice_get day.params.pools class) worth.0 risen.1 in
-      let driven = given-true (can_be_driven day own.0 list) (option_and_then (λ (ts : List Trip). option_and_then (λ (c : ℕ). Some c) (block_cost day own.0 ts)) (trips_at day.trips list)) worth.0 own.2 in
+      let driven = given-true (can_be_driven day own.0 list)
+      (option_and_then (λ (ts : List Trip). option_and_then (λ (c : ℕ). Some c) (block_cost day own.0 ts)) (trips_at day.trips list))
+      worth.0 own.2 in
       let same : own.0 ≡ pool = some_same own.0 pool (sym own.1 ∙ there) in
       let P : Pool → Type 0 = λ pool. can_be_driven day pool list ≡ true in
       driven-legs pool list (subst P same driven.0)

@@ -1,7 +1,7 @@
--- Blocks that begin alike are cut alike. Where the same has begun of two plans of a day's blocks, each piece of the one that begins before the
--- moment is the piece of the same index of the block of the other with the same first trip: it leaves its depot before the moment, so it has a
--- head; the head is of a block of the other plan too; and the legs up to the last trip of a head hold each leg that begins before the moment, or
--- the head is the whole block.
+-- Blocks that begin alike are cut alike. Where the same has begun of two plans of a day's blocks, each piece of the one that begins
+-- before the moment is the piece of the same index of the block of the other with the same first trip: it leaves its depot before the
+-- moment, so it has a head; the head is of a block of the other plan too; and the legs up to the last trip of a head hold each leg that
+-- begins before the moment, or the head is the whole block.
 use Rattle.std.proofs.Common.{◌≡◌, ℕ, ◌+◌, ◌<◌, ◌≤◌, pos, ◌<ℤ◌, int_lt, Bool, true, false, suc, List, [], ◌∷◌, ◌++◌, length, All, Option, Some, None, refl, sym, ap, subst, ◌∙◌, arith, append-nil, slice_get}
 use Rattle.std.specs.Prelude.{option_and_then}
 use Rattle.std.specs.Option.{option_map}
@@ -34,7 +34,8 @@ use Rattle.replan_command.proofs.PlanPieces.{HasLegs, IsOfBlock, has-legs, in-al
 -- What stands for a piece of new blocks in an earlier plan: a block with the same first trip, which has a piece of the same index.
 abbrev pub HasSameCut : DayFacts → List Column → List Column → Piece → Type 0
 HasSameCut day earlier blocks p =
-    (x : ℕ × ℕ) × (part_of blocks earlier p ≡ Some x) × ((n : ℕ) × (q : Piece) × (slice_get (pieces_of_plan day earlier) n ≡ Some q) × (q.block ≡ x.0) × (q.index ≡ x.1))
+    (x : ℕ × ℕ) × (part_of blocks earlier p ≡ Some x)
+    × ((n : ℕ) × (q : Piece) × (slice_get (pieces_of_plan day earlier) n ≡ Some q) × (q.block ≡ x.0) × (q.index ≡ x.1))
 
 first-or : ℕ → List ℕ → ℕ
 first-or x [] = x
@@ -50,7 +51,8 @@ last-in x [] = x
 last-in x (t ∷ ts) = last_trip t ts
 
 -- the block of a plan in which a piece's block has its head
-part-is : (blocks earlier : List Column) (p : Piece) (place : ℕ) (c : Column) (first number : ℕ) (others : List ℕ) → p.block ≡ suc place → slice_get blocks place ≡ Some c → c.items ≡ first ∷ others →
+part-is : (blocks earlier : List Column) (p : Piece) (place : ℕ) (c : Column) (first number : ℕ) (others : List ℕ) → p.block ≡ suc place →
+    slice_get blocks place ≡ Some c → c.items ≡ first ∷ others →
     block_with earlier 1 first ≡ Some number → part_of blocks earlier p ≡ Some (number, p.index)
 part-is blocks earlier p place c first number others of at items found =
     ap (λ (n : ℕ). option_and_then (part_with earlier p.index) (first_of blocks n)) of
@@ -60,13 +62,16 @@ part-is blocks earlier p place c first number others of at items found =
 
 module _ (day : DayFacts) (moment : ℕ) (daily : All IsDaily day.trips) where
   -- blocks of one pool that begin with the same kept trips share their legs up to the moment
-  shares : (pool : Pool) (first : ℕ) (kept more further : List ℕ) (one other : List Leg) → legs_of day pool (first ∷ (kept ++ more)) ≡ Some one → legs_of day pool (first ∷ (kept ++ further)) ≡ Some other →
-      (ends_before day moment (last_trip first kept) ≡ true → more ≡ []) → (ends_before day moment (last_trip first kept) ≡ true → further ≡ []) → Share (pos moment) one other
+  shares : (pool : Pool) (first : ℕ) (kept more further : List ℕ) (one other : List Leg) →
+      legs_of day pool (first ∷ (kept ++ more)) ≡ Some one → legs_of day pool (first ∷ (kept ++ further)) ≡ Some other →
+      (ends_before day moment (last_trip first kept) ≡ true → more ≡ []) →
+      (ends_before day moment (last_trip first kept) ≡ true → further ≡ []) → Share (pos moment) one other
   shares pool first kept more further one other made made' ends ends' = by (ends_before day moment (last_trip first kept)) refl
     where
       by : (b : Bool) → ends_before day moment (last_trip first kept) ≡ b → Share (pos moment) one other
       by true e =
-          let whole : Some one ≡ Some other = sym made ∙ ap (λ (l : List ℕ). legs_of day pool (first ∷ (kept ++ l))) (ends e ∙ sym (ends' e)) ∙ made' in
+          let whole : Some one ≡ Some other =
+          sym made ∙ ap (λ (l : List ℕ). legs_of day pool (first ∷ (kept ++ l))) (ends e ∙ sym (ends' e)) ∙ made' in
           let same : one ≡ other = cc in
           record { front = one; back = []; more = []; is = sym (append-nil one); other_is = sym same ∙ sym (append-nil one); later = tt }
       by false e =
@@ -74,42 +79,62 @@ module _ (day : DayFacts) (moment : ℕ) (daily : All IsDaily day.trips) where
           let g = block-fronted day pool moment first kept further other daily made' in
           let up : Some f.front ≡ Some g.front = sym f.there ∙ g.there in
           let same : g.front ≡ f.front = cc in
-          record { front = f.front; back = f.back; more = g.back; is = f.is; other_is = g.is ∙ ap (λ (ls : List Leg). ls ++ g.back) same; later = f.later e }
+          record {
+            front = f.front;
+            back = f.back;
+            more = g.back;
+            is = f.is;
+            other_is =
+                g.is ∙ ap (λ (ls : List Leg). ls ++ g.back) same;
+            later = f.later e;
+          }
 
-  module _ (earlier blocks : List Column) (same : heads_of day moment blocks ≡ heads_of day moment earlier) (once : (trip : ℕ) → trip < length day.trips → times trip (all_items earlier) ≤ 1)
+  module _ (earlier blocks : List Column) (same : heads_of day moment blocks ≡ heads_of day moment earlier)
+      (once : (trip : ℕ) → trip < length day.trips → times trip (all_items earlier) ≤ 1)
       (worths : All (HasWorth day) earlier) where
     -- with the block of the earlier plan that has the head of the piece's block
-    with-head : (p : Piece) (b : IsOfBlock day 1 blocks p) (l : HasLegs day (1 + b.place) b.block p) (first : ℕ) (others : List ℕ) → b.block.items ≡ first ∷ others → p.begin.0 <ℤ pos moment → first < length day.trips →
+    with-head : (p : Piece) (b : IsOfBlock day 1 blocks p) (l : HasLegs day (1 + b.place) b.block p) (first : ℕ) (others : List ℕ) →
+        b.block.items ≡ first ∷ others → p.begin.0 <ℤ pos moment → first < length day.trips →
         ComesFrom day moment earlier (head-of day moment b.block.class first others) → HasSameCut day earlier blocks p
     with-head p b l first others items early within f =
         let class : f.block.class ≡ b.block.class = ap (λ (h : Head). h.class) f.is in
-        let trips : f.first ∷ kept_after day moment f.first f.rest ≡ first ∷ kept_after day moment first others = ap (λ (h : Head). h.trips) f.is in
+        let trips : f.first ∷ kept_after day moment f.first f.rest ≡ first ∷ kept_after day moment first others =
+        ap (λ (h : Head). h.trips) f.is in
         let head : f.first ≡ first = cc in
         let kept : kept_after day moment f.first f.rest ≡ kept_after day moment first others = cc in
-        let last : last_trip f.first (kept_after day moment f.first f.rest) ≡ last_trip first (kept_after day moment first others) = ap (last-in 0) trips in
+        let last : last_trip f.first (kept_after day moment f.first f.rest) ≡ last_trip first (kept_after day moment first others) =
+        ap (last-in 0) trips in
         let own = front day moment first others in
         let old = front day moment f.first f.rest in
         let list : first ∷ others ≡ first ∷ (kept_after day moment first others ++ own.more) = ap (λ (ts : List ℕ). first ∷ ts) own.is in
         let old_list : f.block.items ≡ first ∷ (kept_after day moment first others ++ old.more) =
         f.items ∙ ap (λ (ts : List ℕ). f.first ∷ ts) old.is ∙ ap (λ (ts : List ℕ). ts ++ old.more) trips in
         let there : slice_get day.params.pools f.block.class ≡ Some l.pool = ap (slice_get day.params.pools) class ∙ l.there in
-        let worth : HasWorth day f.block = (let P : Column → Type 0 = HasWorth day in subst P (get_or_from_slice_get earlier f.place f.block f.block f.there) (worths f.place f.block (slice_get_within earlier f.place f.block f.there))) in
+        let worth : HasWorth day f.block =
+        (let P : Column → Type 0 = HasWorth day in
+        subst P (get_or_from_slice_get earlier f.place f.block f.block f.there)
+        (worths f.place f.block (slice_get_within earlier f.place f.block f.there))) in
         let legs = worth-legs day f.block.class f.block.items l.pool worth there in
-        let made : legs_of day l.pool (first ∷ (kept_after day moment first others ++ own.more)) ≡ Some l.legs = ap (legs_of day l.pool) (sym list) ∙ ap (legs_of day l.pool) (sym items) ∙ l.made in
-        let old_made : legs_of day l.pool (first ∷ (kept_after day moment first others ++ old.more)) ≡ Some legs.0 = ap (legs_of day l.pool) (sym old_list) ∙ legs.1 in
-        let share = shares l.pool first (kept_after day moment first others) own.more old.more l.legs legs.0 made old_made own.ends (λ e. old.ends (ap (ends_before day moment) last ∙ e)) in
+        let made : legs_of day l.pool (first ∷ (kept_after day moment first others ++ own.more)) ≡ Some l.legs =
+        ap (legs_of day l.pool) (sym list) ∙ ap (legs_of day l.pool) (sym items) ∙ l.made in
+        let old_made : legs_of day l.pool (first ∷ (kept_after day moment first others ++ old.more)) ≡ Some legs.0 =
+        ap (legs_of day l.pool) (sym old_list) ∙ legs.1 in
+        let share = shares l.pool first (kept_after day moment first others) own.more old.more l.legs legs.0 made old_made own.ends
+        (λ e. old.ends (ap (ends_before day moment) last ∙ e)) in
         let (q, s, of, index) = same-index day l.pool (pos moment) (1 + b.place) (1 + f.place) l.legs legs.0 p share l.stands early in
         let by_block = in-all day 1 earlier f.place f.block q f.there (legs-in day (1 + f.place) f.block l.pool legs.0 q there legs.1 s) in
         let (n, at) = ordered-in begin_moment (pieces_by_block day 1 earlier) q by_block in
         let P : ℕ → Type 0 = λ first. block_with earlier 1 first ≡ Some (1 + f.place) in
         let few = once first within in
         let Q : ℕ → Type 0 = λ first. times first (all_items earlier) ≤ 1 in
-        let found : block_with earlier 1 first ≡ Some (1 + f.place) = subst P head (block-found earlier 1 f.place f.block f.first f.rest (subst Q (sym head) few) f.there f.items) in
+        let found : block_with earlier 1 first ≡ Some (1 + f.place) =
+        subst P head (block-found earlier 1 f.place f.block f.first f.rest (subst Q (sym head) few) f.there f.items) in
         let own_block = of-block day l.pool (1 + b.place) l.legs p l.stands in
         let part = part-is blocks earlier p b.place b.block first (1 + f.place) others (omega (arith, own_block)) b.there items found in
         ((1 + f.place, p.index), part, (n, q, at, of, index))
 
-    with-first : (p : Piece) (b : IsOfBlock day 1 blocks p) (l : HasLegs day (1 + b.place) b.block p) (first : ℕ) (others : List ℕ) → b.block.items ≡ first ∷ others → p.begin.0 <ℤ pos moment → HasSameCut day earlier blocks p
+    with-first : (p : Piece) (b : IsOfBlock day 1 blocks p) (l : HasLegs day (1 + b.place) b.block p) (first : ℕ) (others : List ℕ) →
+        b.block.items ≡ first ∷ others → p.begin.0 <ℤ pos moment → HasSameCut day earlier blocks p
     with-first p b l first others items early = by (leaves_before day moment b.block.class first) refl
       where
         made : legs_of day l.pool (first ∷ others) ≡ Some l.legs
@@ -121,7 +146,8 @@ module _ (day : DayFacts) (moment : ℕ) (daily : All IsDaily day.trips) where
         by : (leaves : Bool) → leaves_before day moment b.block.class first ≡ leaves → HasSameCut day earlier blocks p
         by true leaves =
             let head : Head = head-of day moment b.block.class first others in
-            let there : Stands (heads_of day moment blocks) head = head-there day moment blocks (length day.trips) b.place b.block first others within b.there items leaves in
+            let there : Stands (heads_of day moment blocks) head =
+            head-there day moment blocks (length day.trips) b.place b.block first others within b.there items leaves in
             let P : List Head → Type 0 = λ heads. Stands heads head in
             with-head p b l first others items early within (comes-from day moment earlier (length day.trips) 0 head (subst P same there))
         by false leaves =
@@ -129,22 +155,28 @@ module _ (day : DayFacts) (moment : ℕ) (daily : All IsDaily day.trips) where
             let low = none-before day l.pool (pos moment) (1 + b.place) 1 None l.legs p tt later l.stands in
             absurd (omega (arith, ints, low, early))
 
-    found-one : (p : Piece) (b : IsOfBlock day 1 blocks p) (l : HasLegs day (1 + b.place) b.block p) (list : List ℕ) → b.block.items ≡ list → p.begin.0 <ℤ pos moment → HasSameCut day earlier blocks p
-    found-one p b l [] items early = absurd (let none : legs_of day l.pool [] ≡ Some l.legs = ap (legs_of day l.pool) (sym items) ∙ l.made in cc)
+    found-one : (p : Piece) (b : IsOfBlock day 1 blocks p) (l : HasLegs day (1 + b.place) b.block p) (list : List ℕ) →
+        b.block.items ≡ list → p.begin.0 <ℤ pos moment → HasSameCut day earlier blocks p
+    found-one p b l [] items early =
+        absurd (let none : legs_of day l.pool [] ≡ Some l.legs = ap (legs_of day l.pool) (sym items) ∙ l.made in cc)
     found-one p b l (first ∷ others) items early = with-first p b l first others items early
 
     -- where the same has begun of both plans each piece that begins before the moment is one of the earlier plan
-    pub same-heads-cut : (k : ℕ) (p : Piece) → slice_get (pieces_of_plan day blocks) k ≡ Some p → int_lt p.begin.0 (pos moment) ≡ true → HasSameCut day earlier blocks p
+    pub same-heads-cut : (k : ℕ) (p : Piece) → slice_get (pieces_of_plan day blocks) k ≡ Some p → int_lt p.begin.0 (pos moment) ≡ true →
+        HasSameCut day earlier blocks p
     same-heads-cut k p at before =
         let early : p.begin.0 <ℤ pos moment = grind (arith, ints) in
         let b = of-one day 1 blocks p (ordered-out begin_moment (pieces_by_block day 1 blocks) p (k, at)) in
         found-one p b (has-legs day (1 + b.place) b.block p b.stands) b.block.items refl early
 
 -- in a plan that keeps what has begun of an earlier one each piece that begins before the moment is one of the earlier plan
-pub same_cut : (day : DayFacts) (earlier blocks : List Column) (moment : ℕ) → All IsDaily day.trips → AreOfDay day earlier → IsEachOnce day earlier → All (HasWorth day) earlier →
+pub same_cut : (day : DayFacts) (earlier blocks : List Column) (moment : ℕ) → All IsDaily day.trips → AreOfDay day earlier →
+    IsEachOnce day earlier → All (HasWorth day) earlier →
     IsPlan (blocks_of day false) blocks → KeepsBegun (begun_of (heads_of day moment earlier)) (may_begin day moment) blocks →
-    (k : ℕ) (p : Piece) → slice_get (pieces_of_plan day blocks) k ≡ Some p → int_lt p.begin.0 (pos moment) ≡ true → HasSameCut day earlier blocks p
+    (k : ℕ) (p : Piece) → slice_get (pieces_of_plan day blocks) k ≡ Some p → int_lt p.begin.0 (pos moment) ≡ true →
+    HasSameCut day earlier blocks p
 same_cut day earlier blocks moment daily are each worths plan keeps k p at before =
     let same = (kept-is-same day false moment earlier blocks are each plan).0 keeps in
-    let once : (trip : ℕ) → trip < length day.trips → times trip (all_items earlier) ≤ 1 = λ trip within. let one = each trip within in omega (arith, one) in
+    let once : (trip : ℕ) → trip < length day.trips → times trip (all_items earlier) ≤ 1 =
+    λ trip within. let one = each trip within in omega (arith, one) in
     same-heads-cut day moment daily earlier blocks same once worths k p at before

@@ -9,9 +9,11 @@ use Rattle.replan_command.specs.ReplanText.{IsReplanCauseOver, IsReplanTextOver}
 -- a text of the one day is one of the other
 abbrev pub HaveSameTexts : DayFacts → DayFacts → Type 0
 HaveSameTexts one other =
-    (old : List Table) (moment : ℕ) (numbers : Numbers) (table : Table) (bytes : List ℕ) → IsReplanTextOver one old moment numbers table bytes → IsReplanTextOver other old moment numbers table bytes
+    (old : List Table) (moment : ℕ) (numbers : Numbers) (table : Table) (bytes : List ℕ) →
+    IsReplanTextOver one old moment numbers table bytes → IsReplanTextOver other old moment numbers table bytes
 
 -- a cause for a refusal of the one day is one of the other
 abbrev pub HaveSameCauses : DayFacts → DayFacts → Type 0
 HaveSameCauses one other =
-    (old : List Table) (moment : ℕ) (numbers : Numbers) (fault : ReplanFault) → IsReplanCauseOver one old moment numbers fault → IsReplanCauseOver other old moment numbers fault
+    (old : List Table) (moment : ℕ) (numbers : Numbers) (fault : ReplanFault) → IsReplanCauseOver one old moment numbers fault →
+    IsReplanCauseOver other old moment numbers fault

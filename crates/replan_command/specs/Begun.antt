@@ -27,9 +27,11 @@ none_begun moment pieces (k ∷ ks) = not (has_begun_at moment pieces k) && none
 abbrev pub duty_facts : DayFacts → List Column → Bool → DutyFacts
 duty_facts day blocks counts = record { pieces = pieces_of_plan day blocks; params = day.params; counts = counts }
 
--- Each piece of new blocks that begins before a moment has its duty in an earlier plan, and one alone: a part of that duty stands for it, and
--- the duty's group is there.
+-- Each piece of new blocks that begins before a moment has its duty in an earlier plan, and one alone: a part of that duty stands for it,
+-- and the duty's group is there.
 pub record HaveDuties (day : DayFacts) (earlier : PlanText) (moment : ℕ) (blocks : List Column) : Type 0 where
-  pub belongs : (k : ℕ) → has_begun_at moment (pieces_of_plan day blocks) k ≡ true → has_begun_in (duty_facts day blocks false) blocks earlier moment k ≡ true
-  pub once : (k : ℕ) (p : Piece) (x : ℕ × ℕ) → slice_get (pieces_of_plan day blocks) k ≡ Some p → begun_part blocks earlier.blocks.columns moment p ≡ Some x →
+  pub belongs : (k : ℕ) → has_begun_at moment (pieces_of_plan day blocks) k ≡ true →
+      has_begun_in (duty_facts day blocks false) blocks earlier moment k ≡ true
+  pub once : (k : ℕ) (p : Piece) (x : ℕ × ℕ) → slice_get (pieces_of_plan day blocks) k ≡ Some p →
+      begun_part blocks earlier.blocks.columns moment p ≡ Some x →
       part_times x (all_parts earlier.duties) ≡ 1

@@ -31,9 +31,11 @@ HasTextOrCause day =
 -- An earlier plan that is refused has no text and no other cause, by whichever method the rest is planned.
 pub record IsRefusedAlone (day : DayFacts) (old : List Table) (moment : ℕ) (numbers : Numbers) (reason : Reason) : Type 0 where
   pub no_text : (table : Table) (bytes : List ℕ) → IsReplanTextOver day old moment numbers table bytes → ⊥
-  pub no_other : (fault : ReplanFault) → IsReplanCauseOver day old moment numbers fault → (fault ≡ faults.OldPlan reason) ⊎ (fault ≡ faults.Plan plans.Memory)
+  pub no_other : (fault : ReplanFault) → IsReplanCauseOver day old moment numbers fault →
+      (fault ≡ faults.OldPlan reason) ⊎ (fault ≡ faults.Plan plans.Memory)
 
 abbrev pub RefusedAlone : DayFacts → Type 0
 RefusedAlone day =
-    (old : List Table) (moment : ℕ) (numbers : Numbers) (reason : Reason) → IsReplanCauseOver day old moment numbers (faults.OldPlan reason) →
+    (old : List Table) (moment : ℕ) (numbers : Numbers) (reason : Reason) →
+    IsReplanCauseOver day old moment numbers (faults.OldPlan reason) →
     IsRefusedAlone day old moment numbers reason

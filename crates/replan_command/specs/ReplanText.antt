@@ -16,7 +16,8 @@ use Rattle.replan_command.specs.declared.fault.ReplanFault.{ReplanFault}
 use Rattle.replan_command.specs.declared.fault.ReplanFault.TheVariants as faults
 use Rattle.replan_command.specs.Replanning.{IsReplanned, IsRestCause, Replan, replan_of}
 
--- The text of the new plan, from the table that the trips were read from: the seven tables of the blocks and duties that the method ends with.
+-- The text of the new plan, from the table that the trips were read from: the seven tables of the blocks and duties that the method ends
+-- with.
 pub record IsTextOf (r : Replan) (numbers : Numbers) (table : Table) (bytes : List ℕ) : Type 0 where
   pub blocks : SidePlan
   pub duties : SidePlan
@@ -25,10 +26,11 @@ pub record IsTextOf (r : Replan) (numbers : Numbers) (table : Table) (bytes : Li
 
 -- The text of the new plan of a day from a moment on, by the tables of an earlier plan, which are a plan of the day, whatever places
 -- there are. No worker occurs in it.
-pub record IsReplanTextOver (day : DayFacts) (old : List Table) (moment : ℕ) (numbers : Numbers) (table : Table) (bytes : List ℕ) : Type 0 where
-  pub earlier : PlanText
-  pub good : IsOldAnswer day old (Good earlier)
-  pub text_is : IsTextOf (replan_of day earlier moment) numbers table bytes
+pub record IsReplanTextOver (day : DayFacts) (old : List Table) (moment : ℕ) (numbers : Numbers) (table : Table) (bytes : List ℕ) : Type 0
+  where
+    pub earlier : PlanText
+    pub good : IsOldAnswer day old (Good earlier)
+    pub text_is : IsTextOf (replan_of day earlier moment) numbers table bytes
 
 -- the tables of an earlier plan are one, and what is left from the moment on has no plan, for this cause
 pub record IsUnplannedRest (day : DayFacts) (old : List Table) (moment : ℕ) (numbers : Numbers) (fault : PlanFault) : Type 0 where

@@ -92,8 +92,8 @@ pub record KeepsBlocks (r : Replan) (blocks : List Column) : Type 0 where
   pub plan : IsPlan (blocks_of r.day false) blocks
   pub keeps : KeepsBegun (begun_blocks r) (may_begin r.day r.moment) blocks
 
--- A plan of duties over new blocks that keeps what has begun: each head's pieces are the first pieces of a duty of its group, with no further
--- piece where the head is finished, and every other duty has no piece that begins before the moment.
+-- A plan of duties over new blocks that keeps what has begun: each head's pieces are the first pieces of a duty of its group, with no
+-- further piece where the head is finished, and every other duty has no piece that begins before the moment.
 pub record KeepsDuties (r : Replan) (blocks duties : List Column) : Type 0 where
   pub plan : IsPlan (duties_over r.day blocks false) duties
   pub keeps : KeepsBegun (begun_duties r blocks) (λ class list. none_begun r.moment (pieces_of_plan r.day blocks) list) duties
@@ -104,8 +104,8 @@ pub record IsKeptSide (Keeps : List Column → Type 0) (side : SidePlan) : Type 
   pub number : (columns : List Column) → Keeps columns → side.count.bound ≤ length columns
   pub cost : (columns : List Column) → Keeps columns → side.cost.bound ≤ cost columns
 
--- The new plan of a day: the method ends with these blocks and duties over what is left. Both keep what has begun, and the four bounds hold of
--- all plans that do.
+-- The new plan of a day: the method ends with these blocks and duties over what is left. Both keep what has begun, and the four bounds
+-- hold of all plans that do.
 pub record IsReplanned (r : Replan) (numbers : Numbers) (blocks duties : SidePlan) : Type 0 where
   pub ends : DayEndsAs (rest_problems r) numbers (answered blocks duties)
   pub blocks_are : IsKeptSide (KeepsBlocks r) blocks
@@ -121,11 +121,12 @@ pub record IsWrittenSide (counted costed : Problem) (items : List (List ℕ)) (n
 abbrev pub AreWrittenBlocks : Replan → Numbers → SidePlan → Type 0
 AreWrittenBlocks r numbers blocks = IsWrittenSide (blocks_left r true) (blocks_left r false) (block_items r) numbers blocks
 
--- Where the kept bound on the number of a side is above its places no plan of that side keeps what has begun: no plan of blocks of the day, or
--- no plan of duties over the new blocks.
+-- Where the kept bound on the number of a side is above its places no plan of that side keeps what has begun: no plan of blocks of the
+-- day, or no plan of duties over the new blocks.
 abbrev pub HasNoneOf : Replan → Numbers → Side → Type 0
 HasNoneOf r numbers Vehicles = (columns : List Column) → KeepsBlocks r columns → ⊥
-HasNoneOf r numbers Drivers = (blocks : SidePlan) × AreWrittenBlocks r numbers blocks × ((columns : List Column) → KeepsDuties r blocks.columns columns → ⊥)
+HasNoneOf r numbers Drivers =
+    (blocks : SidePlan) × AreWrittenBlocks r numbers blocks × ((columns : List Column) → KeepsDuties r blocks.columns columns → ⊥)
 
 -- rounding leaves an item of a rest beside columns that are written out
 pub record IsLeftOf (p : Problem) (items : List (List ℕ)) (item : ℕ) (partial : List Column) : Type 0 where
@@ -143,11 +144,13 @@ trip_name trips items item = option_and_then (λ t. option_map (λ (trip : DayTr
 
 -- the name of an item that stands for pieces: that of the first of them
 abbrev pub piece_name : List WorkPiece → List (List ℕ) → ℕ → Option ItemName
-piece_name pieces items item = option_and_then (λ k. option_map (λ (piece : WorkPiece). Piece piece.block piece.index) (slice_get pieces k)) (first_of items item)
+piece_name pieces items item =
+    option_and_then (λ k. option_map (λ (piece : WorkPiece). Piece piece.block piece.index) (slice_get pieces k)) (first_of items item)
 
 -- an item of the blocks' rest is left, which has this name
 abbrev pub IsLeftTrip : Replan → ℕ → ItemName → List Column → Type 0
-IsLeftTrip r item name partial = IsLeftOf (blocks_left r false) (block_items r) item partial × (trip_name r.day.trips (block_items r) item ≡ Some name)
+IsLeftTrip r item name partial =
+    IsLeftOf (blocks_left r false) (block_items r) item partial × (trip_name r.day.trips (block_items r) item ≡ Some name)
 
 -- an item of the duties' rest over new blocks is left, which has this name
 pub record IsLeftPiece (r : Replan) (numbers : Numbers) (item : ℕ) (name : ItemName) (partial : List Column) : Type 0 where
@@ -162,7 +165,8 @@ IsLeftItem r numbers Drivers item name partial = IsLeftPiece r numbers item name
 
 -- why there is no new plan; want of memory needs no cause
 abbrev pub IsRestCause : Replan → Numbers → PlanFault → Type 0
-IsRestCause r numbers (faults.NoPlan side bound places) = DayEndsAs (rest_problems r) numbers (refused side bound places) × HasNoneOf r numbers side
+IsRestCause r numbers (faults.NoPlan side bound places) =
+    DayEndsAs (rest_problems r) numbers (refused side bound places) × HasNoneOf r numbers side
 IsRestCause r numbers (faults.NotPlaced side item name partial) =
     DayEndsAs (rest_problems r) numbers (left_out side item partial.columns) × IsLeftItem r numbers side item name partial.columns
 IsRestCause r numbers faults.Memory = Unit {0}

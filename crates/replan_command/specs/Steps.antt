@@ -52,8 +52,8 @@ pub record AreNewDuties (r : Replan) (numbers : Numbers) (blocks : List Column) 
   pub written : IsWrittenSide (duties_left r blocks true) (duties_left r blocks false) (duty_items r blocks) numbers duties
   pub kept : IsKeptSide (KeepsDuties r blocks) duties
 
--- One side as it is made over a rest, from the rest counted and the rest with costs: a plan of the rest, within the bounds of both passes, is
--- written out and put in printed order.
+-- One side as it is made over a rest, from the rest counted and the rest with costs: a plan of the rest, within the bounds of both
+-- passes, is written out and put in printed order.
 pub record IsMadeSide (counted costed : Problem) (items : List (List ℕ)) (numbers : Numbers) (side : SidePlan) : Type 0 where
   pub columns : List Column
   pub made : EndsAs counted costed numbers (planned side.count side.cost columns)
@@ -72,11 +72,14 @@ IsFaultIn p covers.Memory = Unit {0}
 abbrev pub IsWrittenFault : Side → (ℕ → Option ItemName) → List (List ℕ) → CoverFault → PlanFault → Type 0
 IsWrittenFault side name items (covers.NoPlan bound places) fault = fault ≡ faults.NoPlan side bound places
 IsWrittenFault side name items (covers.NotPlaced item partial) fault =
-    (fault ≡ faults.Memory) ⊎ ((n : ItemName) × (name item ≡ Some n) × (fault ≡ faults.NotPlaced side item n (record { columns = written_plan items partial.columns })))
+    (fault ≡ faults.Memory) ⊎
+    ((n : ItemName) × (name item ≡ Some n)
+    × (fault ≡ faults.NotPlaced side item n (record { columns = written_plan items partial.columns })))
 IsWrittenFault side name items covers.Memory fault = fault ≡ faults.Memory
 
 -- why there is no side over a rest
-pub record IsWrittenCause (side : Side) (counted costed : Problem) (name : ℕ → Option ItemName) (items : List (List ℕ)) (numbers : Numbers) (fault : PlanFault) : Type 0 where
+pub record IsWrittenCause (side : Side) (counted costed : Problem) (name : ℕ → Option ItemName) (items : List (List ℕ)) (numbers : Numbers)
+    (fault : PlanFault) : Type 0 where
   pub cover : CoverFault
   pub cause : IsCause counted costed numbers cover
   pub told : IsWrittenFault side name items cover fault

@@ -10,6 +10,8 @@ use Rattle.rest_labels.proofs.Tied.{rest-tied}
 pub tied-in-group : {L : Type 0} (w : Labelling L) (close : L → Option ℤ) → IsRestTied w close
 tied-in-group w close p heads bs may class starts ended prices spread group first end marks are begin tied =
     let worth_of : List ℕ → Option ℕ = rest_worth p heads bs may class in
-    let P : ℕ → Type 0 = λ n. IsTiedInGroup (of_group (labels_of_rest w bs n (is_set starts) (more_after ended)) group) (λ a. close a.label) prices group worth_of in
+    let P : ℕ → Type 0 = λ n. IsTiedInGroup (of_group (labels_of_rest w bs n (is_set starts) (more_after ended)) group)
+    (λ a. close a.label) prices group worth_of in
     subst P (sym marks.each)
-    (rest-tied w heads bs may class (is_set starts) (more_after ended) marks.starts_is marks.ended_is p close prices spread group first end begin tied are.alike are.first are.some)
+    (rest-tied w heads bs may class (is_set starts) (more_after ended) marks.starts_is marks.ended_is p close prices spread group first end
+    begin tied are.alike are.first are.some)

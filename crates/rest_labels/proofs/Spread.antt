@@ -48,7 +48,8 @@ placed-other (t ∷ ts) p sp u h = price_at-other sp t u p (apart t h)
         let some : 1 + times u ts ≡ 0 = ap (λ b. cond b 1 0 + times u ts) (sym here) ∙ h in
         absurd (omega arith)
 
-placed_all-other : (bs : List (List ℕ)) (ps sp : List Price) (u : ℕ) → times u (joined bs) ≡ 0 → price_at (placed_all bs ps sp) u ≡ price_at sp u
+placed_all-other : (bs : List (List ℕ)) (ps sp : List Price) (u : ℕ) → times u (joined bs) ≡ 0 →
+    price_at (placed_all bs ps sp) u ≡ price_at sp u
 placed_all-other [] ps sp u h = refl
 placed_all-other (b ∷ bs) [] sp u h = refl
 placed_all-other (b ∷ bs) (p ∷ ps) sp u h =
@@ -64,7 +65,8 @@ has-first x xs = let same : (x == x) ≡ true = grind (arith, nat_tests) in rw s
 has-more : (y x : ℕ) (xs : List ℕ) → times y xs ≤ times y (x ∷ xs)
 has-more y x xs = omega arith
 
-same-prices : (sp tp : List Price) (xs : List ℕ) → ((u : ℕ) → 1 ≤ times u xs → price_at sp u ≡ price_at tp u) → price_of sp xs ≡ price_of tp xs
+same-prices : (sp tp : List Price) (xs : List ℕ) → ((u : ℕ) → 1 ≤ times u xs → price_at sp u ≡ price_at tp u) →
+    price_of sp xs ≡ price_of tp xs
 same-prices sp tp [] h = refl
 same-prices sp tp (x ∷ xs) h =
     let rest = same-prices sp tp xs (λ u some. let more = has-more u x xs in h u (omega arith)) in
@@ -79,11 +81,13 @@ no-prices sp (x ∷ xs) h =
     omega (arith, ints)
 
 -- items that stand once have the price of the first
-placed-price : (t : ℕ) (ts : List ℕ) (p : Price) (sp : List Price) → t < length sp → ((u : ℕ) → times u (t ∷ ts) ≤ 1) → ((u : ℕ) → 1 ≤ times u (t ∷ ts) → price_at sp u ≡ pos 0) →
+placed-price : (t : ℕ) (ts : List ℕ) (p : Price) (sp : List Price) → t < length sp → ((u : ℕ) → times u (t ∷ ts) ≤ 1) →
+    ((u : ℕ) → 1 ≤ times u (t ∷ ts) → price_at sp u ≡ pos 0) →
     price_of (set sp t p) (t ∷ ts) ≡ p.0
 placed-price t ts p sp below once free =
     let first = price_at-set sp t p below in
-    let rest = no-prices (set sp t p) ts (λ u some. price_at-other sp t u p (apart u some) ∙ free u (let more = has-more u t ts in omega arith)) in
+    let rest = no-prices (set sp t p) ts (λ u some. price_at-other sp t u p (apart u some)
+    ∙ free u (let more = has-more u t ts in omega arith)) in
     omega (arith, ints)
   where
     apart : (u : ℕ) → 1 ≤ times u ts → t ≢ u
@@ -92,8 +96,10 @@ placed-price t ts p sp below once free =
         let two : 1 + times u ts ≤ 1 = subst (λ b. cond b 1 0 + times u ts ≤ 1) here (once u) in
         absurd (omega arith)
 
-body-price : (bs : List (List ℕ)) (ps sp : List Price) (x : ℕ) → length bs ≤ length ps → AllBelow (length sp) (joined bs) → ((u : ℕ) → times u (joined bs) ≤ 1) →
-    ((u : ℕ) → 1 ≤ times u (joined bs) → price_at sp u ≡ pos 0) → x < length bs → body_at bs x ≢ [] → price_of (placed_all bs ps sp) (body_at bs x) ≡ price_at ps x
+body-price : (bs : List (List ℕ)) (ps sp : List Price) (x : ℕ) → length bs ≤ length ps → AllBelow (length sp) (joined bs) →
+    ((u : ℕ) → times u (joined bs) ≤ 1) →
+    ((u : ℕ) → 1 ≤ times u (joined bs) → price_at sp u ≡ pos 0) → x < length bs → body_at bs x ≢ [] →
+    price_of (placed_all bs ps sp) (body_at bs x) ≡ price_at ps x
 body-price [] ps sp x long below once free there some = absurd (omega arith)
 body-price (b ∷ bs) [] sp x long below once free there some = absurd (omega arith)
 body-price ([] ∷ bs) (p ∷ ps) sp zero long below once free there some = absurd (some refl)
@@ -106,7 +112,8 @@ body-price ((t ∷ ts) ∷ bs) (p ∷ ps) sp zero long below once free there som
     ∙ placed-price t ts p sp below.0 (λ u. let both = times-append u (t ∷ ts) (joined bs) in let most = once u in omega arith)
     (λ u has. let both = times-append u (t ∷ ts) (joined bs) in free u (omega arith))
 body-price (b ∷ bs) (p ∷ ps) sp (suc x) long below once free there some =
-    body-price bs ps (placed b p sp) x (omega arith) (subst (λ n. AllBelow n (joined bs)) (sym (length-placed b p sp)) (back-below (length sp) b (joined bs) below))
+    body-price bs ps (placed b p sp) x (omega arith)
+    (subst (λ n. AllBelow n (joined bs)) (sym (length-placed b p sp)) (back-below (length sp) b (joined bs) below))
     (λ u. let both = times-append u b (joined bs) in let most = once u in omega arith)
     (λ u has.
     let both = times-append u b (joined bs) in
@@ -123,7 +130,8 @@ length-blank : (n : ℕ) → length (replicate n nothing) ≡ n
 length-blank zero = refl
 length-blank (suc n) = ap (λ m. suc m) (length-blank n)
 
-list-price : (n : ℕ) (bs : List (List ℕ)) (ps sp : List Price) → ((x : ℕ) → x < length bs → price_of sp (body_at bs x) ≡ price_at ps x) → (list : List ℕ) → all_below (length bs) list ≡ true →
+list-price : (n : ℕ) (bs : List (List ℕ)) (ps sp : List Price) → ((x : ℕ) → x < length bs → price_of sp (body_at bs x) ≡ price_at ps x) →
+    (list : List ℕ) → all_below (length bs) list ≡ true →
     price_of sp (written bs list) ≡ price_of ps list
 list-price n bs ps sp each [] below = refl
 list-price n bs ps sp each (x ∷ xs) below =
@@ -143,9 +151,11 @@ past-none n (x ∷ xs) u h below =
     let rest = past-none n xs u h below.1 in
     rw other (omega arith)
 
-pub spread-alike : (n : ℕ) (bs : List (List ℕ)) (ps : List Price) → length bs ≤ length ps → StandForAll n bs → AreAlike bs ps (placed_all bs ps (replicate n nothing))
+pub spread-alike : (n : ℕ) (bs : List (List ℕ)) (ps : List Price) → length bs ≤ length ps → StandForAll n bs →
+    AreAlike bs ps (placed_all bs ps (replicate n nothing))
 spread-alike n bs ps long all = list-price n bs ps (placed_all bs ps (replicate n nothing)) (λ x there.
-    body-price bs ps (replicate n nothing) x long (subst (λ m. AllBelow m (joined bs)) (sym (length-blank n)) all.below) most (λ u has. no-price n u) there (all.some x there))
+    body-price bs ps (replicate n nothing) x long (subst (λ m. AllBelow m (joined bs)) (sym (length-blank n)) all.below) most
+    (λ u has. no-price n u) there (all.some x there))
   where
     most : (u : ℕ) → times u (joined bs) ≤ 1
     most u = elim (cases_lt u n) [

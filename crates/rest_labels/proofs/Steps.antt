@@ -36,11 +36,13 @@ drop-all (x ∷ xs) zero h = absurd (omega arith)
 drop-all (x ∷ xs) (suc i) h = drop-all xs i (omega arith)
 
 -- where no items are left the label is that of all
-pub at-end : {L : Type 0} (w : Labelling L) (o : Option L) (xs : List ℕ) (i : ℕ) (whole : Option L) → length xs ≤ i → label_after w o (drop i xs) ≡ whole → o ≡ whole
+pub at-end : {L : Type 0} (w : Labelling L) (o : Option L) (xs : List ℕ) (i : ℕ) (whole : Option L) → length xs ≤ i →
+    label_after w o (drop i xs) ≡ whole → o ≡ whole
 at-end w o xs i whole end e = sym (after-nothing w o (drop i xs) (drop-all xs i end)) ∙ e
 
 -- where there is no label there is none of all
-pub none-left : {L : Type 0} (w : Labelling L) (o : Option L) (xs : List ℕ) (whole : Option L) → o ≡ None → label_after w o xs ≡ whole → None ≡ whole
+pub none-left : {L : Type 0} (w : Labelling L) (o : Option L) (xs : List ℕ) (whole : Option L) → o ≡ None →
+    label_after w o xs ≡ whole → None ≡ whole
 none-left w o xs whole none e = ap (λ o. label_after w o xs) (sym none) ∙ e
 
 -- a tail that is taken whole
@@ -55,9 +57,11 @@ last-at (x ∷ y ∷ rest) h =
     last-at (y ∷ rest) (omega arith) ∙ ap (λ i. Some (get_or (x ∷ y ∷ rest) i 0)) same
 
 -- the label of a list of the rest that ends with an item has the last of what that stands for
-pub ends-with : (bs : List (List ℕ)) (x y last : ℕ) (list : List ℕ) → list ≡ body_at bs y → x ≡ y → 1 ≤ length list → ((t : ℕ) → last_of (body_at bs x) ≡ Some t → last ≡ t) →
+pub ends-with : (bs : List (List ℕ)) (x y last : ℕ) (list : List ℕ) → list ≡ body_at bs y → x ≡ y → 1 ≤ length list →
+    ((t : ℕ) → last_of (body_at bs x) ≡ Some t → last ≡ t) →
     last ≡ get_or list (length list - 1) 0
-ends-with bs x y last list is same some ends = ends (get_or list (length list - 1) 0) (ap (λ x. last_of (body_at bs x)) same ∙ ap last_of (sym is) ∙ last-at list some)
+ends-with bs x y last list is same some ends =
+    ends (get_or list (length list - 1) 0) (ap (λ x. last_of (body_at bs x)) same ∙ ap last_of (sym is) ∙ last-at list some)
 
 -- an item that stands for something is there
 pub body-there : (bs : List (List ℕ)) (x y : ℕ) (ys : List ℕ) → body_at bs x ≡ y ∷ ys → x < length bs

@@ -18,23 +18,30 @@ module _ {L : Type 0} (w : Labelling L) (bs : List (List ℕ)) (starts ended : L
   r = labels_of_rest w bs (length ended) (is_set starts) (more_after ended)
 
   pub group-kept : (good : L → L → Bool) → IsKept w (GoodAs good) → IsKept (group_labels w bs starts ended group) (GoodAs (rest_good good))
-  group-kept good kept = of_group-kept r (GoodAs (rest_good good)) group (rest-kept w bs (length ended) (is_set starts) (more_after ended) good kept)
+  group-kept good kept = of_group-kept r (GoodAs (rest_good good)) group
+      (rest-kept w bs (length ended) (is_set starts) (more_after ended) good kept)
 
-  pub group-valued : (good : L → L → Bool) (value_at : L → ℤ) (close : L → Option ℤ) → IsKept w (GoodAs good) → IsValued w (GoodAs good) value_at close →
+  pub group-valued : (good : L → L → Bool) (value_at : L → ℤ) (close : L → Option ℤ) → IsKept w (GoodAs good) →
+      IsValued w (GoodAs good) value_at close →
       IsValued (group_labels w bs starts ended group) (GoodAs (rest_good good)) (λ a. value_at a.label) (λ a. close a.label)
   group-valued good value_at close kept valued =
       of_group-valued r (GoodAs (rest_good good)) (λ a. value_at a.label) (λ a. close a.label) group
       (rest-valued w bs (length ended) (is_set starts) (more_after ended) good value_at close kept valued)
 
   pub group-stepwise : IsStepwise (group_labels w bs starts ended group) (length bs) (λ a. a.item)
-  group-stepwise = of_group-stepwise r (length bs) (λ a. a.item) group (rest-stepwise w bs (length ended) (is_set starts) (more_after ended))
+  group-stepwise = of_group-stepwise r (length bs) (λ a. a.item) group
+      (rest-stepwise w bs (length ended) (is_set starts) (more_after ended))
 
-  pub group-safe : (count : ℕ) (last : L → ℕ) (sound : L → Type 0) → IsStepwise w count last → IsSafe w sound → IsSafe (group_labels w bs starts ended group) (RestSound bs last sound)
+  pub group-safe : (count : ℕ) (last : L → ℕ) (sound : L → Type 0) → IsStepwise w count last → IsSafe w sound →
+      IsSafe (group_labels w bs starts ended group) (RestSound bs last sound)
   group-safe count last sound steps safe =
-      of_group-safe r (RestSound bs last sound) group (rest-safe w bs (length ended) (is_set starts) (more_after ended) count last sound steps safe)
+      of_group-safe r (RestSound bs last sound) group
+      (rest-safe w bs (length ended) (is_set starts) (more_after ended) count last sound steps safe)
 
-  pub group-hides : (good : L → L → Bool) (close : L → Option ℤ) (last : L → ℕ) (sound : L → Type 0) (may_close : ℤ → L → Bool) → IsSafe w sound → HidesNone w good close sound may_close →
-      HidesNone (group_labels w bs starts ended group) (rest_good good) (λ a. close a.label) (RestSound bs last sound) (λ limit a. may_close limit a.label)
+  pub group-hides : (good : L → L → Bool) (close : L → Option ℤ) (last : L → ℕ) (sound : L → Type 0) (may_close : ℤ → L → Bool) →
+      IsSafe w sound → HidesNone w good close sound may_close →
+      HidesNone (group_labels w bs starts ended group) (rest_good good) (λ a. close a.label) (RestSound bs last sound)
+      (λ limit a. may_close limit a.label)
   group-hides good close last sound may_close safe hides =
       of_group-hides r (rest_good good) (λ a. close a.label) (RestSound bs last sound) (λ limit a. may_close limit a.label) group
       (rest-hides w bs (length ended) (is_set starts) (more_after ended) good close last sound may_close safe hides)

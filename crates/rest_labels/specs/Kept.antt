@@ -19,7 +19,8 @@ module _ {L : Type 0} (w : Labelling L) where
   after-none (x ∷ xs) b e = absurd (cc)
 
   -- a fact that each step keeps
-  after-all : (P : L → Type 0) → ((a b : L) (item : ℕ) → P a → w.extend a item ≡ Some b → P b) → (a b : L) (xs : List ℕ) → P a → label_after w (Some a) xs ≡ Some b → P b
+  after-all : (P : L → Type 0) → ((a b : L) (item : ℕ) → P a → w.extend a item ≡ Some b → P b) → (a b : L) (xs : List ℕ) → P a →
+      label_after w (Some a) xs ≡ Some b → P b
   after-all P step a b [] h e = subst P (some-same a b e) h
   after-all P step a b (x ∷ xs) h e =
       elim (w.extend a x) as (λ o. w.extend a x ≡ o → label_after w o xs ≡ Some b → P b) [
@@ -28,7 +29,8 @@ module _ {L : Type 0} (w : Labelling L) where
       ] refl e
 
   -- a fact that each step keeps backwards, where labels are sound
-  pub after-back : (P Q : L → Type 0) → ((a b : L) (item : ℕ) → Q a → w.extend a item ≡ Some b → Q b) → ((a b : L) (item : ℕ) → Q a → w.extend a item ≡ Some b → P b → P a) →
+  pub after-back : (P Q : L → Type 0) → ((a b : L) (item : ℕ) → Q a → w.extend a item ≡ Some b → Q b) →
+      ((a b : L) (item : ℕ) → Q a → w.extend a item ≡ Some b → P b → P a) →
       (a b : L) (xs : List ℕ) → Q a → label_after w (Some a) xs ≡ Some b → P b → P a
   after-back P Q fits back a b [] q e h = subst P (sym (some-same a b e)) h
   after-back P Q fits back a b (x ∷ xs) q e h =
@@ -38,10 +40,12 @@ module _ {L : Type 0} (w : Labelling L) where
       ] refl e
 
   module _ (good : L → L → Bool) (kept : IsKept w (GoodAs good)) where
-    after-kept : (a b b' : L) (xs : List ℕ) → good a b ≡ true → label_after w (Some b) xs ≡ Some b' → (a' : L) × (label_after w (Some a) xs ≡ Some a') × (good a' b' ≡ true)
+    after-kept : (a b b' : L) (xs : List ℕ) → good a b ≡ true → label_after w (Some b) xs ≡ Some b' →
+        (a' : L) × (label_after w (Some a) xs ≡ Some a') × (good a' b' ≡ true)
     after-kept a b b' [] h e = let P : L → Type 0 = λ b. good a b ≡ true in (a, refl, subst P (some-same b b' e) h)
     after-kept a b b' (x ∷ xs) h e =
-        elim (w.extend b x) as (λ o. w.extend b x ≡ o → label_after w o xs ≡ Some b' → (a' : L) × (label_after w (Some a) (x ∷ xs) ≡ Some a') × (good a' b' ≡ true)) [
+        elim (w.extend b x) as (λ o. w.extend b x ≡ o → label_after w o xs ≡ Some b' →
+        (a' : L) × (label_after w (Some a) (x ∷ xs) ≡ Some a') × (good a' b' ≡ true)) [
           | None ↦ λ is e. absurd (after-none xs b' e)
           | Some c ↦ λ is e.
               let (d, there, better) = kept.extended a b c x h is in
@@ -49,7 +53,8 @@ module _ {L : Type 0} (w : Labelling L) where
               (a', ap (λ o. label_after w o xs) there ∙ ends, best)
         ] refl e
 
-    after-apart : (value_at : L → ℤ) (close : L → Option ℤ) → IsValued w (GoodAs good) value_at close → (a b a' b' : L) (xs : List ℕ) → good a b ≡ true → value_at a <ℤ value_at b →
+    after-apart : (value_at : L → ℤ) (close : L → Option ℤ) → IsValued w (GoodAs good) value_at close → (a b a' b' : L) (xs : List ℕ) →
+        good a b ≡ true → value_at a <ℤ value_at b →
         label_after w (Some a) xs ≡ Some a' → label_after w (Some b) xs ≡ Some b' → value_at a' <ℤ value_at b'
     after-apart value_at close valued a b a' b' [] h less ea eb =
         let P : L → Type 0 = λ a. value_at a <ℤ value_at b' in
@@ -65,7 +70,8 @@ module _ {L : Type 0} (w : Labelling L) where
         ] refl eb
 
   -- a label behind some items has the last of them
-  after-last : (count : ℕ) (last : L → ℕ) → IsStepwise w count last → (a b : L) (x : ℕ) (xs : List ℕ) → label_after w (w.extend a x) xs ≡ Some b → last_of (x ∷ xs) ≡ Some (last b)
+  after-last : (count : ℕ) (last : L → ℕ) → IsStepwise w count last → (a b : L) (x : ℕ) (xs : List ℕ) →
+      label_after w (w.extend a x) xs ≡ Some b → last_of (x ∷ xs) ≡ Some (last b)
   after-last count last steps a b x [] e =
       elim (w.extend a x) as (λ o. w.extend a x ≡ o → label_after w o [] ≡ Some b → Some x ≡ Some (last b)) [
         | None ↦ λ is e. absurd (cc)
@@ -77,7 +83,8 @@ module _ {L : Type 0} (w : Labelling L) where
         | Some c ↦ λ e. after-last count last steps c b y ys e
       ] e
 
-  of-last : (count : ℕ) (last : L → ℕ) → IsStepwise w count last → (b : L) (x : ℕ) (xs : List ℕ) → label_of w (x ∷ xs) ≡ Some b → last_of (x ∷ xs) ≡ Some (last b)
+  of-last : (count : ℕ) (last : L → ℕ) → IsStepwise w count last → (b : L) (x : ℕ) (xs : List ℕ) → label_of w (x ∷ xs) ≡ Some b →
+      last_of (x ∷ xs) ≡ Some (last b)
   of-last count last steps b x [] e =
       elim (w.start x) as (λ o. w.start x ≡ o → label_after w o [] ≡ Some b → Some x ≡ Some (last b)) [
         | None ↦ λ is e. absurd (cc)
@@ -101,19 +108,29 @@ module _ {L : Type 0} (w : Labelling L) where
 
     pub step-parts : (a b : RestLabel L) (y : ℕ) → r.extend a y ≡ Some b → IsStep a b y
     step-parts a b y e =
-        let (test, is) = from-cond (is_next heads more (length bs) a.item y) (option_map (ending y) (label_after w (Some a.label) (body_at bs y))) b e in
+        let (test, is) = from-cond (is_next heads more (length bs) a.item y)
+        (option_map (ending y) (label_after w (Some a.label) (body_at bs y))) b e in
         let (l, after, same) = map-some (ending y) (label_after w (Some a.label) (body_at bs y)) b is in
-        record { next = test; item = ap (λ (b : RestLabel L). b.item) (sym same); after = after ∙ ap (λ (b : RestLabel L). Some b.label) same }
+        record {
+          next = test;
+          item = ap (λ (b : RestLabel L). b.item) (sym same);
+          after =
+              after ∙ ap (λ (b : RestLabel L). Some b.label) same;
+        }
 
-    pub parts-step : (a : RestLabel L) (l : L) (y : ℕ) → is_next heads more (length bs) a.item y ≡ true → label_after w (Some a.label) (body_at bs y) ≡ Some l → r.extend a y ≡ Some (ending y l)
+    pub parts-step : (a : RestLabel L) (l : L) (y : ℕ) → is_next heads more (length bs) a.item y ≡ true →
+        label_after w (Some a.label) (body_at bs y) ≡ Some l → r.extend a y ≡ Some (ending y l)
     parts-step a l y next after =
-        onto-cond (is_next heads more (length bs) a.item y) (option_map (ending y) (label_after w (Some a.label) (body_at bs y))) next ∙ ap (option_map (ending y)) after
+        onto-cond (is_next heads more (length bs) a.item y) (option_map (ending y) (label_after w (Some a.label) (body_at bs y))) next
+        ∙ ap (option_map (ending y)) after
 
     good-parts : (good : L → L → Bool) (a b : RestLabel L) → rest_good good a b ≡ true → (a.item ≡ b.item) × (good a.label b.label ≡ true)
-    good-parts good a b h = let (same, better) = both-true (nat_eq a.item b.item) (good a.label b.label) h in (grind (arith, nat_tests), better)
+    good-parts good a b h = let (same, better) = both-true (nat_eq a.item b.item) (good a.label b.label) h in
+        (grind (arith, nat_tests), better)
 
     parts-good : (good : L → L → Bool) (a b : RestLabel L) → a.item ≡ b.item → good a.label b.label ≡ true → rest_good good a b ≡ true
-    parts-good good a b same better = let test : nat_eq a.item b.item ≡ true = grind (arith, nat_tests) in true-both (nat_eq a.item b.item) (good a.label b.label) test better
+    parts-good good a b same better = let test : nat_eq a.item b.item ≡ true = grind (arith, nat_tests) in
+        true-both (nat_eq a.item b.item) (good a.label b.label) test better
 
     pub rest-kept : (good : L → L → Bool) → IsKept w (GoodAs good) → IsKept r (GoodAs (rest_good good))
     rest-kept good kept = record {
@@ -130,17 +147,20 @@ module _ {L : Type 0} (w : Labelling L) where
           (ending y l, parts-step a l y (subst P (sym same) step.next) after, parts-good good (ending y l) b' (sym step.item) best);
     }
 
-    pub rest-valued : (good : L → L → Bool) (value_at : L → ℤ) (close : L → Option ℤ) → IsKept w (GoodAs good) → IsValued w (GoodAs good) value_at close →
+    pub rest-valued : (good : L → L → Bool) (value_at : L → ℤ) (close : L → Option ℤ) → IsKept w (GoodAs good) →
+        IsValued w (GoodAs good) value_at close →
         IsValued r (GoodAs (rest_good good)) (λ a. value_at a.label) (λ a. close a.label)
     rest-valued good value_at close kept valued = record {
       at_most = λ a b h. valued.at_most a.label b.label (good-parts good a b h).1;
       apart = λ a b a' b' y h less ea eb.
           let (same, better) = good-parts good a b h in
-          after-apart good kept value_at close valued a.label b.label a'.label b'.label (body_at bs y) better less (step-parts a a' y ea).after (step-parts b b' y eb).after;
+          after-apart good kept value_at close valued a.label b.label a'.label b'.label (body_at bs y) better less
+          (step-parts a a' y ea).after (step-parts b b' y eb).after;
       closes = λ a b v h e. valued.closes a.label b.label v (good-parts good a b h).1 e;
     }
 
-    pub start-parts : (x : ℕ) (a : RestLabel L) → r.start x ≡ Some a → (x < length bs) × (a.item ≡ x) × (label_of w (body_at bs x) ≡ Some a.label)
+    pub start-parts : (x : ℕ) (a : RestLabel L) → r.start x ≡ Some a →
+        (x < length bs) × (a.item ≡ x) × (label_of w (body_at bs x) ≡ Some a.label)
     start-parts x a e =
         let (test, is) = from-cond (nat_lt x (length bs) && begins x) (option_map (ending x) (label_of w (body_at bs x))) a e in
         let (there, starts) = both-true (nat_lt x (length bs)) (begins x) test in
@@ -167,7 +187,8 @@ module _ {L : Type 0} (w : Labelling L) where
           | Some c ↦ λ is e. after-all sound safe.steps c a xs (safe.starts x c is) e
         ] refl e
 
-    pub rest-safe : (count : ℕ) (last : L → ℕ) (sound : L → Type 0) → IsStepwise w count last → IsSafe w sound → IsSafe r (RestSound bs last sound)
+    pub rest-safe : (count : ℕ) (last : L → ℕ) (sound : L → Type 0) → IsStepwise w count last → IsSafe w sound →
+        IsSafe r (RestSound bs last sound)
     rest-safe count last sound steps safe = record {
       starts = λ x a e.
           let (there, item, begun) = start-parts x a e in
@@ -191,11 +212,13 @@ module _ {L : Type 0} (w : Labelling L) where
         behind-last [] a b e t is = absurd (cc)
         behind-last (x ∷ xs) a b e t is = some-same (last b) t (sym (after-last count last steps a b x xs e) ∙ is)
 
-    pub rest-hides : (good : L → L → Bool) (close : L → Option ℤ) (last : L → ℕ) (sound : L → Type 0) (may_close : ℤ → L → Bool) → IsSafe w sound → HidesNone w good close sound may_close →
+    pub rest-hides : (good : L → L → Bool) (close : L → Option ℤ) (last : L → ℕ) (sound : L → Type 0) (may_close : ℤ → L → Bool) →
+        IsSafe w sound → HidesNone w good close sound may_close →
         HidesNone r (rest_good good) (λ a. close a.label) (RestSound bs last sound) (λ limit a. may_close limit a.label)
     rest-hides good close last sound may_close safe hides = record {
       closes = λ limit a v h e low. hides.closes limit a.label v h.fits e low;
       steps = λ limit a b y h e passes.
-          after-back (λ l. may_close limit l ≡ true) sound safe.steps (λ l m item q is h. hides.steps limit l m item q is h) a.label b.label (body_at bs y) h.fits (step-parts a b y e).after passes;
+          after-back (λ l. may_close limit l ≡ true) sound safe.steps (λ l m item q is h. hides.steps limit l m item q is h) a.label b.label
+          (body_at bs y) h.fits (step-parts a b y e).after passes;
       ordered = λ limit a b h passes. hides.ordered limit a.label b.label (good-parts good a b h).1 passes;
     }

@@ -31,12 +31,14 @@ pub record AreBodies (bs : List (List ℕ)) (may : ℕ → List ℕ → Bool) (c
 abbrev pub BeginWithin : List (List ℕ) → ℕ → ℕ → ℕ → Type 0
 BeginWithin bs group first end = (x y : ℕ) (ys : List ℕ) → x / 16 ≡ group → body_at bs x ≡ y ∷ ys → (first ≤ y) × (y < end)
 
--- A list that begins with an item from a first one on and before an end has a worth exactly where it has a label that closes, and it closes with
--- its value; no other list has a label that closes.
-pub record IsTiedWithin {L : Type 0} (first end : ℕ) (w : Labelling L) (close : L → Option ℤ) (prices : List Price) (worth_of : List ℕ → Option ℕ) : Type 0 where
+-- A list that begins with an item from a first one on and before an end has a worth exactly where it has a label that closes, and it
+-- closes with its value; no other list has a label that closes.
+pub record IsTiedWithin {L : Type 0} (first end : ℕ) (w : Labelling L) (close : L → Option ℤ) (prices : List Price)
+    (worth_of : List ℕ → Option ℕ) : Type 0 where
   pub onto : (x : ℕ) (xs : List ℕ) (worth : ℕ) → first ≤ x → x < end → worth_of (x ∷ xs) ≡ Some worth →
       (a : L) × (label_of w (x ∷ xs) ≡ Some a) × (close a ≡ Some (value_of prices worth (x ∷ xs)))
-  pub from : (list : List ℕ) (a : L) (v : ℤ) → label_of w list ≡ Some a → close a ≡ Some v → (worth : ℕ) × (worth_of list ≡ Some worth) × (v ≡ value_of prices worth list)
+  pub from : (list : List ℕ) (a : L) (v : ℤ) → label_of w list ≡ Some a → close a ≡ Some v →
+      (worth : ℕ) × (worth_of list ≡ Some worth) × (v ≡ value_of prices worth list)
 
 -- labels that are tied to the worths of a class give labels of a rest that are tied, in each group, to the rest's worths
 abbrev pub IsRestTied : {L : Type 0} → Labelling L → (L → Option ℤ) → Type 0

@@ -16,13 +16,18 @@ pub singles_modest : (items : ℕ) → HasModestWorths (singles items)
 singles_modest items class [] there = tt
 singles_modest items class (x ∷ []) there =
     let few : class < 2 = there in
-    elim (nat_lt x items && (x % 16 == 0)) as (λ b. IfSome (cond b (Some (class + 1)) None) (λ worth. worth ≤ 4000000000)) [ true ↦ omega arith | false ↦ tt ]
+    elim (nat_lt x items && (x % 16 == 0)) as (λ b. IfSome (cond b (Some (class + 1)) None) (λ worth. worth ≤ 4000000000)) [
+      | true ↦
+          omega arith
+      | false ↦ tt
+    ]
 singles_modest items class (x ∷ y ∷ rest) there = tt
 
 pub pair-few : (alone : ℕ) (both : Option ℕ) (places : ℕ) → places ≤ 10000 → HasFewPlaces (pair alone both places)
 pair-few alone both places low = All-cons Few places [] low (All-nil Few)
 
-pub pair-modest : (alone : ℕ) (both : Option ℕ) (places : ℕ) → alone ≤ 4000000000 → IfSome both (λ worth. worth ≤ 4000000000) → HasModestWorths (pair alone both places)
+pub pair-modest : (alone : ℕ) (both : Option ℕ) (places : ℕ) → alone ≤ 4000000000 → IfSome both (λ worth. worth ≤ 4000000000) →
+    HasModestWorths (pair alone both places)
 pair-modest alone both places one two class [] there = tt
 pair-modest alone both places one two class (x ∷ []) there =
     elim (nat_lt x 2) as (λ b. IfSome (cond b (Some alone) None) (λ worth. worth ≤ 4000000000)) [ true ↦ one | false ↦ tt ]

@@ -28,25 +28,33 @@ by_list x y o same =
     rw (no, not) refl
 
 pub other_earlier : (prices : List Price) (a b : Column) → value prices b <ℤ value prices a → earlier prices a b ≡ b
-other_earlier prices a b less = ap (λ (t : Bool). cond t b a) (after_by_value (value prices a) (value prices b) (backward_cmp a.items b.items) less)
+other_earlier prices a b less =
+    ap (λ (t : Bool). cond t b a) (after_by_value (value prices a) (value prices b) (backward_cmp a.items b.items) less)
 
 pub first_earlier : (prices : List Price) (a b : Column) → value prices a <ℤ value prices b → earlier prices a b ≡ a
-first_earlier prices a b less = ap (λ (t : Bool). cond t b a) (before_by_value (value prices a) (value prices b) (backward_cmp a.items b.items) less)
+first_earlier prices a b less =
+    ap (λ (t : Bool). cond t b a) (before_by_value (value prices a) (value prices b) (backward_cmp a.items b.items) less)
 
-pub same_first : (prices : List Price) (a b : Column) → value prices a ≡ value prices b → is_gt (backward_cmp a.items b.items) ≡ false → earlier prices a b ≡ a
-same_first prices a b same order = ap (λ (t : Bool). cond t b a) (by_list (value prices a) (value prices b) (backward_cmp a.items b.items) same ∙ order)
+pub same_first : (prices : List Price) (a b : Column) → value prices a ≡ value prices b → is_gt (backward_cmp a.items b.items) ≡ false →
+    earlier prices a b ≡ a
+same_first prices a b same order =
+    ap (λ (t : Bool). cond t b a) (by_list (value prices a) (value prices b) (backward_cmp a.items b.items) same ∙ order)
 
-pub same_other : (prices : List Price) (a b : Column) → value prices a ≡ value prices b → is_gt (backward_cmp a.items b.items) ≡ true → earlier prices a b ≡ b
-same_other prices a b same order = ap (λ (t : Bool). cond t b a) (by_list (value prices a) (value prices b) (backward_cmp a.items b.items) same ∙ order)
+pub same_other : (prices : List Price) (a b : Column) → value prices a ≡ value prices b → is_gt (backward_cmp a.items b.items) ≡ true →
+    earlier prices a b ≡ b
+same_other prices a b same order =
+    ap (λ (t : Bool). cond t b a) (by_list (value prices a) (value prices b) (backward_cmp a.items b.items) same ∙ order)
 
-pub not_other : (prices : List Price) (a b : Column) → value prices a ≤ℤ value prices b → is_gt (backward_cmp a.items b.items) ≡ false → earlier prices a b ≡ a
+pub not_other : (prices : List Price) (a b : Column) → value prices a ≤ℤ value prices b → is_gt (backward_cmp a.items b.items) ≡ false →
+    earlier prices a b ≡ a
 not_other prices a b most order =
     elim (int_lt (value prices a) (value prices b)) as (λ t. int_lt (value prices a) (value prices b) ≡ t → earlier prices a b ≡ a) [
       | true ↦ λ e. (let less : value prices a <ℤ value prices b = grind (arith, ints) in first_earlier prices a b less)
       | false ↦ λ e. (let same : value prices a ≡ value prices b = grind (arith, ints) in same_first prices a b same order)
     ] refl
 
-pub not_first : (prices : List Price) (a b : Column) → value prices b ≤ℤ value prices a → is_gt (backward_cmp a.items b.items) ≡ true → earlier prices a b ≡ b
+pub not_first : (prices : List Price) (a b : Column) → value prices b ≤ℤ value prices a → is_gt (backward_cmp a.items b.items) ≡ true →
+    earlier prices a b ≡ b
 not_first prices a b most order =
     elim (int_lt (value prices b) (value prices a)) as (λ t. int_lt (value prices b) (value prices a) ≡ t → earlier prices a b ≡ b) [
       | true ↦ λ e. (let less : value prices b <ℤ value prices a = grind (arith, ints) in other_earlier prices a b less)
@@ -70,12 +78,14 @@ both_valued count worth two cheap =
     let one_in : 1 < count = omega arith in
     record { rises = (omega arith, tt); items = (zero_in, (one_in, tt)); cheap = cheap }
 
-pub best_alone_valued : (prices : List Price) (alone : ℕ) → length prices ≡ 2 → alone ≤ 4000000000 → MayBeValued (length prices) (best_alone prices alone)
+pub best_alone_valued : (prices : List Price) (alone : ℕ) → length prices ≡ 2 → alone ≤ 4000000000 →
+    MayBeValued (length prices) (best_alone prices alone)
 best_alone_valued prices alone two cheap =
     earlier-has (MayBeValued (length prices)) prices (column alone (0 ∷ [])) (column alone (1 ∷ []))
     (alone_valued (length prices) alone 0 (omega arith) cheap) (alone_valued (length prices) alone 1 (omega arith) cheap)
 
-pub best_valued : (prices : List Price) (alone : ℕ) (both : Option ℕ) → length prices ≡ 2 → alone ≤ 4000000000 → IfSome both (λ worth. worth ≤ 4000000000) → MayBeValued (length prices) (best_column prices alone both)
+pub best_valued : (prices : List Price) (alone : ℕ) (both : Option ℕ) → length prices ≡ 2 → alone ≤ 4000000000 →
+    IfSome both (λ worth. worth ≤ 4000000000) → MayBeValued (length prices) (best_column prices alone both)
 best_valued prices alone None two cheap together = best_alone_valued prices alone two cheap
 best_valued prices alone (Some worth) two cheap together =
     earlier-has (MayBeValued (length prices)) prices (column worth (0 ∷ 1 ∷ [])) (best_alone prices alone)
@@ -88,11 +98,13 @@ IsBehindBoth c = is_gt (backward_cmp (0 ∷ 1 ∷ []) c.items) ≡ true
 pub alone_behind : (prices : List Price) (alone : ℕ) → is_gt (backward_cmp (0 ∷ 1 ∷ []) (best_alone prices alone).items) ≡ true
 alone_behind prices alone = earlier-has IsBehindBoth prices (column alone (0 ∷ [])) (column alone (1 ∷ [])) refl refl
 
-pub pair_best : (alone places class group : ℕ) (both : Option ℕ) (prices : List Price) → class < 1 → 16 * group < 2 → best_of (pair alone both places) prices class group ≡ Some (best_column prices alone both)
+pub pair_best : (alone places class group : ℕ) (both : Option ℕ) (prices : List Price) → class < 1 → 16 * group < 2 →
+    best_of (pair alone both places) prices class group ≡ Some (best_column prices alone both)
 pair_best alone places class group both prices one first =
     let no_class : class ≡ 0 = omega arith in
     let no_group : group ≡ 0 = omega arith in
-    ap (λ (k : ℕ). best_of (pair alone both places) prices k group) no_class ∙ (ap (λ (k : ℕ). best_of (pair alone both places) prices 0 k) no_group ∙ go both)
+    ap (λ (k : ℕ). best_of (pair alone both places) prices k group) no_class
+    ∙ (ap (λ (k : ℕ). best_of (pair alone both places) prices 0 k) no_group ∙ go both)
   where
     go : (both : Option ℕ) → best_of (pair alone both places) prices 0 0 ≡ Some (best_column prices alone both)
     go None = refl

@@ -14,7 +14,8 @@ use Rattle.cover_core.specs.Laws.{BestIsFirstLeast}
 use Rattle.round_tests.specs.Singles.{single_worth, singles, none_is, worth_is}
 
 -- a list of a group with a worth is the group's first item
-list_is : (items class group worth : ℕ) (list : List ℕ) → single_worth items class list ≡ Some worth → InGroup group list → (list ≡ 16 * group ∷ []) × (worth ≡ class + 1)
+list_is : (items class group worth : ℕ) (list : List ℕ) → single_worth items class list ≡ Some worth → InGroup group list →
+    (list ≡ 16 * group ∷ []) × (worth ≡ class + 1)
 list_is items class group worth [] h g = absurd g
 list_is items class group worth (x ∷ []) h g =
     let w = worth_is items class x worth h in
@@ -23,7 +24,8 @@ list_is items class group worth (x ∷ []) h g =
 list_is items class group worth (x ∷ y ∷ rest) h g = absurd (none_is ⊥ worth h)
 
 -- so it is the first least
-pub single_first : (items : ℕ) (prices : List Price) (class group : ℕ) (column : Column) → IsTotalOrder backward_cmp → class < 2 → 16 * group < items → column.class ≡ class → column.worth ≡ class + 1 → column.items ≡ 16 * group ∷ []
+pub single_first : (items : ℕ) (prices : List Price) (class group : ℕ) (column : Column) → IsTotalOrder backward_cmp → class < 2 →
+    16 * group < items → column.class ≡ class → column.worth ≡ class + 1 → column.items ≡ 16 * group ∷ []
     → IsFirstLeast (singles items) prices class group column
 single_first items prices class group column order low small class_is worth_at items_at = record {
   listed = (
@@ -51,12 +53,17 @@ single_first items prices class group column order low small class_is worth_at i
     same_value a b e = omega (arith, ints)
 
 -- and what it gives within a limit is what the best column gives
-pub single_best : (items : ℕ) (prices : List Price) (class group : ℕ) (limit : ℤ) (column : Column) → BestIsFirstLeast (singles items) → IsTotalOrder backward_cmp → class < 2 → 16 * group < items
-    → column.class ≡ class → column.worth ≡ class + 1 → column.items ≡ 16 * group ∷ [] → within limit prices (Some column) ≡ within limit prices (best_of (singles items) prices class group)
+pub single_best : (items : ℕ) (prices : List Price) (class group : ℕ) (limit : ℤ) (column : Column) → BestIsFirstLeast (singles items) →
+    IsTotalOrder backward_cmp → class < 2 → 16 * group < items
+    → column.class ≡ class → column.worth ≡ class + 1 → column.items ≡ 16 * group ∷ [] →
+    within limit prices (Some column) ≡ within limit prices (best_of (singles items) prices class group)
 single_best items prices class group limit column best order low small class_is worth_is items_is =
-    ap (within limit prices) (sym ((best prices class group low).only column (single_first items prices class group column order low small class_is worth_is items_is)))
+    ap (within limit prices)
+    (sym ((best prices class group low).only column
+    (single_first items prices class group column order low small class_is worth_is items_is)))
 
 -- prices within bounds, with one more
-pub AllWithin-push : (n : ℕ) (prices : List Price) (price : Price) → AllWithin n prices → neg_ℤ (pos n) ≤ℤ price.0 → price.0 ≤ℤ pos n → AllWithin n (prices ++ price ∷ [])
+pub AllWithin-push : (n : ℕ) (prices : List Price) (price : Price) → AllWithin n prices → neg_ℤ (pos n) ≤ℤ price.0 → price.0 ≤ℤ pos n →
+    AllWithin n (prices ++ price ∷ [])
 AllWithin-push n [] price h low high = (low, high, tt)
 AllWithin-push n (x ∷ xs) price h low high = (h.0, h.1, AllWithin-push n xs price h.2 low high)

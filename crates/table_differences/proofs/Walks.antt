@@ -5,9 +5,13 @@ use Rattle.vdv451_text.specs.declared.table.Table.{Table}
 use Rattle.table_differences.specs.Differences.{difference_among, difference_on, found_or}
 
 -- What is found of the tables from a place on is what is found of the first of them, or else of those behind it.
-pub one-more : (table column : List ℕ) (given made : List Table) (place : ℕ) (wanted : Table) (found : Option ℕ) → place < length made → wanted ≡ get_or made place wanted →
+pub one-more : (table column : List ℕ) (given made : List Table) (place : ℕ) (wanted : Table) (found : Option ℕ) → place < length made →
+    wanted ≡ get_or made place wanted →
     found ≡ difference_among table column given wanted →
-    difference_on table column given place (drop place made) ≡ found_or place found (difference_on table column given (place + 1) (drop (place + 1) made))
+    difference_on table column given place (drop place made)
+    ≡ found_or place found (difference_on table column given (place + 1) (drop (place + 1) made))
 one-more table column given made place wanted found within is same =
-    let here : drop place made ≡ wanted ∷ drop (place + 1) made = rw add-one (drop-cons made place wanted within ∙ ap (λ t. t ∷ drop (suc place) made) (sym is)) in
-    ap (difference_on table column given place) here ∙ ap (λ o. found_or place o (difference_on table column given (place + 1) (drop (place + 1) made))) (sym same)
+    let here : drop place made ≡ wanted ∷ drop (place + 1) made =
+    rw add-one (drop-cons made place wanted within ∙ ap (λ t. t ∷ drop (suc place) made) (sym is)) in
+    ap (difference_on table column given place) here
+    ∙ ap (λ o. found_or place o (difference_on table column given (place + 1) (drop (place + 1) made))) (sym same)

@@ -25,7 +25,8 @@ same_fields given made = nat_eq (length given) (length made) && list_all (λ p. 
 -- as many fields, each the same but the one at a place
 abbrev pub same_beside : ℕ → List Field → List Field → Bool
 same_beside place given made =
-    nat_eq (length given) (length made) && same_fields (take place given) (take place made) && same_fields (drop (place + 1) given) (drop (place + 1) made)
+    nat_eq (length given) (length made) && same_fields (take place given) (take place made)
+    && same_fields (drop (place + 1) given) (drop (place + 1) made)
 
 -- the same row, whatever stands at the place that is left aside, where there is one
 abbrev pub same_row : Option ℕ → List Field → List Field → Bool

@@ -25,7 +25,8 @@ AreLoose p (c ∷ cs) = IsLoose p c × AreLoose p cs
 abbrev pub NoneOfNothing : Problem → Type 0
 NoneOfNothing p = (class worth : ℕ) → p.worth class [] ≡ Some worth → ⊥
 
-loose-worth : (p : Problem) (class : ℕ) (list : List ℕ) (worth : ℕ) → NoneOfNothing p → p.worth class list ≡ Some worth → worth_of p class list ≡ Some worth
+loose-worth : (p : Problem) (class : ℕ) (list : List ℕ) (worth : ℕ) → NoneOfNothing p → p.worth class list ≡ Some worth →
+    worth_of p class list ≡ Some worth
 loose-worth p class [] worth none e = absurd (none class worth e)
 loose-worth p class (x ∷ xs) worth none e = e
 
@@ -49,7 +50,8 @@ pub record IsCleaned (p : Problem) (old new : List Column) : Type 0 where
   pub places : (class : ℕ) → times class (all_classes new) ≤ times class (all_classes old)
   pub costs : cost new ≡ cost old
 
-one-cleaned : (p : Problem) (c : Column) (cs new : List Column) (list : List ℕ) → c.items ≡ list → IsLoose p c → IsCleaned p cs new → IsCleaned p (c ∷ cs) (cond (has_any list) (c ∷ new) new)
+one-cleaned : (p : Problem) (c : Column) (cs new : List Column) (list : List ℕ) → c.items ≡ list → IsLoose p c → IsCleaned p cs new →
+    IsCleaned p (c ∷ cs) (cond (has_any list) (c ∷ new) new)
 one-cleaned p c cs new [] e loose h =
     let nothing : worth_of p c.class [] ≡ Some c.worth = ap (worth_of p c.class) (sym e) ∙ loose.1 in
     let free : 0 ≡ c.worth = ap (λ (o : Option ℕ). unwrap_or o 0) nothing in
@@ -80,8 +82,10 @@ times-split j (suc i) [] = omega arith
 times-split j (suc i) (x ∷ xs) = omega (arith, times-split j i xs)
 
 -- columns that hold the same as a plan's, with no more of each class than there are places
-plan-from : (p : Problem) (old loose : List Column) (change : ℤ) → IsPlan p old → AreLoose p loose → ((j : ℕ) → times j (all_items loose) ≡ times j (all_items old)) →
-    ((class : ℕ) → class < length p.caps → times class (all_classes loose) ≤ slice_index p.caps class) → pos (cost loose) ≡ pos (cost old) +ℤ change →
+plan-from : (p : Problem) (old loose : List Column) (change : ℤ) → IsPlan p old → AreLoose p loose →
+    ((j : ℕ) → times j (all_items loose) ≡ times j (all_items old)) →
+    ((class : ℕ) → class < length p.caps → times class (all_classes loose) ≤ slice_index p.caps class) →
+    pos (cost loose) ≡ pos (cost old) +ℤ change →
     IsPlan p (without_empty loose) × (pos (cost (without_empty loose)) ≡ pos (cost old) +ℤ change)
 plan-from p old loose change plan are holds places costs =
     let clean = cleaned p loose are in (
@@ -93,7 +97,8 @@ plan-from p old loose change plan are holds places costs =
       ap (λ n. pos n) clean.costs ∙ costs,
     )
 
-made-loose : (p : Problem) (class : ℕ) (list : List ℕ) (worth : ℕ) → class < length p.caps → worth_of p class list ≡ Some worth → IsLoose p (made p class list)
+made-loose : (p : Problem) (class : ℕ) (list : List ℕ) (worth : ℕ) → class < length p.caps → worth_of p class list ≡ Some worth →
+    IsLoose p (made p class list)
 made-loose p class list worth below has =
     let same : unwrap_or (worth_of p class list) 0 ≡ worth = ap (λ (o : Option ℕ). unwrap_or o 0) has in
     (below, has ∙ ap (λ n. Some n) (sym same))
@@ -108,7 +113,9 @@ module _ (p : Problem) (none : NoneOfNothing p) (columns : List Column) (plan : 
   pub swap-good : (a b i j left right : ℕ) → a < b → b < length columns →
       worth_of p (column_at columns a).class (joined (column_at columns a).items i (column_at columns b).items j) ≡ Some left →
       worth_of p (column_at columns b).class (joined (column_at columns b).items j (column_at columns a).items i) ≡ Some right →
-      IsPlan p (swapped p columns a b i j) × (pos (cost (swapped p columns a b i j)) ≡ pos (cost columns) +ℤ (pos (left + right) -ℤ pos ((column_at columns a).worth + (column_at columns b).worth)))
+      IsPlan p (swapped p columns a b i j)
+      × (pos (cost (swapped p columns a b i j)) ≡ pos (cost columns)
+      +ℤ (pos (left + right) -ℤ pos ((column_at columns a).worth + (column_at columns b).worth)))
   swap-good a b i j left right order below has_left has_right =
       let c : Column = column_at columns a in
       let d : Column = column_at columns b in
@@ -122,7 +129,9 @@ module _ (p : Problem) (none : NoneOfNothing p) (columns : List Column) (plan : 
       let still : get_or once b no_column ≡ d = get_or-set_other columns a b first no_column apart in
       let first_worth : first.worth ≡ left = ap (λ (o : Option ℕ). unwrap_or o 0) has_left in
       let second_worth : second.worth ≡ right = ap (λ (o : Option ℕ). unwrap_or o 0) has_right in
-      let loose = AreLoose-set p once b second (AreLoose-set p columns a first (loose-columns p columns none plan.worths) (made-loose p c.class (joined c.items i d.items j) left (class-there a a_below) has_left))
+      let loose = AreLoose-set p once b second
+      (AreLoose-set p columns a first (loose-columns p columns none plan.worths)
+      (made-loose p c.class (joined c.items i d.items j) left (class-there a a_below) has_left))
       (made-loose p d.class (joined d.items j c.items i) right (class-there b below) has_right) in
       let still_worth : (get_or once b no_column).worth ≡ d.worth = ap (λ (x : Column). x.worth) still in
       let change_one : cost once + c.worth ≡ cost columns + first.worth = cost-set columns a first no_column a_below in
@@ -130,7 +139,15 @@ module _ (p : Problem) (none : NoneOfNothing p) (columns : List Column) (plan : 
       plan-from p columns twice (pos (left + right) -ℤ pos (c.worth + d.worth)) plan loose
       (λ k.
       let still_items : times k (get_or once b no_column).items ≡ times k d.items = ap (λ (x : Column). times k x.items) still in
-      omega (arith, held-set k columns a first no_column a_below, held-set k once b second no_column long, times-append k (take i c.items) (drop j d.items), times-append k (take j d.items) (drop i c.items), times-split k i c.items, times-split k j d.items))
+      omega (
+        arith,
+        held-set k columns a first no_column a_below,
+        held-set k once b second no_column long,
+        times-append k (take i c.items) (drop j d.items),
+        times-append k (take j d.items) (drop i c.items),
+        times-split k i c.items,
+        times-split k j d.items,
+      ))
       (λ class there.
       let one = placed-set class columns a first no_column a_below refl in
       let two = placed-set class once b second no_column long (ap (λ (x : Column). x.class) (sym still)) in
@@ -141,7 +158,8 @@ module _ (p : Problem) (none : NoneOfNothing p) (columns : List Column) (plan : 
   pub cut-good : (a i k left right : ℕ) → a < length columns → k < length p.caps → has_place p columns k ≡ true →
       worth_of p (column_at columns a).class (take i (column_at columns a).items) ≡ Some left →
       worth_of p k (drop i (column_at columns a).items) ≡ Some right →
-      IsPlan p (parted p columns a i k) × (pos (cost (parted p columns a i k)) ≡ pos (cost columns) +ℤ (pos (left + right) -ℤ pos (column_at columns a).worth))
+      IsPlan p (parted p columns a i k)
+      × (pos (cost (parted p columns a i k)) ≡ pos (cost columns) +ℤ (pos (left + right) -ℤ pos (column_at columns a).worth))
   cut-good a i k left right below there room has_left has_right =
       let c : Column = column_at columns a in
       let front : Column = made p c.class (take i c.items) in
@@ -150,7 +168,9 @@ module _ (p : Problem) (none : NoneOfNothing p) (columns : List Column) (plan : 
       let both : List Column = once ++ tail ∷ [] in
       let front_worth : front.worth ≡ left = ap (λ (o : Option ℕ). unwrap_or o 0) has_left in
       let tail_worth : tail.worth ≡ right = ap (λ (o : Option ℕ). unwrap_or o 0) has_right in
-      let loose = AreLoose-push p once tail (AreLoose-set p columns a front (loose-columns p columns none plan.worths) (made-loose p c.class (take i c.items) left (class-there a below) has_left))
+      let loose = AreLoose-push p once tail
+      (AreLoose-set p columns a front (loose-columns p columns none plan.worths)
+      (made-loose p c.class (take i c.items) left (class-there a below) has_left))
       (made-loose p k (drop i c.items) right there has_right) in
       let change_one : cost once + c.worth ≡ cost columns + front.worth = cost-set columns a front no_column below in
       let change_two : cost both ≡ cost once + tail.worth = cost-push once tail in
@@ -162,7 +182,9 @@ module _ (p : Problem) (none : NoneOfNothing p) (columns : List Column) (plan : 
       let at_most = plan.caps class inside in
       elim (cases_eq class k) [
         | inl same ↦
-            let free : times class (all_classes columns) < slice_index p.caps class = (let test : nat_lt (times class (all_classes columns)) (slice_index p.caps class) ≡ true = ap (λ n. has_place p columns n) same ∙ room in grind (arith, nat_tests)) in
+            let free : times class (all_classes columns) < slice_index p.caps class =
+            (let test : nat_lt (times class (all_classes columns)) (slice_index p.caps class) ≡ true =
+            ap (λ n. has_place p columns n) same ∙ room in grind (arith, nat_tests)) in
             let test : (class == k) ≡ true = grind (arith, nat_tests) in
             let sum = rw test at two in
             omega arith

@@ -13,7 +13,8 @@ pub candidate_total : IsTotalOrder candidate_cmp
 candidate_total =
     let by = λ (f : Candidate → ℕ). on_total f nat_cmp_total in
     then_total (on_total (λ (c : Candidate). c.change) int_cmp_total)
-    (then_total (by (λ c. rank c.kind)) (then_total (by (λ c. c.a)) (then_total (by (λ c. c.b)) (then_total (by (λ c. c.i)) (by (λ c. c.j))))))
+    (then_total (by (λ c. rank c.kind))
+    (then_total (by (λ c. c.a)) (then_total (by (λ c. c.b)) (then_total (by (λ c. c.i)) (by (λ c. c.j))))))
 
 module _ {X : Type 0} where
   pub Contains-cons_cases : (y : X) (xs : List X) (x : X) → Contains (y ∷ xs) x → (y ≡ x) ⊎ Contains xs x
@@ -48,7 +49,8 @@ module _ {X : Type 0} (R : X → X → Ordering) (t : IsTotalOrder R) where
   not_below_lesser x y e h = let back : R y x ≡ Greater = t.antisymm y x ∙ ap ordering_reverse e in cc
 
 module _ {X : Type 0} (R : X → X → Ordering) (t : IsTotalOrder R) (f : ℕ → List X) where
-  down : (places : List ℕ) (os : List (Option X)) → AllZip (λ a o. IsLeast R (f a) o) places os → (m : X) → Contains (filter_map (λ o. o) os) m → Contains (flat_map f places) m
+  down : (places : List ℕ) (os : List (Option X)) → AllZip (λ a o. IsLeast R (f a) o) places os → (m : X) →
+      Contains (filter_map (λ o. o) os) m → Contains (flat_map f places) m
   down [] [] h m c = c
   down [] (o ∷ os) h m c = absurd h
   down (a ∷ places) [] h m c = absurd h
@@ -72,7 +74,10 @@ module _ {X : Type 0} (R : X → X → Ordering) (t : IsTotalOrder R) (f : ℕ �
       (λ (d : Contains (flat_map f places) x). let r = up places os h.1 x d in (r.0, Contains-tail y (filter_map (λ o. o) os) r.0 r.1, r.2))
       (Contains-append_cases (f a) (flat_map f places) x c)
 
-  pub least_of_leasts : (places : List ℕ) (os : List (Option X)) (r : Option X) → AllZip (λ a o. IsLeast R (f a) o) places os → IsLeast R (filter_map (λ o. o) os) r → IsLeast R (flat_map f places) r
+  pub least_of_leasts : (places : List ℕ) (os : List (Option X)) (r : Option X) → AllZip (λ a o. IsLeast R (f a) o) places os →
+      IsLeast R (filter_map (λ o. o) os) r → IsLeast R (flat_map f places) r
   least_of_leasts places os None h l =
-      nothing (flat_map f places) (λ x c. let m = up places os h x c in let n : Contains [] m.0 = subst (λ l. Contains l m.0) l m.1 in let z = n.1 in omega arith)
-  least_of_leasts places os (Some q) h l = (down places os h q l.0, λ x c. let m = up places os h x c in not_below R t x m.0 q m.2 (l.1 m.0 m.1))
+      nothing (flat_map f places) (λ x c. let m = up places os h x c in let n : Contains [] m.0 =
+      subst (λ l. Contains l m.0) l m.1 in let z = n.1 in omega arith)
+  least_of_leasts places os (Some q) h l =
+      (down places os h q l.0, λ x c. let m = up places os h x c in not_below R t x m.0 q m.2 (l.1 m.0 m.1))

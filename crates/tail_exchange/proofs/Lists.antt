@@ -24,7 +24,8 @@ pub record IsSound (p : Problem) (c : Column) : Type 0 where
   pub items : AllBelow p.items c.items
   pub few : length c.items ≤ p.items
 
-pub sound-at : (p : Problem) (plan : List Column) (place : ℕ) → HasListedColumns p → AreColumns p plan → place < length plan → IsSound p (column_at plan place)
+pub sound-at : (p : Problem) (plan : List Column) (place : ℕ) → HasListedColumns p → AreColumns p plan → place < length plan →
+    IsSound p (column_at plan place)
 sound-at p plan place listed are h =
     let c : Column = column_at plan place in
     let is : IsColumn p c = AreColumns-get p plan place no_column h are in
@@ -72,7 +73,8 @@ Rises-nothing (x ∷ z ∷ zs) ys r e = (r.0, Rises-nothing (z ∷ zs) ys r.1 e)
 last-more : (x z : ℕ) (zs : List ℕ) → get_or (x ∷ z ∷ zs) (length (x ∷ z ∷ zs) - 1) 0 ≡ get_or (z ∷ zs) (length (z ∷ zs) - 1) 0
 last-more x z zs = let e : length (x ∷ z ∷ zs) - 1 ≡ suc (length (z ∷ zs) - 1) = omega arith in ap (λ k. get_or (x ∷ z ∷ zs) k 0) e
 
-pub Rises-both : (xs ys : List ℕ) → Rises xs → Rises ys → 0 < length xs → 0 < length ys → get_or xs (length xs - 1) 0 < get_or ys 0 0 → Rises (xs ++ ys)
+pub Rises-both : (xs ys : List ℕ) → Rises xs → Rises ys → 0 < length xs → 0 < length ys →
+    get_or xs (length xs - 1) 0 < get_or ys 0 0 → Rises (xs ++ ys)
 Rises-both [] ys r s some more less = absurd (omega arith)
 Rises-both (x ∷ []) [] r s some more less = absurd (omega arith)
 Rises-both (x ∷ []) (y ∷ ys) r s some more less = (less, s)
@@ -104,11 +106,14 @@ both-few n xs ys h k r =
     omega (arith, length-append xs ys)
 
 -- the test of neighbours says whether two lists rise as one
-pub meets : (xs ys : List ℕ) (t : Bool) → Rises xs → Rises ys → 0 < length xs → 0 < length ys → nat_lt (get_or xs (length xs - 1) 0) (get_or ys 0 0) ≡ t → OnTrue t (Rises (xs ++ ys))
-meets xs ys true r s some more test = Rises-both xs ys r s some more (let less : get_or xs (length xs - 1) 0 < get_or ys 0 0 = grind (arith, nat_tests) in less)
+pub meets : (xs ys : List ℕ) (t : Bool) → Rises xs → Rises ys → 0 < length xs → 0 < length ys →
+    nat_lt (get_or xs (length xs - 1) 0) (get_or ys 0 0) ≡ t → OnTrue t (Rises (xs ++ ys))
+meets xs ys true r s some more test =
+    Rises-both xs ys r s some more (let less : get_or xs (length xs - 1) 0 < get_or ys 0 0 = grind (arith, nat_tests) in less)
 meets xs ys false r s some more test = tt
 
-pub parts : (xs ys : List ℕ) (t : Bool) → 0 < length xs → 0 < length ys → nat_lt (get_or xs (length xs - 1) 0) (get_or ys 0 0) ≡ t → OnFalse t (Rises (xs ++ ys) → ⊥)
+pub parts : (xs ys : List ℕ) (t : Bool) → 0 < length xs → 0 < length ys → nat_lt (get_or xs (length xs - 1) 0) (get_or ys 0 0) ≡ t →
+    OnFalse t (Rises (xs ++ ys) → ⊥)
 parts xs ys true some more test = tt
 parts xs ys false some more test = λ r. (
     let less : get_or xs (length xs - 1) 0 < get_or ys 0 0 = Rises-meet xs ys some more r in
@@ -117,7 +122,8 @@ parts xs ys false some more test = λ r. (
     )
 
 -- lists that are equal to two that don't rise as one have no worth together
-pub no_worth-of : (p : Problem) (class : ℕ) (front tail xs ys : List ℕ) (t : Bool) → HasListedColumns p → t ≡ false → OnFalse t (Rises (front ++ tail) → ⊥) → front ≡ xs → tail ≡ ys → worth_of p class (xs ++ ys) ≡ None
+pub no_worth-of : (p : Problem) (class : ℕ) (front tail xs ys : List ℕ) (t : Bool) → HasListedColumns p → t ≡ false →
+    OnFalse t (Rises (front ++ tail) → ⊥) → front ≡ xs → tail ≡ ys → worth_of p class (xs ++ ys) ≡ None
 no_worth-of p class front tail xs ys true listed test flat e f = cc
 no_worth-of p class front tail xs ys false listed test flat e f =
     let whole : front ++ tail ≡ xs ++ ys = ap (λ l. l ++ tail) e ∙ ap (λ l. xs ++ l) f in

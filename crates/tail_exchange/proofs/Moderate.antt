@@ -20,7 +20,11 @@ AreCheap-push (d ∷ ds) c h new = (h.0, AreCheap-push ds c h.1 new)
 pub AreCheap-without : (cs : List Column) → AreCheap cs → AreCheap (without_empty cs)
 AreCheap-without [] h = tt
 AreCheap-without (c ∷ cs) h =
-    elim (has_any c.items) as (λ t. AreCheap (cond t (c ∷ without_empty cs) (without_empty cs))) [ true ↦ (h.0, AreCheap-without cs h.1) | false ↦ AreCheap-without cs h.1 ]
+    elim (has_any c.items) as (λ t. AreCheap (cond t (c ∷ without_empty cs) (without_empty cs))) [
+      | true ↦
+          (h.0, AreCheap-without cs h.1)
+      | false ↦ AreCheap-without cs h.1
+    ]
 
 -- a column put in before another is put behind
 pub set-push : (cs : List Column) (k : ℕ) (c d : Column) → k < length cs → set (cs ++ d ∷ []) k c ≡ set cs k c ++ d ∷ []

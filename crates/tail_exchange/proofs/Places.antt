@@ -31,30 +31,70 @@ after-cases g k =
 pub before-less : (g m n : ℕ) → m < n → place_before g m < place_before g n
 before-less g m n less =
     elim (before-cases g m) [
-      | inl low ↦ let l = low.0 in let e = low.1 in elim (before-cases g n) [ inl high ↦ (let k = high.0 in let f = high.1 in omega arith) | inr high ↦ (let k = high.0 in let f = high.1 in omega arith) ]
-      | inr low ↦ let l = low.0 in let e = low.1 in elim (before-cases g n) [ inl high ↦ (let k = high.0 in let f = high.1 in omega arith) | inr high ↦ (let k = high.0 in let f = high.1 in omega arith) ]
+      | inl low ↦ let l = low.0 in let e = low.1 in
+          elim (before-cases g n) [
+            | inl high ↦ (let k = high.0 in let f = high.1 in omega arith)
+            | inr high ↦
+                (let k = high.0 in let f = high.1 in omega arith)
+          ]
+      | inr low ↦ let l = low.0 in let e = low.1 in
+          elim (before-cases g n) [
+            | inl high ↦ (let k = high.0 in let f = high.1 in omega arith)
+            | inr high ↦
+                (let k = high.0 in let f = high.1 in omega arith)
+          ]
     ]
 
 pub less-before : (g m n : ℕ) → place_before g m < place_before g n → m < n
 less-before g m n less =
     elim (before-cases g m) [
-      | inl low ↦ let l = low.0 in let e = low.1 in elim (before-cases g n) [ inl high ↦ (let k = high.0 in let f = high.1 in omega arith) | inr high ↦ (let k = high.0 in let f = high.1 in omega arith) ]
-      | inr low ↦ let l = low.0 in let e = low.1 in elim (before-cases g n) [ inl high ↦ (let k = high.0 in let f = high.1 in omega arith) | inr high ↦ (let k = high.0 in let f = high.1 in omega arith) ]
+      | inl low ↦ let l = low.0 in let e = low.1 in
+          elim (before-cases g n) [
+            | inl high ↦ (let k = high.0 in let f = high.1 in omega arith)
+            | inr high ↦
+                (let k = high.0 in let f = high.1 in omega arith)
+          ]
+      | inr low ↦ let l = low.0 in let e = low.1 in
+          elim (before-cases g n) [
+            | inl high ↦ (let k = high.0 in let f = high.1 in omega arith)
+            | inr high ↦
+                (let k = high.0 in let f = high.1 in omega arith)
+          ]
     ]
 
 -- the place after of the place before is the place
 pub after-before : (g k : ℕ) → place_after g (place_before g k) ≡ k
 after-before g k =
     elim (before-cases g k) [
-      | inl low ↦ let l = low.0 in let e = low.1 in elim (after-cases g (place_before g k)) [ inl high ↦ (let h = high.0 in let f = high.1 in omega arith) | inr high ↦ (let h = high.0 in let f = high.1 in omega arith) ]
-      | inr low ↦ let l = low.0 in let e = low.1 in elim (after-cases g (place_before g k)) [ inl high ↦ (let h = high.0 in let f = high.1 in omega arith) | inr high ↦ (let h = high.0 in let f = high.1 in omega arith) ]
+      | inl low ↦ let l = low.0 in let e = low.1 in
+          elim (after-cases g (place_before g k)) [
+            | inl high ↦ (let h = high.0 in let f = high.1 in omega arith)
+            | inr high ↦
+                (let h = high.0 in let f = high.1 in omega arith)
+          ]
+      | inr low ↦ let l = low.0 in let e = low.1 in
+          elim (after-cases g (place_before g k)) [
+            | inl high ↦ (let h = high.0 in let f = high.1 in omega arith)
+            | inr high ↦
+                (let h = high.0 in let f = high.1 in omega arith)
+          ]
     ]
 
 pub before-after : (g k : ℕ) → k ≢ g → place_before g (place_after g k) ≡ k
 before-after g k stays =
     elim (after-cases g k) [
-      | inl low ↦ let l = low.0 in let e = low.1 in elim (before-cases g (place_after g k)) [ inl high ↦ (let h = high.0 in let f = high.1 in omega arith) | inr high ↦ (let h = high.0 in let f = high.1 in omega arith) ]
-      | inr low ↦ let l = low.0 in let e = low.1 in elim (before-cases g (place_after g k)) [ inl high ↦ (let h = high.0 in let f = high.1 in omega arith) | inr high ↦ (let h = high.0 in let f = high.1 in omega arith) ]
+      | inl low ↦ let l = low.0 in let e = low.1 in
+          elim (before-cases g (place_after g k)) [
+            | inl high ↦ (let h = high.0 in let f = high.1 in omega arith)
+            | inr high ↦
+                (let h = high.0 in let f = high.1 in omega arith)
+          ]
+      | inr low ↦ let l = low.0 in let e = low.1 in
+          elim (before-cases g (place_after g k)) [
+            | inl high ↦ (let h = high.0 in let f = high.1 in omega arith)
+            | inr high ↦
+                (let h = high.0 in let f = high.1 in omega arith)
+          ]
     ]
 
 nat_cmp-itself : (m n : ℕ) → m ≡ n → nat_cmp m n ≡ Equal
@@ -89,7 +129,8 @@ module _ {X : Type 0} (q : X → Bool) where
   filter-whole [] = λ e. refl
   filter-whole (x ∷ xs) =
       let few = filter-few xs in
-      elim (q x) as (λ t. length (cond t (x ∷ filter q xs) (filter q xs)) ≡ length (x ∷ xs) → cond t (x ∷ filter q xs) (filter q xs) ≡ x ∷ xs) [
+      elim (q x) as (λ t. length (cond t (x ∷ filter q xs) (filter q xs)) ≡ length (x ∷ xs) →
+      cond t (x ∷ filter q xs) (filter q xs) ≡ x ∷ xs) [
         | true ↦ λ e. ap (λ l. x ∷ l) (filter-whole xs (omega arith))
         | false ↦ λ e. absurd (omega arith)
       ]
@@ -105,26 +146,35 @@ module _ {X : Type 0} (q : X → Bool) where
       elim (q x) as (λ t. length (cond t (x ∷ filter q xs) (filter q xs)) < length (x ∷ xs)) [ true ↦ omega arith | false ↦ omega arith ]
 
   -- where a filter leaves one fewer, and one is left out, those behind it move up by one
-  filter-one : (xs : List X) (g k : ℕ) (d : X) → g < length xs → q (get_or xs g d) ≡ false → length (filter q xs) + 1 ≡ length xs → get_or (filter q xs) k d ≡ get_or xs (place_before g k) d
+  filter-one : (xs : List X) (g k : ℕ) (d : X) → g < length xs → q (get_or xs g d) ≡ false → length (filter q xs) + 1 ≡ length xs →
+      get_or (filter q xs) k d ≡ get_or xs (place_before g k) d
   filter-one [] g k d below out = λ one. absurd (omega arith)
   filter-one (x ∷ xs) zero k d below out =
-      let P : Bool → Type 0 = λ t. length (cond t (x ∷ filter q xs) (filter q xs)) + 1 ≡ length (x ∷ xs) → get_or (cond t (x ∷ filter q xs) (filter q xs)) k d ≡ get_or (x ∷ xs) (place_before zero k) d in
+      let P : Bool → Type 0 = λ t. length (cond t (x ∷ filter q xs) (filter q xs)) + 1 ≡ length (x ∷ xs) →
+      get_or (cond t (x ∷ filter q xs) (filter q xs)) k d ≡ get_or (x ∷ xs) (place_before zero k) d in
       subst P (sym out) (λ one.
       let next : suc k ≡ place_before zero k = from-zero k in
       ap (λ l. get_or l k d) (filter-whole xs (omega arith)) ∙ ap (λ n. get_or (x ∷ xs) n d) next)
     where
       from-zero : (k : ℕ) → suc k ≡ place_before zero k
-      from-zero k = elim (before-cases zero k) [ inl low ↦ absurd (let l = low.0 in omega arith) | inr high ↦ (let e = high.1 in omega arith) ]
+      from-zero k = elim (before-cases zero k) [
+        | inl low ↦ absurd (let l = low.0 in omega arith)
+        | inr high ↦
+            (let e = high.1 in omega arith)
+      ]
   filter-one (x ∷ xs) (suc g) zero d below out =
       let fewer = filter-fewer xs g d (omega arith) out in
-      let here : place_before (suc g) zero ≡ zero = elim (before-cases (suc g) zero) [ inl low ↦ low.1 | inr high ↦ absurd (let l = high.0 in omega arith) ] in
-      elim (q x) as (λ t. length (cond t (x ∷ filter q xs) (filter q xs)) + 1 ≡ length (x ∷ xs) → get_or (cond t (x ∷ filter q xs) (filter q xs)) zero d ≡ get_or (x ∷ xs) (place_before (suc g) zero) d) [
+      let here : place_before (suc g) zero ≡ zero =
+      elim (before-cases (suc g) zero) [ inl low ↦ low.1 | inr high ↦ absurd (let l = high.0 in omega arith) ] in
+      elim (q x) as (λ t. length (cond t (x ∷ filter q xs) (filter q xs)) + 1 ≡ length (x ∷ xs) →
+      get_or (cond t (x ∷ filter q xs) (filter q xs)) zero d ≡ get_or (x ∷ xs) (place_before (suc g) zero) d) [
         | true ↦ λ one. sym (ap (λ n. get_or (x ∷ xs) n d) here)
         | false ↦ λ one. absurd (omega arith)
       ]
   filter-one (x ∷ xs) (suc g) (suc k) d below out =
       let fewer = filter-fewer xs g d (omega arith) out in
-      elim (q x) as (λ t. length (cond t (x ∷ filter q xs) (filter q xs)) + 1 ≡ length (x ∷ xs) → get_or (cond t (x ∷ filter q xs) (filter q xs)) (suc k) d ≡ get_or (x ∷ xs) (place_before (suc g) (suc k)) d) [
+      elim (q x) as (λ t. length (cond t (x ∷ filter q xs) (filter q xs)) + 1 ≡ length (x ∷ xs) →
+      get_or (cond t (x ∷ filter q xs) (filter q xs)) (suc k) d ≡ get_or (x ∷ xs) (place_before (suc g) (suc k)) d) [
         | true ↦ λ one. filter-one xs g k d (omega arith) out (omega arith) ∙ ap (λ n. get_or (x ∷ xs) n d) (next g k)
         | false ↦ λ one. absurd (omega arith)
       ]
@@ -132,8 +182,18 @@ module _ {X : Type 0} (q : X → Bool) where
       next : (g k : ℕ) → suc (place_before g k) ≡ place_before (suc g) (suc k)
       next g k =
           elim (before-cases g k) [
-            | inl low ↦ let l = low.0 in let e = low.1 in elim (before-cases (suc g) (suc k)) [ inl high ↦ (let h = high.0 in let f = high.1 in omega arith) | inr high ↦ (let h = high.0 in let f = high.1 in omega arith) ]
-            | inr low ↦ let l = low.0 in let e = low.1 in elim (before-cases (suc g) (suc k)) [ inl high ↦ (let h = high.0 in let f = high.1 in omega arith) | inr high ↦ (let h = high.0 in let f = high.1 in omega arith) ]
+            | inl low ↦ let l = low.0 in let e = low.1 in
+                elim (before-cases (suc g) (suc k)) [
+                  | inl high ↦ (let h = high.0 in let f = high.1 in omega arith)
+                  | inr high ↦
+                      (let h = high.0 in let f = high.1 in omega arith)
+                ]
+            | inr low ↦ let l = low.0 in let e = low.1 in
+                elim (before-cases (suc g) (suc k)) [
+                  | inl high ↦ (let h = high.0 in let f = high.1 in omega arith)
+                  | inr high ↦
+                      (let h = high.0 in let f = high.1 in omega arith)
+                ]
           ]
 
 before-below : (g k : ℕ) → k < g → place_before g k ≡ k
@@ -169,7 +229,8 @@ module _ (p : Problem) (columns : List Column) (a b i j : ℕ) (order : a < b) (
   long = length-set (set columns a first_made) b second_made ∙ length-set columns a first_made
 
   other : (k : ℕ) → k ≢ a → k ≢ b → column_at twice k ≡ column_at columns k
-  other k k_a k_b = get_or-set_other (set columns a first_made) b k second_made no_column k_b ∙ get_or-set_other columns a k first_made no_column k_a
+  other k k_a k_b = get_or-set_other (set columns a first_made) b k second_made no_column k_b
+      ∙ get_or-set_other columns a k first_made no_column k_a
 
   -- both columns stay
   pub swap-stays : length (swapped p columns a b i j) ≡ length columns → IsMoved columns (swapped p columns a b i j) (length columns) a b
@@ -180,29 +241,43 @@ module _ (p : Problem) (columns : List Column) (a b i j : ℕ) (order : a < b) (
         first = omega arith;
         second = omega arith;
         stood = λ k inside k_a k_b. let e = before-below n k (omega arith) in omega arith;
-        same = λ k inside k_a k_b. ap (λ l. column_at l k) whole ∙ other k k_a k_b ∙ sym (ap (column_at columns) (before-below n k (omega arith)));
+        same = λ k inside k_a k_b. ap (λ l. column_at l k) whole ∙ other k k_a k_b
+            ∙ sym (ap (column_at columns) (before-below n k (omega arith)));
         stands = λ k inside stays. let e = after-below n k (omega arith) in omega arith;
       }
 
   -- one of them vanishes
-  one-vanishes : (g x : ℕ) → g < length columns → x < length columns - 1 → length (swapped p columns a b i j) ≡ length columns - 1 → has_any (column_at twice g).items ≡ false →
-      ((k : ℕ) → k < length columns - 1 → k ≢ x → (place_before g k ≢ a) × (place_before g k ≢ b)) → IsMoved columns (swapped p columns a b i j) g x x
+  one-vanishes : (g x : ℕ) → g < length columns → x < length columns - 1 → length (swapped p columns a b i j) ≡ length columns - 1 →
+      has_any (column_at twice g).items ≡ false →
+      ((k : ℕ) → k < length columns - 1 → k ≢ x → (place_before g k ≢ a) × (place_before g k ≢ b)) →
+      IsMoved columns (swapped p columns a b i j) g x x
   one-vanishes g x gone kept len out apart =
       let n = length columns in
       let Here = λ (k : ℕ). place_before g k < n in
       record {
         first = omega arith;
         second = omega arith;
-        stood = λ k inside k_x k_y. elim (before-cases g k) [ inl low ↦ (let e = low.1 in omega arith) | inr high ↦ (let e = high.1 in omega arith) ];
+        stood = λ k inside k_x k_y. elim (before-cases g k) [
+          | inl low ↦ (let e = low.1 in omega arith)
+          | inr high ↦
+              (let e = high.1 in omega arith)
+        ];
         same = λ k inside k_x k_y.
             let away = apart k (omega arith) k_x in
-            filter-one (λ c. has_any c.items) twice g k no_column (omega (arith, long)) out (omega (arith, long)) ∙ other (place_before g k) away.0 away.1;
-        stands = λ k inside stays. elim (after-cases g k) [ inl low ↦ (let e = low.1 in omega arith) | inr high ↦ (let l = high.0 in let e = high.1 in omega arith) ];
+            filter-one (λ c. has_any c.items) twice g k no_column (omega (arith, long)) out (omega (arith, long))
+            ∙ other (place_before g k) away.0 away.1;
+        stands = λ k inside stays. elim (after-cases g k) [
+          | inl low ↦ (let e = low.1 in omega arith)
+          | inr high ↦
+              (let l = high.0 in let e = high.1 in omega arith)
+        ];
       }
 
-  pub second-vanishes : ((j == 0) && (i == length c.items)) ≡ true → length (swapped p columns a b i j) ≡ length columns - 1 → IsMoved columns (swapped p columns a b i j) b a a
+  pub second-vanishes : ((j == 0) && (i == length c.items)) ≡ true → length (swapped p columns a b i j) ≡ length columns - 1 →
+      IsMoved columns (swapped p columns a b i j) b a a
   second-vanishes test len =
-      let at : column_at twice b ≡ second_made = get_or-set_same (set columns a first_made) b second_made no_column (omega (arith, length-set columns a first_made)) in
+      let at : column_at twice b ≡ second_made =
+      get_or-set_same (set columns a first_made) b second_made no_column (omega (arith, length-set columns a first_made)) in
       let none : (column_at twice b).items ≡ [] = ap (λ (e : Column). e.items) at ∙ joined-nothing d.items c.items j i test in
       one-vanishes b a below (omega arith) len (ap has_any none) (λ k inside k_a.
       elim (before-cases b k) [
@@ -210,10 +285,12 @@ module _ (p : Problem) (columns : List Column) (a b i j : ℕ) (order : a < b) (
         | inr high ↦ let l = high.0 in let e = high.1 in ((λ f. omega arith), λ f. omega arith)
       ])
 
-  pub first-vanishes : ((i == 0) && (j == length d.items)) ≡ true → length (swapped p columns a b i j) ≡ length columns - 1 → IsMoved columns (swapped p columns a b i j) a (b - 1) (b - 1)
+  pub first-vanishes : ((i == 0) && (j == length d.items)) ≡ true → length (swapped p columns a b i j) ≡ length columns - 1 →
+      IsMoved columns (swapped p columns a b i j) a (b - 1) (b - 1)
   first-vanishes test len =
       let before_b : a ≢ b = λ e. omega arith in
-      let at : column_at twice a ≡ first_made = get_or-set_other (set columns a first_made) b a second_made no_column before_b ∙ get_or-set_same columns a first_made no_column (omega arith) in
+      let at : column_at twice a ≡ first_made = get_or-set_other (set columns a first_made) b a second_made no_column before_b
+      ∙ get_or-set_same columns a first_made no_column (omega arith) in
       let none : (column_at twice a).items ≡ [] = ap (λ (e : Column). e.items) at ∙ joined-nothing c.items d.items i j test in
       one-vanishes a (b - 1) (omega arith) (omega arith) len (ap has_any none) (λ k inside k_x.
       elim (before-cases a k) [
@@ -241,7 +318,8 @@ module _ (p : Problem) (columns : List Column) (a i class : ℕ) (below : a < le
   in-front k inside = get_or-append (set columns a front) (tail ∷ []) no_column k (omega (arith, length-set columns a front))
 
   -- the column that is cut keeps a front
-  pub cut-stays : length (parted p columns a i class) ≡ length columns + 1 → IsMoved columns (parted p columns a i class) (length columns) a (length columns)
+  pub cut-stays : length (parted p columns a i class) ≡ length columns + 1 →
+      IsMoved columns (parted p columns a i class) (length columns) a (length columns)
   cut-stays len =
       let n = length columns in
       let all : parted p columns a i class ≡ both = filter-whole (λ c. has_any c.items) both (len ∙ sym both-len) in
@@ -249,12 +327,14 @@ module _ (p : Problem) (columns : List Column) (a i class : ℕ) (below : a < le
         first = omega arith;
         second = omega arith;
         stood = λ k inside k_a k_n. let e = before-below n k (omega arith) in omega arith;
-        same = λ k inside k_a k_n. ap (λ l. column_at l k) all ∙ in-front k (omega arith) ∙ get_or-set_other columns a k front no_column k_a ∙ sym (ap (column_at columns) (before-below n k (omega arith)));
+        same = λ k inside k_a k_n. ap (λ l. column_at l k) all ∙ in-front k (omega arith) ∙ get_or-set_other columns a k front no_column k_a
+            ∙ sym (ap (column_at columns) (before-below n k (omega arith)));
         stands = λ k inside stays. let e = after-below n k (omega arith) in omega arith;
       }
 
   -- all of it is cut off
-  pub cut-vanishes : i ≡ 0 → length (parted p columns a i class) ≡ length columns → IsMoved columns (parted p columns a i class) a (length columns - 1) (length columns - 1)
+  pub cut-vanishes : i ≡ 0 → length (parted p columns a i class) ≡ length columns →
+      IsMoved columns (parted p columns a i class) a (length columns - 1) (length columns - 1)
   cut-vanishes start len =
       let n = length columns in
       let at : column_at both a ≡ front = in-front a below ∙ get_or-set_same columns a front no_column below in
@@ -262,19 +342,29 @@ module _ (p : Problem) (columns : List Column) (a i class : ℕ) (below : a < le
       record {
         first = omega arith;
         second = omega arith;
-        stood = λ k inside k_x k_y. elim (before-cases a k) [ inl low ↦ (let e = low.1 in omega arith) | inr high ↦ (let e = high.1 in omega arith) ];
+        stood = λ k inside k_x k_y. elim (before-cases a k) [
+          | inl low ↦ (let e = low.1 in omega arith)
+          | inr high ↦
+              (let e = high.1 in omega arith)
+        ];
         same = λ k inside k_x k_y.
             elim (before-cases a k) [
               | inl low ↦
                   let l = low.0 in
                   let e = low.1 in
                   let there : place_before a k < n = omega arith in
-                  filter-one (λ c. has_any c.items) both a k no_column (omega (arith, both-len)) (ap has_any none) (omega (arith, both-len)) ∙ in-front (place_before a k) there ∙ get_or-set_other columns a (place_before a k) front no_column (λ f. omega arith)
+                  filter-one (λ c. has_any c.items) both a k no_column (omega (arith, both-len)) (ap has_any none) (omega (arith, both-len))
+                  ∙ in-front (place_before a k) there ∙ get_or-set_other columns a (place_before a k) front no_column (λ f. omega arith)
               | inr high ↦
                   let l = high.0 in
                   let e = high.1 in
                   let there : place_before a k < n = omega arith in
-                  filter-one (λ c. has_any c.items) both a k no_column (omega (arith, both-len)) (ap has_any none) (omega (arith, both-len)) ∙ in-front (place_before a k) there ∙ get_or-set_other columns a (place_before a k) front no_column (λ f. omega arith)
+                  filter-one (λ c. has_any c.items) both a k no_column (omega (arith, both-len)) (ap has_any none) (omega (arith, both-len))
+                  ∙ in-front (place_before a k) there ∙ get_or-set_other columns a (place_before a k) front no_column (λ f. omega arith)
             ];
-        stands = λ k inside stays. elim (after-cases a k) [ inl low ↦ (let e = low.1 in omega arith) | inr high ↦ (let e = high.1 in omega arith) ];
+        stands = λ k inside stays. elim (after-cases a k) [
+          | inl low ↦ (let e = low.1 in omega arith)
+          | inr high ↦
+              (let e = high.1 in omega arith)
+        ];
       }

@@ -38,7 +38,8 @@ abbrev pub swapped : Problem → List Column → ℕ → ℕ → ℕ → ℕ →
 swapped p columns a b i j =
     let c : Column = column_at columns a in
     let d : Column = column_at columns b in
-    without_empty (slice_set (slice_set columns a (made p c.class (joined c.items i d.items j))) b (made p d.class (joined d.items j c.items i)))
+    without_empty (slice_set (slice_set columns a (made p c.class (joined c.items i d.items j))) b
+    (made p d.class (joined d.items j c.items i)))
 
 -- column a keeps its first i items, and the others become a new column of class k, put last
 abbrev pub parted : Problem → List Column → ℕ → ℕ → ℕ → List Column
@@ -67,7 +68,8 @@ abbrev pub swap_at : Problem → List Column → ℕ → ℕ → ℕ → ℕ →
 swap_at p columns a b i j =
     let c : Column = column_at columns a in
     let d : Column = column_at columns b in
-    step_for (c.worth + d.worth) Swap a b i j (worth_of p c.class (joined c.items i d.items j)) (worth_of p d.class (joined d.items j c.items i))
+    step_for (c.worth + d.worth) Swap a b i j (worth_of p c.class (joined c.items i d.items j))
+    (worth_of p d.class (joined d.items j c.items i))
 
 -- the cut of column a from i on into a new column of class k: k has a place left, and it isn't the whole of a in its own class
 abbrev pub cut_at : Problem → List Column → ℕ → ℕ → ℕ → List Candidate
@@ -80,7 +82,8 @@ cut_at p columns a i k =
 -- the swaps of columns a and b
 abbrev pub swaps_of : Problem → List Column → ℕ → ℕ → List Candidate
 swaps_of p columns a b =
-    flat_map (λ i. flat_map (λ j. swap_at p columns a b i j) (range_with_len 0 (length (column_at columns b).items + 1))) (range_with_len 0 (length (column_at columns a).items + 1))
+    flat_map (λ i. flat_map (λ j. swap_at p columns a b i j) (range_with_len 0 (length (column_at columns b).items + 1)))
+    (range_with_len 0 (length (column_at columns a).items + 1))
 
 -- the swaps of column a with those behind it
 abbrev pub all_swaps_of : Problem → List Column → ℕ → List Candidate
@@ -88,7 +91,8 @@ all_swaps_of p columns a = flat_map (λ b. swaps_of p columns a b) (range_with_l
 
 -- the cuts of column a
 abbrev pub cuts_of : Problem → List Column → ℕ → List Candidate
-cuts_of p columns a = flat_map (λ i. flat_map (λ k. cut_at p columns a i k) (range_with_len 0 (length p.caps))) (range_with_len 0 (length (column_at columns a).items))
+cuts_of p columns a = flat_map (λ i. flat_map (λ k. cut_at p columns a i k) (range_with_len 0 (length p.caps)))
+    (range_with_len 0 (length (column_at columns a).items))
 
 -- the steps whose first column is a
 abbrev pub steps_of : Problem → List Column → ℕ → List Candidate

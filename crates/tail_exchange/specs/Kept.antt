@@ -68,7 +68,8 @@ IsNotBefore c (Some least) = candidate_cmp c least ≢ Less
 -- a swap of column a, if it has one, that none of its swaps with other columns than x and y is before
 pub record IsLeastOfOthers (p : Problem) (columns : List Column) (x y a : ℕ) (least : Option Candidate) : Type 0 where
   pub there : IfSome least (Contains (all_swaps_of p columns a))
-  pub others : (b : ℕ) → a < b → b < length columns → b ≢ x → b ≢ y → (c : Candidate) → Contains (swaps_of p columns a b) c → IsNotBefore c least
+  pub others : (b : ℕ) → a < b → b < length columns → b ≢ x → b ≢ y → (c : Candidate) →
+      Contains (swaps_of p columns a b) c → IsNotBefore c least
 
 -- what is kept for column a after columns x and y have changed
 abbrev pub IsKept : Problem → List Column → ℕ → ℕ → ℕ → Option Candidate → Type 0

@@ -22,7 +22,8 @@ pub record ShowsRooms (p : Problem) (columns : List Column) (rooms : List Bool) 
 
 -- the columns, places and class of a step are there
 abbrev pub AreThere : Problem → List Column → Kind → ℕ → ℕ → ℕ → ℕ → Type 0
-AreThere p columns Swap a b i j = (a < b) × (b < length columns) × (i ≤ length (column_at columns a).items) × (j ≤ length (column_at columns b).items)
+AreThere p columns Swap a b i j =
+    (a < b) × (b < length columns) × (i ≤ length (column_at columns a).items) × (j ≤ length (column_at columns b).items)
 AreThere p columns Cut a b i j = (a < length columns) × (i < length (column_at columns a).items) × (j < length p.caps)
 
 abbrev pub IsThere : Problem → List Column → Candidate → Type 0

@@ -20,7 +20,8 @@ module _ (size : Extent) where
   nobody v d idle f e p c = let c' : Contains [] p = subst (λ (l : List (ℕ × ℤ)). Contains l p) e c in let l = c'.1 in omega arith
 
   -- a desk with the whole share leaves no part to another
-  others_idle : (words : List ℕ) (views : List Sheet) (i : ℕ) (v : Sheet) → IsKept size words views → get_elem? views i ≡ some v → v.share ≡ whole
+  others_idle : (words : List ℕ) (views : List Sheet) (i : ℕ) (v : Sheet) → IsKept size words views →
+      get_elem? views i ≡ some v → v.share ≡ whole
       → (j : ℕ) (w : Sheet) → j ≢ i → get_elem? views j ≡ some w → w.share ≡ 0
   others_idle words views i v s at all j w n e =
       let two : w.share + v.share ≤ total (λ u. u.share) views = two_in_total (λ u. u.share) views j i w v n e at in
@@ -28,10 +29,12 @@ module _ (size : Extent) where
       omega arith
 
   -- and has drawn each number that was drawn
-  pub known_drawn : (words : List ℕ) (views : List Sheet) (i : ℕ) (v : Sheet) → IsKept size words views → get_elem? views i ≡ some v → v.share ≡ whole
+  pub known_drawn : (words : List ℕ) (views : List Sheet) (i : ℕ) (v : Sheet) → IsKept size words views →
+      get_elem? views i ≡ some v → v.share ≡ whole
       → (x : ℕ) → times x v.drawn ≡ once_below x (min (slice_index words 0) size.tasks)
   known_drawn words views i v s at all x =
-      sym (total_alone (λ u. times x u.drawn) views i v at (λ j w m e. ap (times x) ((s.desks j w e).empty (others_idle words views i v s at all j w m e)).0)) ∙ s.drawn x
+      sym (total_alone (λ u. times x u.drawn) views i
+      v at (λ j w m e. ap (times x) ((s.desks j w e).empty (others_idle words views i v s at all j w m e)).0)) ∙ s.drawn x
 
   -- what is known of a desk that has the whole share
   pub known : (words : List ℕ) (views : List Sheet) (i : ℕ) (v : Sheet) → IsKept size words views → get_elem? views i ≡ some v → IfWhole v
@@ -39,7 +42,8 @@ module _ (size : Extent) where
       let d = s.desks i v at in
       let tasks : v.tasks ≡ size.tasks = d.of_board (omega arith) in
       let others = others_idle words views i v s at all in
-      let over : total (λ u. u.over) views ≡ v.over = total_alone (λ u. u.over) views i v at (λ j w n e. let z = others j w n e in let h = (s.desks j w e).over_in_share in omega arith) in
+      let over : total (λ u. u.over) views ≡ v.over = total_alone (λ u. u.over) views i v at (λ j w n e. let z = others j w n e in let h =
+      (s.desks j w e).over_in_share in omega arith) in
       let n : ℕ = min (slice_index words 0) size.tasks in
       record {
         drawn = (
@@ -52,24 +56,32 @@ module _ (size : Extent) where
             All-weaker (Contains v.looks) (λ (p : ℕ × ℤ). (p.1 ≡ pos 0) ⊎ Contains v.lowered p)
             (λ p c. ⊎_elim (λ (z : p.1 ≡ pos 0). inl z)
             (λ (w : Noted lowered_in views p). elim (ℕ_discrete w.0 i) [
-              | yes same ↦ inr (subst (λ (u : Sheet). Contains u.lowered p) (some-injective w.1 v (sym w.2 ∙ (ap (get_elem? views) same ∙ at))) w.3)
-              | no apart ↦ absurd (nobody w.1 (s.desks w.0 w.1 w.2) (others w.0 w.1 apart w.2) lowered_in ((s.desks w.0 w.1 w.2).empty (others w.0 w.1 apart w.2)).2 p w.3)
+              | yes same ↦ inr (subst (λ (u : Sheet). Contains u.lowered p)
+                  (some-injective w.1 v (sym w.2 ∙ (ap (get_elem? views) same ∙ at))) w.3)
+              | no apart ↦ absurd (nobody w.1 (s.desks w.0 w.1 w.2) (others w.0 w.1 apart w.2) lowered_in
+                  ((s.desks w.0 w.1 w.2).empty (others w.0 w.1 apart w.2)).2 p w.3)
             ])
             (s.looks p (i, v, at, c)).source)
             v.looks (All-contains_itself v.looks);
       }
 
   -- the desks after one of them changed
-  desks_set : (views : List Sheet) (i : ℕ) (w : Sheet) → ((j : ℕ) (u : Sheet) → get_elem? views j ≡ some u → IsDesk size u) → IsDesk size w → (j : ℕ) (u : Sheet) → get_elem? (set views i w) j ≡ some u → IsDesk size u
+  desks_set : (views : List Sheet) (i : ℕ) (w : Sheet) → ((j : ℕ) (u : Sheet) → get_elem? views j ≡ some u → IsDesk size u) →
+      IsDesk size w → (j : ℕ) (u : Sheet) → get_elem? (set views i w) j ≡ some u → IsDesk size u
   desks_set views i w old new j u e =
-      ⊎_elim (λ (t : (j ≡ i) × (w ≡ u)). subst (IsDesk size) t.1 new) (λ (t : (j ≢ i) × (get_elem? views j ≡ some u)). old j u t.1) (at_set views i j w u e)
+      ⊎_elim (λ (t : (j ≡ i) × (w ≡ u)). subst (IsDesk size) t.1 new) (λ (t : (j ≢ i) × (get_elem? views j ≡ some u)). old j u t.1)
+      (at_set views i j w u e)
 
-  desks_snoc : (views : List Sheet) (w : Sheet) → ((j : ℕ) (u : Sheet) → get_elem? views j ≡ some u → IsDesk size u) → IsDesk size w → (j : ℕ) (u : Sheet) → get_elem? (views ++ w ∷ []) j ≡ some u → IsDesk size u
-  desks_snoc views w old new j u e = ⊎_elim (λ (t : get_elem? views j ≡ some u). old j u t) (λ (t : w ≡ u). subst (IsDesk size) t new) (at_snoc views w u j e)
+  desks_snoc : (views : List Sheet) (w : Sheet) → ((j : ℕ) (u : Sheet) → get_elem? views j ≡ some u → IsDesk size u) → IsDesk size w →
+      (j : ℕ) (u : Sheet) → get_elem? (views ++ w ∷ []) j ≡ some u → IsDesk size u
+  desks_snoc views w old new j u e =
+      ⊎_elim (λ (t : get_elem? views j ≡ some u). old j u t) (λ (t : w ≡ u). subst (IsDesk size) t new) (at_snoc views w u j e)
 
   -- Where no desk's entries changed and no class's word, the two conditions on classes stay
-  least_kept : (words words' : List ℕ) (views views' : List Sheet) → IsKept size words views → ((k : ℕ) → k < size.classes → slice_index words' (k + 1) ≡ slice_index words (k + 1))
-      → ((p : ℕ × ℤ) → Noted lowered_in views p → Noted lowered_in views' p) → ((p : ℕ × ℤ) → Noted lowered_in views' p → Noted lowered_in views p)
+  least_kept : (words words' : List ℕ) (views views' : List Sheet) → IsKept size words views →
+      ((k : ℕ) → k < size.classes → slice_index words' (k + 1) ≡ slice_index words (k + 1))
+      → ((p : ℕ × ℤ) → Noted lowered_in views p → Noted lowered_in views' p) →
+      ((p : ℕ × ℤ) → Noted lowered_in views' p → Noted lowered_in views p)
       → (k : ℕ) → k < size.classes → IsLeastWord views' k (slice_index words' (k + 1))
   least_kept words words' views views' s same on back k h =
       let old = s.least k h in let e = same k h in
@@ -78,11 +90,13 @@ module _ (size : Extent) where
         below = λ x c. subst (λ (n : ℕ). pos n ≤ℤ (x +ℤ pos zero_word)) (sym e) (old.below x (back (k, x) c));
         reached =
             ⊎_elim (λ (z : slice_index words (k + 1) ≡ zero_word). inl (e ∙ z))
-            (λ (r : (x : ℤ) × Stands (slice_index words (k + 1)) x × Noted lowered_in views (k, x)). inr (r.0, ap (λ (n : ℕ). pos n) e ∙ r.1, on (k, r.0) r.2))
+            (λ (r : (x : ℤ) × Stands (slice_index words (k + 1)) x × Noted lowered_in views (k, x)).
+            inr (r.0, ap (λ (n : ℕ). pos n) e ∙ r.1, on (k, r.0) r.2))
             old.reached;
       }
 
-  looks_kept : (words words' : List ℕ) (views views' : List Sheet) → ((k : ℕ) → k < size.classes → slice_index words' (k + 1) ≤ slice_index words (k + 1))
+  looks_kept : (words words' : List ℕ) (views views' : List Sheet) →
+      ((k : ℕ) → k < size.classes → slice_index words' (k + 1) ≤ slice_index words (k + 1))
       → ((p : ℕ × ℤ) → Noted lowered_in views p → Noted lowered_in views' p)
       → (p : ℕ × ℤ) → IsLook size words views p → IsLook size words' views' p
   looks_kept words words' views views' less on p l =
@@ -94,19 +108,26 @@ module _ (size : Extent) where
       }
 
   -- the counter is one more, and the classes' words are as they were
-  counted : (words : List ℕ) (m : ℕ) → 0 < length words → (slice_index (set words 0 m) 0 ≡ m) × ((k : ℕ) → slice_index (set words 0 m) (k + 1) ≡ slice_index words (k + 1))
+  counted : (words : List ℕ) (m : ℕ) → 0 < length words →
+      (slice_index (set words 0 m) 0 ≡ m) × ((k : ℕ) → slice_index (set words 0 m) (k + 1) ≡ slice_index words (k + 1))
   counted [] m h = absurd (omega arith)
-  counted (x ∷ xs) m h = (refl, λ k. let P : ℕ → Type 0 = λ j. slice_index (m ∷ xs) j ≡ slice_index (x ∷ xs) j in subst P (sym (add-one k)) refl)
+  counted (x ∷ xs) m h = (
+    refl,
+    λ k. let P : ℕ → Type 0 = λ j. slice_index (m ∷ xs) j ≡ slice_index (x ∷ xs) j in
+        subst P (sym (add-one k)) refl,
+  )
 
   same_lists : (f : Sheet → List (ℕ × ℤ)) (views : List Sheet) (i : ℕ) (v w : Sheet) → get_elem? views i ≡ some v → f w ≡ f v
       → ((p : ℕ × ℤ) → Noted f views p → Noted f (set views i w) p) × ((p : ℕ × ℤ) → Noted f (set views i w) p → Noted f views p)
   same_lists f views i v w at e = (
     (λ p c. noted_set f views i v w p at (λ h. subst (λ (l : List (ℕ × ℤ)). Contains l p) (sym e) h) c),
-    (λ p c. ⊎_elim (λ (h : Contains (f w) p). (i, v, at, subst (λ (l : List (ℕ × ℤ)). Contains l p) e h)) (λ (h : Noted f views p). h) (noted_back f views i w p c)),
+    (λ p c. ⊎_elim (λ (h : Contains (f w) p). (i, v, at, subst (λ (l : List (ℕ × ℤ)). Contains l p) e h)) (λ (h : Noted f views p). h)
+        (noted_back f views i w p c)),
   )
 
   -- one desk changed its drawn numbers, or its count of misses, and the counter rose
-  claims_one : (words : List ℕ) (views : List Sheet) (i m : ℕ) (v w : Sheet) → IsKept size words views → get_elem? views i ≡ some v → m ≡ slice_index words 0 + 1
+  claims_one : (words : List ℕ) (views : List Sheet) (i m : ℕ) (v w : Sheet) → IsKept size words views → get_elem? views i ≡ some v →
+      m ≡ slice_index words 0 + 1
       → w.share ≡ v.share → w.looks ≡ v.looks → w.lowered ≡ v.lowered → IsDesk size w
       → ((x : ℕ) → total (λ u. times x u.drawn) (set views i w) ≡ once_below x (min m size.tasks))
       → (m ≤ size.tasks + total (λ u. u.over) (set views i w)) → (0 < total (λ u. u.over) (set views i w) → size.tasks ≤ m)
@@ -126,10 +147,12 @@ module _ (size : Extent) where
         shares = (let u = s.shares in omega arith);
         desks = desks_set views i w s.desks desk;
         least = least_kept words (set words 0 m) views (set views i w) s (λ k h. c.1 k) low_same.0 low_same.1;
-        looks = λ p h. looks_kept words (set words 0 m) views (set views i w) (λ k h. le_of_eq (c.1 k)) low_same.0 p (s.looks p (look_same.1 p h));
+        looks = λ p h. looks_kept words (set words 0 m) views (set views i w) (λ k h. le_of_eq (c.1 k)) low_same.0 p
+            (s.looks p (look_same.1 p h));
       }
 
-  pub claim_draws : (words : List ℕ) (views : List Sheet) (i m : ℕ) (v : Sheet) → IsKept size words views → get_elem? views i ≡ some v → m ≡ slice_index words 0 + 1 → 0 < v.share
+  pub claim_draws : (words : List ℕ) (views : List Sheet) (i m : ℕ) (v : Sheet) → IsKept size words views → get_elem? views i ≡ some v →
+      m ≡ slice_index words 0 + 1 → 0 < v.share
       → slice_index words 0 < size.tasks → IsKept size (set words 0 m) (set views i (drew v (slice_index words 0)))
   claim_draws words views i m v s at is share below =
       let n : ℕ = slice_index words 0 in let w = drew v n in let d = s.desks i v at in
@@ -137,12 +160,16 @@ module _ (size : Extent) where
       claims_one words views i m v w s at is refl refl refl
       (record { over_in_share = d.over_in_share; of_board = d.of_board; empty = λ h. absurd (omega arith) })
       (λ x.
-      let t = total_set (λ u. times x u.drawn) views i v w at in let a = times-append x v.drawn (n ∷ []) in let b = once_step x n size.tasks below in let c = s.drawn x in
+      let t = total_set (λ u. times x u.drawn) views i v w at in let a = times-append x v.drawn (n ∷ []) in
+      let b = once_step x n size.tasks below in let c = s.drawn x in
       subst (λ (z : ℕ). total (λ u. times x u.drawn) (set views i w) ≡ once_below x (min z size.tasks)) (sym is)
-      (plus_same (total (λ u. times x u.drawn) (set views i w)) (total (λ u. times x u.drawn) views) (times x v.drawn) (times x (n ∷ [])) (once_below x (min n size.tasks)) (once_below x (min (n + 1) size.tasks)) (t ∙ ap (λ (k : ℕ). total (λ u. times x u.drawn) views + k) a) c b))
+      (plus_same (total (λ u. times x u.drawn) (set views i w)) (total (λ u. times x u.drawn) views) (times x v.drawn) (times x (n ∷ []))
+      (once_below x (min n size.tasks)) (once_below x (min (n + 1) size.tasks))
+      (t ∙ ap (λ (k : ℕ). total (λ u. times x u.drawn) views + k) a) c b))
       (omega arith) (λ h. let l = low (omega arith) in absurd (omega arith))
 
-  pub claim_misses : (words : List ℕ) (views : List Sheet) (i m : ℕ) (v : Sheet) → IsKept size words views → get_elem? views i ≡ some v → m ≡ slice_index words 0 + 1 → v.over ≡ 0 → 0 < v.share
+  pub claim_misses : (words : List ℕ) (views : List Sheet) (i m : ℕ) (v : Sheet) → IsKept size words views → get_elem? views i ≡ some v →
+      m ≡ slice_index words 0 + 1 → v.over ≡ 0 → 0 < v.share
       → size.tasks ≤ slice_index words 0 → IsKept size (set words 0 m) (set views i (missed v))
   claim_misses words views i m v s at is first share past =
       let n : ℕ = slice_index words 0 in let w = missed v in let d = s.desks i v at in
@@ -152,7 +179,8 @@ module _ (size : Extent) where
       (λ x.
       let t = total_set (λ u. times x u.drawn) views i v w at in let b = once_past x n size.tasks past in let c = s.drawn x in
       subst (λ (z : ℕ). total (λ u. times x u.drawn) (set views i w) ≡ once_below x (min z size.tasks)) (sym is)
-      (plus_same (total (λ u. times x u.drawn) (set views i w)) (total (λ u. times x u.drawn) views) (times x v.drawn) 0 (once_below x (min n size.tasks)) (once_below x (min (n + 1) size.tasks)) (t ∙ omega arith) c (b ∙ omega arith)))
+      (plus_same (total (λ u. times x u.drawn) (set views i w)) (total (λ u. times x u.drawn) views) (times x v.drawn) 0
+      (once_below x (min n size.tasks)) (once_below x (min (n + 1) size.tasks)) (t ∙ omega arith) c (b ∙ omega arith)))
       (omega arith) (λ h. omega arith)
 
   -- a word is written as it was
@@ -162,7 +190,8 @@ module _ (size : Extent) where
   unwritten (x ∷ xs) (suc j) = ap (λ l. x ∷ l) (unwritten xs j)
 
   -- a look
-  pub look_keeps : (words : List ℕ) (views : List Sheet) (i k : ℕ) (x : ℤ) (v : Sheet) → IsKept size words views → get_elem? views i ≡ some v → 0 < v.share → k < size.classes
+  pub look_keeps : (words : List ℕ) (views : List Sheet) (i k : ℕ) (x : ℤ) (v : Sheet) → IsKept size words views →
+      get_elem? views i ≡ some v → 0 < v.share → k < size.classes
       → Stands (slice_index words (k + 1)) x → IsKept size words (set views i (looked v k x))
   look_keeps words views i k x v s at share class is =
       let w = looked v k x in let d = s.desks i v at in
@@ -182,25 +211,34 @@ module _ (size : Extent) where
       record {
         small = s.small;
         row = s.row;
-        drawn = λ y. let t = total_set (λ u. times y u.drawn) views i v w at in let c = s.drawn y in plus_same (total (λ u. times y u.drawn) (set views i w)) (total (λ u. times y u.drawn) views) (times y v.drawn) 0 _ _ (t ∙ omega arith) c (omega arith);
+        drawn = λ y. let t = total_set (λ u. times y u.drawn) views i v w at in let c = s.drawn y in
+            plus_same (total (λ u. times y u.drawn) (set views i w)) (total (λ u. times y u.drawn) views) (times y v.drawn)
+            0 _ _ (t ∙ omega arith) c (omega arith);
         counter_high = (let h = s.counter_high in omega arith);
         counter_low = λ h. s.counter_low (omega arith);
         shares = (let u = s.shares in omega arith);
-        desks = desks_set views i w s.desks (record { over_in_share = d.over_in_share; of_board = d.of_board; empty = λ h. absurd (omega arith) });
+        desks = desks_set views i w s.desks
+            (record { over_in_share = d.over_in_share; of_board = d.of_board; empty = λ h. absurd (omega arith) });
         least = least_kept words words views (set views i w) s (λ k h. refl) low_same.0 low_same.1;
         looks = λ p h.
-            let go : IsLook size words views p → IsLook size words (set views i w) p = looks_kept words words views (set views i w) (λ k h. le_refl _) low_same.0 p in
+            let go : IsLook size words views p → IsLook size words (set views i w) p =
+            looks_kept words words views (set views i w) (λ k h. le_refl _) low_same.0 p in
             ⊎_elim
-            (λ (c : Contains (v.looks ++ (k, x) ∷ []) p). ⊎_elim (λ (b : Contains v.looks p). go (s.looks p (i, v, at, b))) (λ (e : (k, x) ≡ p). subst (IsLook size words (set views i w)) e (looks_kept words words views (set views i w) (λ k h. le_refl _) low_same.0 (k, x) mine)) (Contains-push_cases v.looks (k, x) p c))
+            (λ (c : Contains (v.looks ++ (k, x) ∷ []) p). ⊎_elim (λ (b : Contains v.looks p). go (s.looks p (i, v, at, b)))
+            (λ (e : (k, x) ≡ p). subst (IsLook size words (set views i w)) e
+            (looks_kept words words views (set views i w) (λ k h. le_refl _) low_same.0 (k, x) mine))
+            (Contains-push_cases v.looks (k, x) p c))
             (λ (c : Noted looks_in views p). go (s.looks p c))
             (noted_back looks_in views i w p h);
       }
 
   -- the class's word is the least of what it was and the new one, and the other words are as they were
-  set_word : (words : List ℕ) (j m : ℕ) → j < length words → (slice_index (set words j m) j ≡ m) × ((i : ℕ) → i ≢ j → slice_index (set words j m) i ≡ slice_index words i)
+  set_word : (words : List ℕ) (j m : ℕ) → j < length words →
+      (slice_index (set words j m) j ≡ m) × ((i : ℕ) → i ≢ j → slice_index (set words j m) i ≡ slice_index words i)
   set_word words j m h = (get_or-set_same words j m 0 h, λ i (n : i ≢ j). rw get_or-set_other refl)
 
-  pub lower_keeps : (words : List ℕ) (views : List Sheet) (i k m : ℕ) (x : ℤ) (v : Sheet) → IsKept size words views → get_elem? views i ≡ some v → 0 < v.share → k < size.classes
+  pub lower_keeps : (words : List ℕ) (views : List Sheet) (i k m : ℕ) (x : ℤ) (v : Sheet) → IsKept size words views →
+      get_elem? views i ≡ some v → 0 < v.share → k < size.classes
       → Stands m x → IsKept size (set words (k + 1) (min (slice_index words (k + 1)) m)) (set views i (lowered_by v k x))
   lower_keeps words views i k m x v s at share class is =
       let n : ℕ = slice_index words (k + 1) in
@@ -209,17 +247,21 @@ module _ (size : Extent) where
       let r = s.row in
       let at_word = set_word words (k + 1) (min n m) (omega arith) in
       let counter : slice_index now 0 ≡ slice_index words 0 = at_word.1 0 (λ e. omega arith) in
-      let on : (p : ℕ × ℤ) → Noted lowered_in views p → Noted lowered_in (set views i w) p = λ p c. noted_set lowered_in views i v w p at (λ h. Contains-append_left v.lowered ((k, x) ∷ []) p h) c in
+      let on : (p : ℕ × ℤ) → Noted lowered_in views p → Noted lowered_in (set views i w) p =
+      λ p c. noted_set lowered_in views i v w p at (λ h. Contains-append_left v.lowered ((k, x) ∷ []) p h) c in
       let look_same = same_lists looks_in views i v w at refl in
       let over = total_set (λ u. u.over) views i v w at in
       let parts = total_set (λ u. u.share) views i v w at in
       let back : (p : ℕ × ℤ) → Noted lowered_in (set views i w) p → Noted lowered_in views p ⊎ ((k, x) ≡ p) = λ p c.
-      ⊎_elim (λ (h : Contains (v.lowered ++ (k, x) ∷ []) p). ⊎_elim (λ (b : Contains v.lowered p). inl (i, v, at, b)) (λ (e : (k, x) ≡ p). inr e) (Contains-push_cases v.lowered (k, x) p h))
+      ⊎_elim (λ (h : Contains (v.lowered ++ (k, x) ∷ []) p). ⊎_elim (λ (b : Contains v.lowered p). inl (i, v, at, b))
+      (λ (e : (k, x) ≡ p). inr e) (Contains-push_cases v.lowered (k, x) p h))
       (λ (h : Noted lowered_in views p). inl h) (noted_back lowered_in views i w p c) in
-      let mine : Noted lowered_in (set views i w) (k, x) = (i, w, set_here views i w (there views i v at), Contains-push v.lowered (k, x)) in
+      let mine : Noted lowered_in (set views i w) (k, x) =
+      (i, w, set_here views i w (there views i v at), Contains-push v.lowered (k, x)) in
       let less : (j : ℕ) → j < size.classes → slice_index now (j + 1) ≤ slice_index words (j + 1) = λ j h.
       elim (ℕ_discrete j k) [
-        | yes same ↦ let P : ℕ → Type 0 = λ j. slice_index now (j + 1) ≤ slice_index words (j + 1) in subst P (sym same) (let e = at_word.0 in omega arith)
+        | yes same ↦ let P : ℕ → Type 0 = λ j. slice_index now (j + 1) ≤ slice_index words (j + 1) in
+            subst P (sym same) (let e = at_word.0 in omega arith)
         | no apart ↦ le_of_eq (at_word.1 (j + 1) (λ e. apart (omega arith)))
       ] in
       record {
@@ -228,11 +270,13 @@ module _ (size : Extent) where
         drawn = λ y.
             let t = total_set (λ u. times y u.drawn) views i v w at in let c = s.drawn y in
             subst (λ (z : ℕ). total (λ u. times y u.drawn) (set views i w) ≡ once_below y (min z size.tasks)) (sym counter)
-            (plus_same (total (λ u. times y u.drawn) (set views i w)) (total (λ u. times y u.drawn) views) (times y v.drawn) 0 _ _ (t ∙ omega arith) c (omega arith));
+            (plus_same (total (λ u. times y u.drawn) (set views i w)) (total (λ u. times y u.drawn) views) (times y v.drawn)
+            0 _ _ (t ∙ omega arith) c (omega arith));
         counter_high = (let h = s.counter_high in omega arith);
         counter_low = λ h. let l = s.counter_low (omega arith) in omega arith;
         shares = (let u = s.shares in omega arith);
-        desks = desks_set views i w s.desks (record { over_in_share = d.over_in_share; of_board = d.of_board; empty = λ h. absurd (omega arith) });
+        desks = desks_set views i w s.desks
+            (record { over_in_share = d.over_in_share; of_board = d.of_board; empty = λ h. absurd (omega arith) });
         least = λ j h. elim (ℕ_discrete j k) [
           | yes same ↦
               let old = s.least k class in
@@ -246,7 +290,9 @@ module _ (size : Extent) where
                     (back (k, y) c);
                 reached = elim (dec_le n m) [
                   | yes low ↦ let e : min n m ≡ n = omega arith in
-                      ⊎_elim (λ (z : n ≡ zero_word). inl (e ∙ z)) (λ (t : (y : ℤ) × Stands n y × Noted lowered_in views (k, y)). inr (t.0, ap (λ (z : ℕ). pos z) e ∙ t.1, on (k, t.0) t.2)) old.reached
+                      ⊎_elim (λ (z : n ≡ zero_word). inl (e ∙ z))
+                      (λ (t : (y : ℤ) × Stands n y × Noted lowered_in views (k, y)).
+                      inr (t.0, ap (λ (z : ℕ). pos z) e ∙ t.1, on (k, t.0) t.2)) old.reached
                   | no high ↦ let e : min n m ≡ m = omega arith in inr (x, ap (λ (z : ℕ). pos z) e ∙ is, mine)
                 ];
               }))
@@ -255,8 +301,11 @@ module _ (size : Extent) where
               let e = at_word.1 (j + 1) (λ q. apart (omega arith)) in
               subst (IsLeastWord (set views i w) j) (sym e) (record {
                 most = old.most;
-                below = λ y c. ⊎_elim (λ (b : Noted lowered_in views (j, y)). old.below y b) (λ (q : (k, x) ≡ (j, y)). absurd (apart (sym (ap (λ (p : ℕ × ℤ). p.0) q)))) (back (j, y) c);
-                reached = ⊎_elim (λ (z : slice_index words (j + 1) ≡ zero_word). inl z) (λ (t : (y : ℤ) × Stands (slice_index words (j + 1)) y × Noted lowered_in views (j, y)). inr (t.0, t.1, on (j, t.0) t.2)) old.reached;
+                below = λ y c. ⊎_elim (λ (b : Noted lowered_in views (j, y)). old.below y b)
+                    (λ (q : (k, x) ≡ (j, y)). absurd (apart (sym (ap (λ (p : ℕ × ℤ). p.0) q)))) (back (j, y) c);
+                reached = ⊎_elim (λ (z : slice_index words (j + 1) ≡ zero_word). inl z)
+                    (λ (t : (y : ℤ) × Stands (slice_index words (j + 1)) y × Noted lowered_in views (j, y)).
+                    inr (t.0, t.1, on (j, t.0) t.2)) old.reached;
               })
         ];
         looks = λ p h. looks_kept words now views (set views i w) less on p (s.looks p (look_same.1 p h));
@@ -268,35 +317,43 @@ module _ (size : Extent) where
   no_note : (l : List (ℕ × ℤ)) (p : ℕ × ℤ) → l ≡ [] → Contains l p → ⊥
   no_note l p e c = let c' : Contains [] p = subst (λ (m : List (ℕ × ℤ)). Contains m p) e c in let h = c'.1 in omega arith
 
-  split_lists : (f : Sheet → List (ℕ × ℤ)) (views : List Sheet) (i : ℕ) (v w o : Sheet) → get_elem? views i ≡ some v → f w ≡ f v → f o ≡ [] → SameNotes f views (set views i w ++ o ∷ [])
+  split_lists : (f : Sheet → List (ℕ × ℤ)) (views : List Sheet) (i : ℕ) (v w o : Sheet) → get_elem? views i ≡ some v → f w ≡ f v →
+      f o ≡ [] → SameNotes f views (set views i w ++ o ∷ [])
   split_lists f views i v w o at same nil =
       let mid = set views i w in let a = same_lists f views i v w at same in (
         (λ p c. noted_snoc f mid o p (a.0 p c)),
-        (λ p c. ⊎_elim (λ (h : Contains (f o) p). absurd (no_note (f o) p nil h)) (λ (h : Noted f mid p). a.1 p h) (noted_snoc_back f mid o p c)),
+        (λ p c. ⊎_elim (λ (h : Contains (f o) p). absurd (no_note (f o) p nil h)) (λ (h : Noted f mid p). a.1 p h)
+            (noted_snoc_back f mid o p c)),
       )
 
-  join_lists : (f : Sheet → List (ℕ × ℤ)) (views : List Sheet) (i j : ℕ) (v w b : Sheet) → get_elem? views i ≡ some v → get_elem? views j ≡ some w → ¬ (j ≡ i) → f b ≡ f v ++ f w → f spent ≡ [] → SameNotes f views (set (set views i b) j spent)
+  join_lists : (f : Sheet → List (ℕ × ℤ)) (views : List Sheet) (i j : ℕ) (v w b : Sheet) → get_elem? views i ≡ some v →
+      get_elem? views j ≡ some w → ¬ (j ≡ i) → f b ≡ f v ++ f w → f spent ≡ [] → SameNotes f views (set (set views i b) j spent)
   join_lists f views i j v w b at at3 apart both nil =
       let mid = set views i b in let after = set mid j spent in
       let still : get_elem? after i ≡ some b = set_else mid j i spent (λ q. apart (sym q)) ∙ set_here views i b (there views i v at) in
-      let mine : (p : ℕ × ℤ) → Contains (f v ++ f w) p → Noted f after p = λ p c. (i, b, still, subst (λ (l : List (ℕ × ℤ)). Contains l p) (sym both) c) in (
+      let mine : (p : ℕ × ℤ) → Contains (f v ++ f w) p → Noted f after p =
+      λ p c. (i, b, still, subst (λ (l : List (ℕ × ℤ)). Contains l p) (sym both) c) in (
         (λ p c. elim (ℕ_discrete c.0 i) [
-          | yes same ↦ mine p (Contains-append_left (f v) (f w) p (subst (λ (y : Sheet). Contains (f y) p) (some-injective c.1 v (sym c.2 ∙ (ap (get_elem? views) same ∙ at))) c.3))
+          | yes same ↦ mine p (Contains-append_left (f v) (f w) p
+              (subst (λ (y : Sheet). Contains (f y) p) (some-injective c.1 v (sym c.2 ∙ (ap (get_elem? views) same ∙ at))) c.3))
           | no other ↦ elim (ℕ_discrete c.0 j) [
-            | yes same ↦ mine p (Contains-append_right (f v) (f w) p (subst (λ (y : Sheet). Contains (f y) p) (some-injective c.1 w (sym c.2 ∙ (ap (get_elem? views) same ∙ at3))) c.3))
+            | yes same ↦ mine p (Contains-append_right (f v) (f w) p
+                (subst (λ (y : Sheet). Contains (f y) p) (some-injective c.1 w (sym c.2 ∙ (ap (get_elem? views) same ∙ at3))) c.3))
             | no third ↦ (c.0, c.1, set_else mid j c.0 spent third ∙ (set_else views i c.0 b other ∙ c.2), c.3)
           ]
         ]),
         (λ p c.
             ⊎_elim (λ (h : Contains (f spent) p). absurd (no_note (f spent) p nil h))
             (λ (h : Noted f mid p). ⊎_elim
-            (λ (q : Contains (f b) p). ⊎_elim (λ (z : Contains (f v) p). (i, v, at, z)) (λ (z : Contains (f w) p). (j, w, at3, z)) (Contains-append_cases (f v) (f w) p (subst (λ (l : List (ℕ × ℤ)). Contains l p) both q)))
+            (λ (q : Contains (f b) p). ⊎_elim (λ (z : Contains (f v) p). (i, v, at, z)) (λ (z : Contains (f w) p). (j, w, at3, z))
+            (Contains-append_cases (f v) (f w) p (subst (λ (l : List (ℕ × ℤ)). Contains l p) both q)))
             (λ (q : Noted f views p). q) (noted_back f views i b p h))
             (noted_back f mid j spent p c)),
       )
 
   -- a desk's lists after a split
-  pub split_keeps : (words : List ℕ) (views : List Sheet) (i : ℕ) (v : Sheet) → IsKept size words views → get_elem? views i ≡ some v → v.over ≡ 0 → 1 < v.share
+  pub split_keeps : (words : List ℕ) (views : List Sheet) (i : ℕ) (v : Sheet) → IsKept size words views → get_elem? views i ≡ some v →
+      v.over ≡ 0 → 1 < v.share
       → IsKept size words (set views i (split_left v) ++ split_right v ∷ [])
   split_keeps words views i v s at none_missed share =
       let w = split_left v in let o = split_right v in let mid = set views i w in let d = s.desks i v at in
@@ -309,19 +366,27 @@ module _ (size : Extent) where
       record {
         small = s.small;
         row = s.row;
-        drawn = λ y. let t = total_set (λ u. times y u.drawn) views i v w at in let t2 = total_snoc (λ u. times y u.drawn) mid o in let c = s.drawn y in
-            plus_same (total (λ u. times y u.drawn) (mid ++ o ∷ [])) (total (λ u. times y u.drawn) views) (times y v.drawn) 0 _ _ (omega arith) c (omega arith);
+        drawn = λ y. let t = total_set (λ u. times y u.drawn) views i v w at in let t2 = total_snoc (λ u. times y u.drawn) mid o in
+            let c = s.drawn y in
+            plus_same (total (λ u. times y u.drawn) (mid ++ o ∷ [])) (total (λ u. times y u.drawn) views) (times y v.drawn)
+            0 _ _ (omega arith) c (omega arith);
         counter_high = (let h = s.counter_high in omega arith);
         counter_low = λ h. s.counter_low (omega arith);
         shares = (let u = s.shares in omega arith);
         desks = desks_snoc mid o
-            (desks_set views i w s.desks (record { over_in_share = omega arith; of_board = λ h. d.of_board (omega arith); empty = λ h. absurd (omega arith) }))
+            (desks_set views i w s.desks (record {
+              over_in_share = omega arith;
+              of_board = λ h. d.of_board (omega arith);
+              empty =
+                  λ h. absurd (omega arith);
+            }))
             (record { over_in_share = omega arith; of_board = λ h. d.of_board (omega arith); empty = λ h. absurd (omega arith) });
         least = least_kept words words views (mid ++ o ∷ []) s (λ k h. refl) low.0 low.1;
         looks = λ p h. looks_kept words words views (mid ++ o ∷ []) (λ k h. le_refl _) low.0 p (s.looks p (look.1 p h));
       }
 
-  pub join_keeps : (words : List ℕ) (views : List Sheet) (i j : ℕ) (v w : Sheet) → IsKept size words views → get_elem? views i ≡ some v → ¬ (j ≡ i) → 0 < v.share
+  pub join_keeps : (words : List ℕ) (views : List Sheet) (i j : ℕ) (v w : Sheet) → IsKept size words views →
+      get_elem? views i ≡ some v → ¬ (j ≡ i) → 0 < v.share
       → get_elem? (set views i (joined v w)) j ≡ some w → IsKept size words (set (set views i (joined v w)) j spent)
   join_keeps words views i j v w s at apart share at2 =
       let b = joined v w in let mid = set views i b in let after = set mid j spent in let d = s.desks i v at in
@@ -337,14 +402,22 @@ module _ (size : Extent) where
       record {
         small = s.small;
         row = s.row;
-        drawn = λ y. let t = total_set (λ u. times y u.drawn) views i v b at in let t2 = total_set (λ u. times y u.drawn) mid j w spent at2 in let c = s.drawn y in
+        drawn = λ y. let t = total_set (λ u. times y u.drawn) views i v b at in
+            let t2 = total_set (λ u. times y u.drawn) mid j w spent at2 in let c = s.drawn y in
             let a = times-append y v.drawn w.drawn in
-            plus_same (total (λ u. times y u.drawn) after) (total (λ u. times y u.drawn) views) (times y v.drawn) 0 _ _ (omega arith) c (omega arith);
+            plus_same (total (λ u. times y u.drawn) after) (total (λ u. times y u.drawn) views) (times y v.drawn)
+            0 _ _ (omega arith) c (omega arith);
         counter_high = (let h = s.counter_high in omega arith);
         counter_low = λ h. s.counter_low (omega arith);
         shares = (let u = s.shares in omega arith);
         desks = desks_set mid j spent
-            (desks_set views i b s.desks (record { over_in_share = (let p = d.over_in_share in let q = e.over_in_share in omega arith); of_board = λ h. d.of_board share; empty = λ h. absurd (omega arith) }))
+            (desks_set views i b s.desks
+            (record {
+              over_in_share = (let p = d.over_in_share in let q = e.over_in_share in omega arith);
+              of_board =
+                  λ h. d.of_board share;
+              empty = λ h. absurd (omega arith);
+            }))
             (record { over_in_share = omega arith; of_board = λ h. absurd (omega arith); empty = λ h. (refl, refl, refl) });
         least = least_kept words words views after s (λ k h. refl) low.0 low.1;
         looks = λ p h. looks_kept words words views after (λ k h. le_refl _) low.0 p (s.looks p (look.1 p h));

@@ -47,32 +47,39 @@ module _ (size : Extent) where
   claim_keeps : (h : BoardState) (i : ℕ) (o : Option Sheet) → get_elem? h.views i ≡ o → IsSound size h → IsSound size (claims size h i o)
   claim_keeps h i none e s = s
   claim_keeps h i (some v) e s = if_keeps h _ ((v.over == 0) && nat_lt 0 v.share) s (λ t.
-      let a = both (v.over == 0) (nat_lt 0 v.share) t in go (nat_lt (slice_index h.words 0) size.tasks) refl (eq_of v.over 0 a.0) (lt_of 0 v.share a.1))
+      let a = both (v.over == 0) (nat_lt 0 v.share) t in
+      go (nat_lt (slice_index h.words 0) size.tasks) refl (eq_of v.over 0 a.0) (lt_of 0 v.share a.1))
     where
       go : (b : Bool) → nat_lt (slice_index h.words 0) size.tasks ≡ b → v.over ≡ 0 → 0 < v.share
           → IsKept size (set h.words 0 (slice_index h.words 0 + 1)) (set h.views i (after_claim size (slice_index h.words 0) v))
-      go true t over share = rw t (claim_draws size h.words h.views i (slice_index h.words 0 + 1) v s e refl share (lt_of (slice_index h.words 0) size.tasks t))
-      go false t over share = rw t (claim_misses size h.words h.views i (slice_index h.words 0 + 1) v s e refl over share (grind (arith, nat_tests)))
+      go true t over share = rw t
+          (claim_draws size h.words h.views i (slice_index h.words 0 + 1) v s e refl share (lt_of (slice_index h.words 0) size.tasks t))
+      go false t over share =
+          rw t (claim_misses size h.words h.views i (slice_index h.words 0 + 1) v s e refl over share (grind (arith, nat_tests)))
 
   split_event : (h : BoardState) (i : ℕ) (o : Option Sheet) → get_elem? h.views i ≡ o → IsSound size h → IsSound size (splits h i o)
   split_event h i none e s = s
   split_event h i (some v) e s = if_keeps h _ ((v.over == 0) && nat_lt 1 v.share) s (λ t.
-      let a = both (v.over == 0) (nat_lt 1 v.share) t in split_keeps size h.words h.views i v s e (eq_of v.over 0 a.0) (lt_of 1 v.share a.1))
+      let a = both (v.over == 0) (nat_lt 1 v.share) t in
+      split_keeps size h.words h.views i v s e (eq_of v.over 0 a.0) (lt_of 1 v.share a.1))
 
   look_event : (h : BoardState) (i k : ℕ) (o : Option Sheet) → get_elem? h.views i ≡ o → IsSound size h → IsSound size (looks size h i k o)
   look_event h i k none e s = s
   look_event h i k (some v) e s = if_keeps h _ (nat_lt 0 v.share && nat_lt k size.classes) s (λ t.
       let a = both (nat_lt 0 v.share) (nat_lt k size.classes) t in
-      look_keeps size h.words h.views i k (value_of (slice_index h.words (k + 1))) v s e (lt_of 0 v.share a.0) (lt_of k size.classes a.1) (value_stands (slice_index h.words (k + 1))))
+      look_keeps size h.words h.views i k (value_of (slice_index h.words (k + 1))) v s e (lt_of 0 v.share a.0) (lt_of k size.classes a.1)
+      (value_stands (slice_index h.words (k + 1))))
 
-  lower_event : (h : BoardState) (i k : ℕ) (x : ℤ) (o : Option Sheet) → get_elem? h.views i ≡ o → IsSound size h → IsSound size (lowers size h i k x o)
+  lower_event : (h : BoardState) (i k : ℕ) (x : ℤ) (o : Option Sheet) → get_elem? h.views i ≡ o → IsSound size h →
+      IsSound size (lowers size h i k x o)
   lower_event h i k x none e s = s
   lower_event h i k x (some v) e s = if_keeps h _ ((nat_lt 0 v.share && nat_lt k size.classes) && has_word x) s (λ t.
       let a = both (nat_lt 0 v.share && nat_lt k size.classes) (has_word x) t in
       let b = both (nat_lt 0 v.share) (nat_lt k size.classes) a.0 in
       lower_keeps size h.words h.views i k (word_of x) x v s e (lt_of 0 v.share b.0) (lt_of k size.classes b.1) (word_stands x a.1))
 
-  join_with_event : (h : BoardState) (i j : ℕ) (v : Sheet) (o : Option Sheet) → get_elem? h.views i ≡ some v → get_elem? h.views j ≡ o → IsSound size h → IsSound size (joins_with h i j v o)
+  join_with_event : (h : BoardState) (i j : ℕ) (v : Sheet) (o : Option Sheet) → get_elem? h.views i ≡ some v → get_elem? h.views j ≡ o →
+      IsSound size h → IsSound size (joins_with h i j v o)
   join_with_event h i j v none e d s = s
   join_with_event h i j v (some w) e d s = if_keeps h _ (nat_lt 0 v.share && not (j == i)) s (λ t.
       let a = both (nat_lt 0 v.share) (not (j == i)) t in let apart = not_of j i a.1 in
@@ -102,11 +109,13 @@ module _ (size : Extent) where
 
   none_noted : (f : Sheet → List (ℕ × ℤ)) → f (fresh size.tasks) ≡ [] → (p : ℕ × ℤ) → Noted f (fresh size.tasks ∷ []) p → ⊥
   none_noted f nil p (i, v, e, c) =
-      let n : Contains [] p = subst (λ (l : List (ℕ × ℤ)). Contains l p) (ap f (sym (first_desk i v e)) ∙ nil) c in let l = n.1 in omega arith
+      let n : Contains [] p =
+      subst (λ (l : List (ℕ × ℤ)). Contains l p) (ap f (sym (first_desk i v e)) ∙ nil) c in let l = n.1 in omega arith
 
   pub start_sound : size.tasks < 4294967296 → IsSound size (start size)
   start_sound small =
-      let at = λ (k : ℕ) (h : k < size.classes). let P : ℕ → Type 0 = λ j. slice_index (opening_words size.classes) j ≡ zero_word in subst P (sym (add-one k)) (zeros size.classes k h) in
+      let at = λ (k : ℕ) (h : k < size.classes). let P : ℕ → Type 0 = λ j. slice_index (opening_words size.classes) j ≡ zero_word in
+      subst P (sym (add-one k)) (zeros size.classes k h) in
       record {
         small = small;
         row = (let l = length-replicate size.classes zero_word in omega arith);
@@ -114,7 +123,8 @@ module _ (size : Extent) where
         counter_high = omega arith;
         counter_low = λ h. absurd (omega arith);
         shares = refl;
-        desks = λ i v e. subst (IsDesk size) (first_desk i v e) (record { over_in_share = omega arith; of_board = λ h. refl; empty = λ h. absurd (omega arith) });
+        desks = λ i v e. subst (IsDesk size) (first_desk i v e)
+            (record { over_in_share = omega arith; of_board = λ h. refl; empty = λ h. absurd (omega arith) });
         least = λ k h. record {
           most = omega (arith, at k h);
           below = λ x c. absurd (none_noted lowered_in refl (k, x) c);

@@ -45,7 +45,8 @@ after_claim size n v = if nat_lt n size.tasks then drew v n else missed v
 -- what a step of the desk v, at place i, makes. A step that the desk may not make changes nothing
 abbrev pub splits : BoardState → ℕ → Option Sheet → BoardState
 splits h i none = h
-splits h i (some v) = if (v.over == 0) && nat_lt 1 v.share then state h.words (slice_set h.views i (split_left v) ++ split_right v ∷ []) else h
+splits h i (some v) = if (v.over == 0)
+    && nat_lt 1 v.share then state h.words (slice_set h.views i (split_left v) ++ split_right v ∷ []) else h
 
 -- a claim of a desk that has not been told that none is left
 abbrev pub claims : Extent → BoardState → ℕ → Option Sheet → BoardState
@@ -74,7 +75,8 @@ lowers size h i k x (some v) =
 -- the desk v, at place i, takes in the one at place j
 abbrev pub joins_with : BoardState → ℕ → ℕ → Sheet → Option Sheet → BoardState
 joins_with h i j v none = h
-joins_with h i j v (some w) = if nat_lt 0 v.share && not (j == i) then state h.words (slice_set (slice_set h.views i (joined v w)) j spent) else h
+joins_with h i j v (some w) =
+    if nat_lt 0 v.share && not (j == i) then state h.words (slice_set (slice_set h.views i (joined v w)) j spent) else h
 
 -- a join of two different desks
 abbrev pub joins : BoardState → ℕ → ℕ → Option Sheet → BoardState

@@ -16,7 +16,8 @@ zero_word = 9223372036854775808
 
 -- a sheet from its parts
 abbrev pub sheet : ℕ → ℕ → ℕ → List ℕ → List (ℕ × ℤ) → List (ℕ × ℤ) → Sheet
-sheet tasks share over drawn looks lowered = record { tasks = tasks; share = share; over = over; drawn = drawn; looks = looks; lowered = lowered }
+sheet tasks share over drawn looks lowered =
+    record { tasks = tasks; share = share; over = over; drawn = drawn; looks = looks; lowered = lowered }
 
 -- an extent from its parts
 abbrev pub extent : ℕ → ℕ → Extent
@@ -153,11 +154,13 @@ IsOwnOld v k y = v.share ≡ whole → (y ≡ pos 0) ⊎ Contains v.lowered (k, 
 
 -- the class of the word was looked at
 abbrev pub Looks : Step (Unit {0}) → Me (Unit {0}) Sheet → ℕ → Me (Unit {0}) Sheet → Type 0
-Looks s v n w = (w.1 ≡ v.1) × ((x : ℤ) × Stands n x × (x ≤ℤ pos 0) × (w.0 ≡ looked v.0 (s.word - 1) x) × IsBelowSeen v.0 (s.word - 1) x × IfWhole w.0)
+Looks s v n w = (w.1 ≡ v.1)
+    × ((x : ℤ) × Stands n x × (x ≤ℤ pos 0) × (w.0 ≡ looked v.0 (s.word - 1) x) × IsBelowSeen v.0 (s.word - 1) x × IfWhole w.0)
 
 -- the class of the word was lowered by the value that the operand stands for
 abbrev pub Lowers : Step (Unit {0}) → Me (Unit {0}) Sheet → ℕ → Me (Unit {0}) Sheet → Type 0
-Lowers s v n w = (w.1 ≡ v.1) × ((x : ℤ) × Stands s.first x × (w.0 ≡ lowered_by v.0 (s.word - 1) x) × IfWhole w.0) × ((y : ℤ) × Stands n y × (y ≤ℤ pos 0) × IsBelowSeen v.0 (s.word - 1) y × IsOwnOld v.0 (s.word - 1) y)
+Lowers s v n w = (w.1 ≡ v.1) × ((x : ℤ) × Stands s.first x × (w.0 ≡ lowered_by v.0 (s.word - 1) x) × IfWhole w.0)
+    × ((y : ℤ) × Stands n y × (y ≤ℤ pos 0) × IsBelowSeen v.0 (s.word - 1) y × IsOwnOld v.0 (s.word - 1) y)
 
 -- nothing is done, and a desk that has the whole share is told so
 abbrev pub Settles : Step (Unit {0}) → Me (Unit {0}) Sheet → ℕ → Me (Unit {0}) Sheet → Type 0

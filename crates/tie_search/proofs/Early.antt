@@ -23,7 +23,8 @@ module _ {L : Type 0} (w : Labelling L) (end : ℕ) where
   after-same None [] h = refl
   after-same None (x ∷ xs) h = refl
   after-same (Some a) [] h = refl
-  after-same (Some a) (x ∷ xs) h = ap (λ o. label_after (before w end) o xs) (step-same x (w.extend a x) h.0) ∙ after-same (w.extend a x) xs h.1
+  after-same (Some a) (x ∷ xs) h =
+      ap (λ o. label_after (before w end) o xs) (step-same x (w.extend a x) h.0) ∙ after-same (w.extend a x) xs h.1
 
   label-same : (xs : List ℕ) → AllBelow end xs → label_of (before w end) xs ≡ label_of w xs
   label-same [] h = refl
@@ -63,14 +64,18 @@ not-after end (x ∷ xs) ys h some late =
     let Q : List ℕ → Type 0 = λ l. IsNotAfter (fs ++ a ∷ []) l in
     subst P (sym a-is) (subst Q (sym b-is) (ap is_gt (backward_cmp-last fs gs a b less)))
 
--- Where no list closes with less, the first least of the lists before the end that close with that is the first least of all: a list with an
--- item at the end or behind it ends with such an item, since lists rise, and so it comes after each list that ends before.
-pub least-before : {L : Type 0} (w v : Labelling L) (close other : L → Option ℤ) (count early_count : ℕ) (last early_last : L → ℕ) → IsStepwise w count last → IsStepwise v early_count early_last →
+-- Where no list closes with less, the first least of the lists before the end that close with that is the first least of all: a list with
+-- an item at the end or behind it ends with such an item, since lists rise, and so it comes after each list that ends before.
+pub least-before : {L : Type 0} (w v : Labelling L) (close other : L → Option ℤ) (count early_count : ℕ) (last early_last : L → ℕ) →
+    IsStepwise w count last → IsStepwise v early_count early_last →
     (end : ℕ) (list : List ℕ) (least below : ℤ) → AreSameBefore w v end → CloseAlike close other →
-    AllCloseAbove w close below → IsLeastClosed (before v end) other list least → least ≤ℤ (below +ℤ pos 1) → IsLeastClosed w close list least
+    AllCloseAbove w close below → IsLeastClosed (before v end) other list least → least ≤ℤ (below +ℤ pos 1) →
+    IsLeastClosed w close list least
 least-before w v close other count early_count last early_last s t end list least below same alike above is low =
-    let (rises, early) = label-rises (before v end) end early_last (before-stepwise v end early_count early_last t) list is.label is.label_is in
-    let some : list ≢ [] = λ e. let P : List ℕ → Type 0 = λ l. label_of (before v end) l ≡ Some is.label in let none = subst P e is.label_is in absurd (cc) in
+    let (rises, early) = label-rises (before v end) end early_last (before-stepwise v end early_count early_last t)
+    list is.label is.label_is in
+    let some : list ≢ [] = λ e. let P : List ℕ → Type 0 = λ l. label_of (before v end) l ≡ Some is.label in
+    let none = subst P e is.label_is in absurd (cc) in
     record {
       label = is.label;
       label_is = sym (same list early) ∙ (sym (label-same v end list early) ∙ is.label_is);

@@ -18,11 +18,13 @@ module _ {L : Type 0} (w : Labelling L) (end : ℕ) where
         (a', ap (λ t. cond t (w.extend a item) None) test ∙ is, better);
   }
 
-  pub before-valued : (good : L → L → Type 0) (value_at : L → ℤ) (close : L → Option ℤ) → IsValued w good value_at close → IsValued (before w end) good value_at close
+  pub before-valued : (good : L → L → Type 0) (value_at : L → ℤ) (close : L → Option ℤ) → IsValued w good value_at close →
+      IsValued (before w end) good value_at close
   before-valued good value_at close v = record {
     at_most = v.at_most;
     apart = λ a b a' b' item h less ea eb.
-        v.apart a b a' b' item h less (start-parts (nat_lt item end) (w.extend a item) a' ea).1 (start-parts (nat_lt item end) (w.extend b item) b' eb).1;
+        v.apart a b a' b' item h less (start-parts (nat_lt item end) (w.extend a item) a' ea).1
+        (start-parts (nat_lt item end) (w.extend b item) b' eb).1;
     closes = v.closes;
   }
 
@@ -50,6 +52,7 @@ module _ {L : Type 0} (w : Labelling L) (end : ℕ) where
       HidesNone w good close sound may_close → HidesNone (before w end) good close sound may_close
   before-hides good close sound may_close h = record {
     closes = h.closes;
-    steps = λ limit a b item fits e. let (test, made) = start-parts (nat_lt item end) (w.extend a item) b e in h.steps limit a b item fits made;
+    steps = λ limit a b item fits e. let (test, made) = start-parts (nat_lt item end) (w.extend a item) b e in
+        h.steps limit a b item fits made;
     ordered = h.ordered;
   }

@@ -27,13 +27,16 @@ past_end row from to seconds past = elim (leb_tells (row.start + seconds) 172800
 ]
 
 -- sums that stop past the last second decide whether the trip ends in time
-pub ended_capped : (row : TripRow) (from to : Point) (runs stands : ℕ) → ended row from to (min runs 172801 + min stands 172801) ≡ ended row from to (runs + stands)
+pub ended_capped : (row : TripRow) (from to : Point) (runs stands : ℕ) →
+    ended row from to (min runs 172801 + min stands 172801) ≡ ended row from to (runs + stands)
 ended_capped row from to runs stands = elim (leb_tells (runs + stands) 172800) [
   | inl (_, few) ↦ let same : min runs 172801 + min stands 172801 ≡ runs + stands = omega (arith, few) in ap (λ s. ended row from to s) same
-  | inr (_, many) ↦ past_end row from to (min runs 172801 + min stands 172801) (omega (arith, many)) ∙ sym (past_end row from to (runs + stands) (omega (arith, many)))
+  | inr (_, many) ↦ past_end row from to (min runs 172801 + min stands 172801) (omega (arith, many))
+      ∙ sym (past_end row from to (runs + stands) (omega (arith, many)))
 ]
 
-ends_with : (x : Point) (inner : List Point) (last : Point) → (last_from x (inner ++ last ∷ []) ≡ last) × (before_last x (inner ++ last ∷ []) ≡ x ∷ inner)
+ends_with : (x : Point) (inner : List Point) (last : Point) →
+    (last_from x (inner ++ last ∷ []) ≡ last) × (before_last x (inner ++ last ∷ []) ≡ x ∷ inner)
 ends_with x [] last = (refl, refl)
 ends_with x (y ∷ inner) last = let rest = ends_with y inner last in (rest.0, ap (λ ps. x ∷ ps) rest.1)
 
@@ -44,21 +47,29 @@ known_runs (Some link) seconds runs is = absurd cc
 module _ (time_of : Point × Point → Option ℕ) (dwell_of : Point → ℕ) (row : TripRow) where
   -- a course by its first point, its last point and the points between them
   by_ends : (first last : Point) (inner : List Point) → timed_on time_of dwell_of row (first ∷ (inner ++ last ∷ []))
-      ≡ timed_if row (first_missing time_of (links_from first (inner ++ last ∷ []))) first last (run_seconds_of time_of (links_from first (inner ++ last ∷ [])) + sum_by dwell_of inner)
+      ≡ timed_if row (first_missing time_of (links_from first (inner ++ last ∷ []))) first last
+      (run_seconds_of time_of (links_from first (inner ++ last ∷ [])) + sum_by dwell_of inner)
   by_ends first last [] = refl
   by_ends first last (y ∷ inner) =
       let ends = ends_with y inner last in
-      λ i. timed_if row (first_missing time_of (links_from first (y ∷ (inner ++ last ∷ [])))) first (ends.0 i) (run_seconds_of time_of (links_from first (y ∷ (inner ++ last ∷ []))) + sum_by dwell_of (ends.1 i))
+      λ i. timed_if row (first_missing time_of (links_from first (y ∷ (inner ++ last ∷ [])))) first (ends.0 i)
+      (run_seconds_of time_of (links_from first (y ∷ (inner ++ last ∷ []))) + sum_by dwell_of (ends.1 i))
 
-  module _ (course points inner : List Point) (first last : Point) (first_is : course ≡ first ∷ points) (last_is : points ≡ inner ++ last ∷ []) where
-    over_points : timed_on time_of dwell_of row course ≡ timed_if row (first_missing time_of (links_from first points)) first last (run_seconds_of time_of (links_from first points) + sum_by dwell_of inner)
+  module _ (course points inner : List Point) (first last : Point) (first_is : course ≡ first ∷ points)
+      (last_is : points ≡ inner ++ last ∷ []) where
+    over_points : timed_on time_of dwell_of row course ≡ timed_if row (first_missing time_of (links_from first points)) first last
+        (run_seconds_of time_of (links_from first points) + sum_by dwell_of inner)
     over_points =
-        let P : List Point → Type 0 = λ ps. timed_on time_of dwell_of row (first ∷ ps) ≡ timed_if row (first_missing time_of (links_from first ps)) first last (run_seconds_of time_of (links_from first ps) + sum_by dwell_of inner) in
+        let P : List Point → Type 0 =
+        λ ps. timed_on time_of dwell_of row (first ∷ ps) ≡ timed_if row (first_missing time_of (links_from first ps)) first last
+        (run_seconds_of time_of (links_from first ps) + sum_by dwell_of inner) in
         ap (λ ps. timed_on time_of dwell_of row ps) first_is ∙ subst P (sym last_is) (by_ends first last inner)
 
     pub course_end : (seconds stands : ℕ) (result : Result Trip TripFault)
-        → Ok seconds ≡ runs_if (first_missing time_of (links_from first points)) (min (run_seconds_of time_of (links_from first points)) 172801)
-        → stands ≡ min (sum_by dwell_of inner) 172801 → result ≡ ended row first last (seconds + stands) → result ≡ timed_on time_of dwell_of row course
+        → Ok seconds ≡ runs_if (first_missing time_of (links_from first points))
+        (min (run_seconds_of time_of (links_from first points)) 172801)
+        → stands ≡ min (sum_by dwell_of inner) 172801 → result ≡ ended row first last (seconds + stands) →
+        result ≡ timed_on time_of dwell_of row course
     course_end seconds stands result runs_are stands_are result_is =
         let runs : ℕ = run_seconds_of time_of (links_from first points) in
         let known = known_runs (first_missing time_of (links_from first points)) seconds (min runs 172801) runs_are in

@@ -60,7 +60,8 @@ timed_on time_of dwell_of row (first ∷ (next ∷ course)) =
 -- by the area of the line's variant
 abbrev pub timed_in : Net → ℕ → TripRow → Option ℕ → Result Trip TripFault
 timed_in net version row None = Err NoRoute
-timed_in net version row (Some area) = timed_on (run_time_of net version area row.group) (dwell_at net version row) row (course_on net version row.line row.variant)
+timed_in net version row (Some area) =
+    timed_on (run_time_of net version area row.group) (dwell_at net version row) row (course_on net version row.line row.variant)
 
 -- the trip of a row, or the first cause why it has no times
 abbrev pub timed : Net → ℕ → TripRow → Result Trip TripFault

@@ -37,17 +37,22 @@ module _ {A : Type 0} (p : A → Bool) where
       by true e = absurd (cc)
       by false e = refl
 
-  pub found_here : (xs : List A) (i : ℕ) (x d : A) → i < length xs → x ≡ get_or xs i x → p x ≡ true → find p xs ≡ find p (drop i xs) → x ≡ unwrap_or (find p xs) d
+  pub found_here : (xs : List A) (i : ℕ) (x d : A) → i < length xs → x ≡ get_or xs i x → p x ≡ true → find p xs ≡ find p (drop i xs) →
+      x ≡ unwrap_or (find p xs) d
   found_here xs i x d within is passes so_far =
       let e : find p xs ≡ Some x = so_far ∙ ap (λ ys. find p ys) (drop_first xs i x within is) ∙ find_first x (drop (i + 1) xs) passes in
       sym (ap (λ o. unwrap_or o d) e)
 
-  pub find_more : (xs : List A) (i : ℕ) (x : A) → i < length xs → x ≡ get_or xs i x → p x ≡ false → find p xs ≡ find p (drop i xs) → find p xs ≡ find p (drop (i + 1) xs)
-  find_more xs i x within is fails so_far = so_far ∙ ap (λ ys. find p ys) (drop_first xs i x within is) ∙ find_later x (drop (i + 1) xs) fails
+  pub find_more : (xs : List A) (i : ℕ) (x : A) → i < length xs → x ≡ get_or xs i x → p x ≡ false → find p xs ≡ find p (drop i xs) →
+      find p xs ≡ find p (drop (i + 1) xs)
+  find_more xs i x within is fails so_far =
+      so_far ∙ ap (λ ys. find p ys) (drop_first xs i x within is) ∙ find_later x (drop (i + 1) xs) fails
 
-  pub one_more : (xs : List A) (i : ℕ) (x : A) → i < length xs → x ≡ get_or xs i x → p x ≡ false → length (filter p (drop i xs)) ≡ 1 → length (filter p (drop (i + 1) xs)) ≡ 1
+  pub one_more : (xs : List A) (i : ℕ) (x : A) → i < length xs → x ≡ get_or xs i x → p x ≡ false → length (filter p (drop i xs)) ≡ 1 →
+      length (filter p (drop (i + 1) xs)) ≡ 1
   one_more xs i x within is fails so_far =
-      let e : length (filter p (drop i xs)) ≡ length (filter p (drop (i + 1) xs)) = ap (λ ys. length (filter p ys)) (drop_first xs i x within is) ∙ filter_later x (drop (i + 1) xs) fails in
+      let e : length (filter p (drop i xs)) ≡ length (filter p (drop (i + 1) xs)) =
+      ap (λ ys. length (filter p ys)) (drop_first xs i x within is) ∙ filter_later x (drop (i + 1) xs) fails in
       sym e ∙ so_far
 
   pub none_left : (xs : List A) (i : ℕ) → length xs ≤ i → length (filter p (drop i xs)) ≡ 1 → ⊥
@@ -65,17 +70,20 @@ module _ {A : Type 0} (p : A → Bool) where
       by false e later = omega (arith, filter_later y xs e, later)
 
   -- where one passes it is the first that does
-  pub one_found : (xs : List A) (i : ℕ) (x : A) → i < length xs → x ≡ get_or xs i x → p x ≡ true → length (filter p xs) ≡ 1 → find p xs ≡ Some x
+  pub one_found : (xs : List A) (i : ℕ) (x : A) → i < length xs → x ≡ get_or xs i x → p x ≡ true →
+      length (filter p xs) ≡ 1 → find p xs ≡ Some x
   one_found [] i x within is passes one = absurd (omega (arith, within))
   one_found (y ∷ xs) zero x within is passes one = find_first y xs (ap p (sym is) ∙ passes) ∙ ap (λ z. Some z) (sym is)
-  one_found (y ∷ xs) (suc i) x within is passes one = by (p y) refl (some_passes xs i x (omega (arith, within)) is passes) (λ rest. one_found xs i x (omega (arith, within)) is passes rest)
+  one_found (y ∷ xs) (suc i) x within is passes one =
+      by (p y) refl (some_passes xs i x (omega (arith, within)) is passes) (λ rest. one_found xs i x (omega (arith, within)) is passes rest)
     where
       by : (b : Bool) → p y ≡ b → 1 ≤ length (filter p xs) → (length (filter p xs) ≡ 1 → find p xs ≡ Some x) → find p (y ∷ xs) ≡ Some x
       by true e later found = absurd (omega (arith, filter_first y xs e, later, one))
       by false e later found = find_later y xs e ∙ found (sym (filter_later y xs e) ∙ one)
 
   -- what holds of all holds of the one that is found
-  pub found_holds : (q : A → Bool) (xs : List A) (d : A) → length (filter p xs) ≡ 1 → list_all q xs ≡ true → q (unwrap_or (find p xs) d) ≡ true
+  pub found_holds : (q : A → Bool) (xs : List A) (d : A) → length (filter p xs) ≡ 1 → list_all q xs ≡ true →
+      q (unwrap_or (find p xs) d) ≡ true
   found_holds q [] d one all = absurd (omega (arith, one))
   found_holds q (x ∷ xs) d one all = by (p x) refl (λ rest. found_holds q xs d rest (and_parts (q x) (list_all q xs) all).1)
     where

@@ -3,19 +3,23 @@ use Rattle.std.proofs.Common.{◌≡◌, ℕ, ◌+◌, ◌<◌, suc, List, [], �
 use Rattle.umlauf_write.specs.Tables.{numbered}
 
 -- the items from one on, with the value of the first
-numbered_first : {A B : Type 0} (value : ℕ → A → B) (number : ℕ) (items : List A) (item : A) (rest : List A) → items ≡ item ∷ rest → numbered value number items ≡ value number item ∷ numbered value (number + 1) rest
+numbered_first : {A B : Type 0} (value : ℕ → A → B) (number : ℕ) (items : List A) (item : A) (rest : List A) → items ≡ item ∷ rest →
+    numbered value number items ≡ value number item ∷ numbered value (number + 1) rest
 numbered_first value number items item rest e = ap (λ xs. numbered value number xs) e
 
-item_first : {A : Type 0} (items : List A) (i : ℕ) (item : A) → i < length items → item ≡ get_or items i item → drop i items ≡ item ∷ drop (i + 1) items
+item_first : {A : Type 0} (items : List A) (i : ℕ) (item : A) → i < length items → item ≡ get_or items i item →
+    drop i items ≡ item ∷ drop (i + 1) items
 item_first items i item within is = rw add-one (drop-cons items i item within ∙ ap (λ x. x ∷ drop (suc i) items) (sym is))
 
-next_number : {A B : Type 0} (value : ℕ → A → B) (start i : ℕ) (items : List A) → numbered value (start + i + 1) items ≡ numbered value (start + (i + 1)) items
+next_number : {A B : Type 0} (value : ℕ → A → B) (start i : ℕ) (items : List A) →
+    numbered value (start + i + 1) items ≡ numbered value (start + (i + 1)) items
 next_number value start i items = let e : start + i + 1 ≡ start + (i + 1) = omega arith in ap (λ n. numbered value n items) e
 
 -- one item more: what was made so far and its value stand before the values of the others
 pub numbered_more : {A B C : Type 0} (value : ℕ → A → B) (made : B → C) (start i : ℕ) (items : List A) (item : A) (all done now : List C) →
     i < length items → item ≡ get_or items i item → now ≡ done ++ made (value (start + i) item) ∷ [] →
-    all ≡ done ++ map made (numbered value (start + i) (drop i items)) → all ≡ now ++ map made (numbered value (start + (i + 1)) (drop (i + 1) items))
+    all ≡ done ++ map made (numbered value (start + i) (drop i items)) →
+    all ≡ now ++ map made (numbered value (start + (i + 1)) (drop (i + 1) items))
 numbered_more value made start i items item all done now within is pushed so_far =
     let first = numbered_first value (start + i) (drop i items) item (drop (i + 1) items) (item_first items i item within is) in
     so_far

@@ -39,7 +39,8 @@ put_items : (i : ℕ) (c : Column) (cs : List Column) → times i (all_items (pu
 put_items i c [] = times-append i c.items []
 put_items i c (next ∷ cs) = by (nat_lt (first_of_column next) (first_of_column c)) (put_items i c cs)
   where
-    by : (b : Bool) → times i (all_items (put c cs)) ≡ times i c.items + times i (all_items cs) → times i (all_items (if b then next ∷ put c cs else c ∷ next ∷ cs)) ≡ times i c.items + times i (all_items (next ∷ cs))
+    by : (b : Bool) → times i (all_items (put c cs)) ≡ times i c.items + times i (all_items cs) →
+        times i (all_items (if b then next ∷ put c cs else c ∷ next ∷ cs)) ≡ times i c.items + times i (all_items (next ∷ cs))
     by true later = omega (arith, times-append i next.items (all_items (put c cs)), later, times-append i next.items (all_items cs))
     by false later = times-append i c.items (all_items (next ∷ cs))
 
@@ -51,7 +52,8 @@ put_classes : (k : ℕ) (c : Column) (cs : List Column) → times k (all_classes
 put_classes k c [] = refl
 put_classes k c (next ∷ cs) = by (nat_lt (first_of_column next) (first_of_column c)) (put_classes k c cs)
   where
-    by : (b : Bool) → times k (all_classes (put c cs)) ≡ times k (c.class ∷ all_classes cs) → times k (all_classes (if b then next ∷ put c cs else c ∷ next ∷ cs)) ≡ times k (c.class ∷ next.class ∷ all_classes cs)
+    by : (b : Bool) → times k (all_classes (put c cs)) ≡ times k (c.class ∷ all_classes cs) →
+        times k (all_classes (if b then next ∷ put c cs else c ∷ next ∷ cs)) ≡ times k (c.class ∷ next.class ∷ all_classes cs)
     by true later = omega (arith, later)
     by false later = refl
 

@@ -21,12 +21,16 @@ use Rattle.number_tables.specs.Numbers.{AreFull}
 use Rattle.umlauf_write.specs.Tables.{block_columns, block_of, block_row, cost_columns, cost_row, format_at, is_in, numbered, trip_row, trip_table, uid_field, with_uid}
 
 -- rows of numbered items are full
-pub full_from : {A : Type 0} (columns : List (List ℕ)) (row : ℕ → A → List (Option ℕ)) → ((n : ℕ) (item : A) → length (row n item) ≡ length columns) → (number : ℕ) (items : List A) → AreFull columns (numbered row number items)
+pub full_from : {A : Type 0} (columns : List (List ℕ)) (row : ℕ → A → List (Option ℕ)) →
+    ((n : ℕ) (item : A) → length (row n item) ≡ length columns) → (number : ℕ) (items : List A) →
+    AreFull columns (numbered row number items)
 full_from columns row width number [] = λ k d within. absurd (omega (arith, within))
-full_from columns row width number (item ∷ items) = λ k. elim k as (λ k. (d : List (Option ℕ)) → k < length (numbered row number (item ∷ items)) → length (slice_index_or (numbered row number (item ∷ items)) k d) ≡ length columns) [
-  | zero ↦ λ d within. width number item
-  | suc j ↦ λ d within. full_from columns row width (number + 1) items j d (omega (arith, within))
-]
+full_from columns row width number (item ∷ items) =
+    λ k. elim k as (λ k. (d : List (Option ℕ)) → k < length (numbered row number (item ∷ items)) →
+    length (slice_index_or (numbered row number (item ∷ items)) k d) ≡ length columns) [
+      | zero ↦ λ d within. width number item
+      | suc j ↦ λ d within. full_from columns row width (number + 1) items j d (omega (arith, within))
+    ]
 
 pub block_rows_full : (day : DayFacts) (blocks : List Column) → AreFull block_columns (numbered (block_row day) 1 blocks)
 block_rows_full day blocks = full_from block_columns (block_row day) (λ n block. refl) 1 blocks
@@ -37,7 +41,8 @@ cost_rows_full day blocks = full_from cost_columns (cost_row day) (λ n block. r
 -- the number of a block is plain in its column
 uid_plain : (head : Head) (number : ℕ) → number < 2 ^ 63 → is_plain_field head (uid_field head.format number) ≡ true
 uid_plain head number small =
-    let Goal : Bool → Type 0 = λ b. is_num_format head.format ≡ b → is_plain_field head (if b then Num (pos number) else Raw (decimal number)) ≡ true in
+    let Goal : Bool → Type 0 =
+    λ b. is_num_format head.format ≡ b → is_plain_field head (if b then Num (pos number) else Raw (decimal number)) ≡ true in
     let split : (b : Bool) → Goal b = λ b. elim b as Goal [ true ↦ λ e. e | false ↦ λ e. digits_plain head.format number small e ] in
     split (is_num_format head.format) refl
 
@@ -45,20 +50,24 @@ abbrev is_plain_pair : Head × Field → Bool
 is_plain_pair pair = is_plain_field pair.0 pair.1
 
 -- a plain field in a plain row
-zip_set : (heads : List Head) (row : List Field) (place : ℕ) (field : Field) (d : Head) → place < length heads → is_plain_field (slice_index_or heads place d) field ≡ true →
+zip_set : (heads : List Head) (row : List Field) (place : ℕ) (field : Field) (d : Head) → place < length heads →
+    is_plain_field (slice_index_or heads place d) field ≡ true →
     list_all is_plain_pair (zip heads row) ≡ true → list_all is_plain_pair (zip heads (slice_set row place field)) ≡ true
 zip_set [] row place field d within plain all = absurd (omega (arith, within))
 zip_set (head ∷ heads) [] place field d within plain all = refl
 zip_set (head ∷ heads) (old ∷ row) zero field d within plain all =
-    and_from (is_plain_field head field) (list_all is_plain_pair (zip heads row)) plain (and_parts (is_plain_field head old) (list_all is_plain_pair (zip heads row)) all).1
+    and_from (is_plain_field head field) (list_all is_plain_pair (zip heads row)) plain
+    (and_parts (is_plain_field head old) (list_all is_plain_pair (zip heads row)) all).1
 zip_set (head ∷ heads) (old ∷ row) (suc place) field d within plain all =
     let parts = and_parts (is_plain_field head old) (list_all is_plain_pair (zip heads row)) all in
-    and_from (is_plain_field head old) (list_all is_plain_pair (zip heads (slice_set row place field))) parts.0 (zip_set heads row place field d (omega (arith, within)) plain parts.1)
+    and_from (is_plain_field head old) (list_all is_plain_pair (zip heads (slice_set row place field))) parts.0
+    (zip_set heads row place field d (omega (arith, within)) plain parts.1)
 
 abbrev no_head : Head
 no_head = record { name = []; format = [] }
 
-pub with_uid_plain : (heads : List Head) (place : Option ℕ) (row : List Field) (number : ℕ) → IfSome place (λ p. p < length heads) → number < 2 ^ 63 → is_plain_row heads row ≡ true → is_plain_row heads (with_uid heads place row number) ≡ true
+pub with_uid_plain : (heads : List Head) (place : Option ℕ) (row : List Field) (number : ℕ) → IfSome place (λ p. p < length heads) →
+    number < 2 ^ 63 → is_plain_row heads row ≡ true → is_plain_row heads (with_uid heads place row number) ≡ true
 with_uid_plain heads None row number within small plain = plain
 with_uid_plain heads (Some place) row number within small plain =
     let parts = and_parts (length heads == length row) (list_all is_plain_pair (zip heads row)) plain in
@@ -71,12 +80,17 @@ with_uid_plain heads (Some place) row number within small plain =
 pub place_there : (name : List ℕ) (heads : List Head) → IfSome (place_of name heads) (λ p. p < length heads)
 place_there name [] = tt
 place_there name (head ∷ heads) =
-    let Goal : Bool → Type 0 = λ b. IfSome (if b then Some 0 else option_map (λ (place : ℕ). place + 1) (place_of name heads)) (λ p. p < length (head ∷ heads)) in
-    let later : (o : Option ℕ) → IfSome o (λ p. p < length heads) → IfSome (option_map (λ (place : ℕ). place + 1) o) (λ p. p < length (head ∷ heads)) = λ o. elim o as (λ o. IfSome o (λ p. p < length heads) → IfSome (option_map (λ (place : ℕ). place + 1) o) (λ p. p < length (head ∷ heads))) [
+    let Goal : Bool → Type 0 =
+    λ b. IfSome (if b then Some 0 else option_map (λ (place : ℕ). place + 1) (place_of name heads)) (λ p. p < length (head ∷ heads)) in
+    let later : (o : Option ℕ) → IfSome o (λ p. p < length heads) →
+    IfSome (option_map (λ (place : ℕ). place + 1) o) (λ p. p < length (head ∷ heads)) =
+    λ o. elim o as (λ o. IfSome o (λ p. p < length heads) →
+    IfSome (option_map (λ (place : ℕ). place + 1) o) (λ p. p < length (head ∷ heads))) [
       | None ↦ λ h. tt
       | Some place ↦ λ h. omega (arith, h)
     ] in
-    let split : (b : Bool) → Goal b = λ b. elim b as Goal [ true ↦ omega arith | false ↦ later (place_of name heads) (place_there name heads) ] in
+    let split : (b : Bool) → Goal b =
+    λ b. elim b as Goal [ true ↦ omega arith | false ↦ later (place_of name heads) (place_there name heads) ] in
     split (bytes_eq head.name name)
 
 -- numbers of blocks are small
@@ -89,32 +103,41 @@ block_small number (block ∷ blocks) trip =
     split (is_in trip block)
 
 -- rows of a plain table are plain
-one_plain : (p : List Field → Bool) (rows : List (List Field)) (k : ℕ) (d : List Field) → list_all p rows ≡ true → k < length rows → p (slice_index_or rows k d) ≡ true
+one_plain : (p : List Field → Bool) (rows : List (List Field)) (k : ℕ) (d : List Field) → list_all p rows ≡ true → k < length rows →
+    p (slice_index_or rows k d) ≡ true
 one_plain p [] k d all within = absurd (omega (arith, within))
 one_plain p (row ∷ rows) zero d all within = (and_parts (p row) (list_all p rows) all).0
 one_plain p (row ∷ rows) (suc k) d all within = one_plain p rows k d (and_parts (p row) (list_all p rows) all).1 (omega (arith, within))
 
-trip_rows_plain : (table : Table) (blocks : List Column) (trip : ℕ) (places : List ℕ) → list_all (is_plain_row table.columns) table.rows ≡ true → length blocks ≤ 3000 → All (λ place. place < length table.rows) places →
+trip_rows_plain : (table : Table) (blocks : List Column) (trip : ℕ) (places : List ℕ) →
+    list_all (is_plain_row table.columns) table.rows ≡ true → length blocks ≤ 3000 → All (λ place. place < length table.rows) places →
     list_all (is_plain_row table.columns) (numbered (trip_row table blocks) trip places) ≡ true
 trip_rows_plain table blocks trip [] plain few within = refl
 trip_rows_plain table blocks trip (place ∷ places) plain few within =
-    and_from (is_plain_row table.columns (trip_row table blocks trip place)) (list_all (is_plain_row table.columns) (numbered (trip_row table blocks) (trip + 1) places))
-    (with_uid_plain table.columns (place_of (codes "UM_UID") table.columns) (slice_index_or table.rows place []) (block_of 1 blocks trip) (place_there (codes "UM_UID") table.columns)
-    (omega (arith, block_small 1 blocks trip, few)) (one_plain (is_plain_row table.columns) table.rows place [] plain (All-head (λ k. k < length table.rows) place places within)))
+    and_from (is_plain_row table.columns (trip_row table blocks trip place))
+    (list_all (is_plain_row table.columns) (numbered (trip_row table blocks) (trip + 1) places))
+    (with_uid_plain table.columns (place_of (codes "UM_UID") table.columns) (slice_index_or table.rows place []) (block_of 1 blocks trip)
+    (place_there (codes "UM_UID") table.columns)
+    (omega (arith, block_small 1 blocks trip, few))
+    (one_plain (is_plain_row table.columns) table.rows place [] plain (All-head (λ k. k < length table.rows) place places within)))
     (trip_rows_plain table blocks (trip + 1) places plain few (All-tail (λ k. k < length table.rows) place places within))
 
 -- the trips of a plan make a plain table
-pub trip_table_plain : (day : DayFacts) (table : Table) (blocks : List Column) → is_plain_table table ≡ true → length blocks ≤ 3000 → All (λ place. place < length table.rows) day.rows → is_plain_table (trip_table day table blocks) ≡ true
+pub trip_table_plain : (day : DayFacts) (table : Table) (blocks : List Column) → is_plain_table table ≡ true → length blocks ≤ 3000 →
+    All (λ place. place < length table.rows) day.rows → is_plain_table (trip_table day table blocks) ≡ true
 trip_table_plain day table blocks plain few within =
     let name = and_parts (is_plain_name table.name) _ plain in
     let columns = and_parts (are_plain_columns table.columns) _ name.1 in
-    and_from (is_plain_name table.name) _ name.0 (and_from (are_plain_columns table.columns) _ columns.0 (trip_rows_plain table blocks 0 day.rows columns.1 few within))
+    and_from (is_plain_name table.name) _ name.0
+    (and_from (are_plain_columns table.columns) _ columns.0 (trip_rows_plain table blocks 0 day.rows columns.1 few within))
 
-pub three_plain : (a b c : Table) → is_plain_table a ≡ true → is_plain_table b ≡ true → is_plain_table c ≡ true → are_plain (a ∷ b ∷ c ∷ []) ≡ true
+pub three_plain : (a b c : Table) → is_plain_table a ≡ true → is_plain_table b ≡ true → is_plain_table c ≡ true →
+    are_plain (a ∷ b ∷ c ∷ []) ≡ true
 three_plain a b c p q r = rw (p, q, r) refl
 
 -- a row of a plain table is as long as its columns
-pub row_long : (table : Table) (k : ℕ) (d : List Field) → is_plain_table table ≡ true → k < length table.rows → length (slice_index_or table.rows k d) ≡ length table.columns
+pub row_long : (table : Table) (k : ℕ) (d : List Field) → is_plain_table table ≡ true → k < length table.rows →
+    length (slice_index_or table.rows k d) ≡ length table.columns
 row_long table k d plain within =
     let name = and_parts (is_plain_name table.name) _ plain in
     let columns = and_parts (are_plain_columns table.columns) _ name.1 in
@@ -123,11 +146,13 @@ row_long table k d plain within =
     grind (arith, nat_tests, same)
 
 -- what is made is plain
-pub ok_plain : {E : Type 0} (r : Result Table E) (t : Table) → IfOk r (λ made. made ≡ t) → is_plain_table t ≡ true → IfOk r (λ made. is_plain_table made ≡ true)
+pub ok_plain : {E : Type 0} (r : Result Table E) (t : Table) → IfOk r (λ made. made ≡ t) → is_plain_table t ≡ true →
+    IfOk r (λ made. is_plain_table made ≡ true)
 ok_plain (Ok made) t is plain = ap is_plain_table is ∙ plain
 ok_plain (Err e) t is plain = tt
 
 -- where the column UM_UID stands, if it is there, each row has a field
-pub uid_fits : (place : Option ℕ) (heads : List Head) (row : List Field) → IfSome place (λ p. p < length heads) → length row ≡ length heads → IfSome place (λ p. (p < length heads) × (p < length row))
+pub uid_fits : (place : Option ℕ) (heads : List Head) (row : List Field) → IfSome place (λ p. p < length heads) →
+    length row ≡ length heads → IfSome place (λ p. (p < length heads) × (p < length row))
 uid_fits None heads row within long = tt
 uid_fits (Some p) heads row within long = (within, omega (arith, within, long))

@@ -26,7 +26,8 @@ whole n = Some (pos n)
 -- X_UMLAUF_TEIL.
 abbrev pub leg_columns : List (List ℕ)
 leg_columns =
-    codes "UM_UID" ∷ codes "TEIL_NR" ∷ codes "ART" ∷ codes "FRT_FID" ∷ codes "VON_TYP" ∷ codes "VON_NR" ∷ codes "BEGINN" ∷ codes "NACH_TYP" ∷ codes "NACH_NR" ∷ codes "ENDE" ∷ []
+    codes "UM_UID" ∷ codes "TEIL_NR" ∷ codes "ART" ∷ codes "FRT_FID" ∷ codes "VON_TYP" ∷ codes "VON_NR" ∷ codes "BEGINN" ∷ codes "NACH_TYP"
+    ∷ codes "NACH_NR" ∷ codes "ENDE" ∷ []
 
 -- the kinds of legs by their numbers
 abbrev pub kind_number : LegKind → ℕ
@@ -62,13 +63,33 @@ abbrev pub duty_columns : List (List ℕ)
 duty_columns = codes "DIENST_NR" ∷ codes "GRUPPE_NR" ∷ codes "BEGINN" ∷ codes "ENDE" ∷ codes "LENKZEIT" ∷ codes "KOSTEN" ∷ []
 
 abbrev pub no_piece : Piece
-no_piece = record { block = 0; index = 0; from = record { typ = 0; nr = 0 }; begin = record { 0 = pos 0 }; to = record { typ = 0; nr = 0 }; end = record { 0 = pos 0 }; driving = 0 }
+no_piece = record {
+  block = 0;
+  index = 0;
+  from = record { typ = 0; nr = 0 };
+  begin = record { 0 = pos 0 };
+  to =
+      record { typ = 0; nr = 0 };
+  end = record { 0 = pos 0 };
+  driving = 0;
+}
 
 abbrev pub piece_at : List Piece → ℕ → Piece
 piece_at pieces place = slice_index_or pieces place no_piece
 
 abbrev pub no_group : Group
-no_group = record { number = 0; home = record { typ = 0; nr = 0 }; cap = 0; fixed = 0; rate = 0; sign_on = 0; sign_off = 0; ten = false; reduced = false }
+no_group = record {
+  number = 0;
+  home = record { typ = 0; nr = 0 };
+  cap = 0;
+  fixed = 0;
+  rate = 0;
+  sign_on = 0;
+  sign_off =
+      0;
+  ten = false;
+  reduced = false;
+}
 
 -- the group of a class
 abbrev pub group_of : DayFacts → ℕ → Group
@@ -103,7 +124,8 @@ duty_numbers number group on off driving worth = whole number ∷ whole group.nu
 abbrev pub duty_row : DayFacts → List Piece → ℕ → Column → List (Option ℤ)
 duty_row day pieces number duty =
     let group = group_of day duty.class in
-    duty_numbers number group (sign_on day group (piece_at pieces (first_of duty.items))) (sign_off day group (piece_at pieces (last_of duty.items))) (driving_of pieces duty.items) duty.worth
+    duty_numbers number group (sign_on day group (piece_at pieces (first_of duty.items)))
+    (sign_off day group (piece_at pieces (last_of duty.items))) (driving_of pieces duty.items) duty.worth
 
 abbrev pub duty_table : DayFacts → List Piece → List Column → Table
 duty_table day pieces duties = signed_table (codes "X_DIENST") duty_columns (numbered (duty_row day pieces) 1 duties)
@@ -111,7 +133,8 @@ duty_table day pieces duties = signed_table (codes "X_DIENST") duty_columns (num
 -- X_DIENST_STUECK.
 abbrev pub part_columns : List (List ℕ)
 part_columns =
-    codes "DIENST_NR" ∷ codes "LFD_NR" ∷ codes "UM_UID" ∷ codes "STUECK_NR" ∷ codes "VON_TYP" ∷ codes "VON_NR" ∷ codes "BEGINN" ∷ codes "NACH_TYP" ∷ codes "NACH_NR" ∷ codes "ENDE" ∷ codes "LENKZEIT" ∷ []
+    codes "DIENST_NR" ∷ codes "LFD_NR" ∷ codes "UM_UID" ∷ codes "STUECK_NR" ∷ codes "VON_TYP" ∷ codes "VON_NR" ∷ codes "BEGINN"
+    ∷ codes "NACH_TYP" ∷ codes "NACH_NR" ∷ codes "ENDE" ∷ codes "LENKZEIT" ∷ []
 
 -- the duty, the piece's number in it from 1, its block and its index there, from where and when, to where and when, and the seconds driven
 abbrev pub part_numbers : ℕ → ℕ → Piece → List (Option ℤ)

@@ -22,14 +22,30 @@ abbrev pool : Pool
 pool = record { number = 1; depot = point 2 9; typ = 1; cap = 2; fixed = 1000; dead_rate = 1; stand_rate = 0 }
 
 abbrev trip : ℕ → ℕ → ℕ → Trip
-trip fid begin end = record { fid = fid; line = 1; from = point 1 1; begin = record { 0 = pos begin }; to = point 1 2; end = record { 0 = pos end } }
+trip fid begin end = record {
+  fid = fid;
+  line = 1;
+  from = point 1 1;
+  begin = record { 0 = pos begin };
+  to =
+      point 1 2;
+  end = record { 0 = pos end };
+}
 
 abbrev day : DayFacts
 day = record {
   kind = record { version = 1; kind = 1; day = 20260302; weekday = 1 };
   rows = 0 ∷ 1 ∷ [];
   trips = trip 1 28800 32400 ∷ trip 2 33000 36600 ∷ [];
-  params = record { settings = record { area = 1; group = 1; turn = 300; max_wait = 7200; handover = 300 }; pools = pool ∷ []; groups = group ∷ []; admissions = []; reliefs = []; ways = [] };
+  params = record {
+    settings = record { area = 1; group = 1; turn = 300; max_wait = 7200; handover = 300 };
+    pools = pool ∷ [];
+    groups =
+        group ∷ [];
+    admissions = [];
+    reliefs = [];
+    ways = [];
+  };
   deads = [];
 }
 
@@ -43,7 +59,8 @@ abbrev duties : Table
 duties = number_table (codes "X_DIENST") (codes "DIENST_NR" ∷ codes "GRUPPE_NR" ∷ codes "BEGINN" ∷ []) (row (1 ∷ 1 ∷ 27600 ∷ []) ∷ [])
 
 abbrev parts : List (List ℕ) → Table
-parts rows = number_table (codes "X_DIENST_STUECK") (codes "DIENST_NR" ∷ codes "LFD_NR" ∷ codes "UM_UID" ∷ codes "STUECK_NR" ∷ []) (map row rows)
+parts rows = number_table (codes "X_DIENST_STUECK") (codes "DIENST_NR" ∷ codes "LFD_NR" ∷ codes "UM_UID" ∷ codes "STUECK_NR" ∷ [])
+    (map row rows)
 
 abbrev bounds : List (List ℕ) → Table
 bounds rows = number_table (codes "X_SCHRANKE") (codes "ART" ∷ codes "WERT" ∷ codes "SCHRANKE" ∷ []) (map row rows)
@@ -57,7 +74,8 @@ block items = record { class = 0; worth = 2200; items = items }
 abbrev two_parts : Table
 two_parts = parts ((1 ∷ 1 ∷ 1 ∷ 1 ∷ []) ∷ (1 ∷ 2 ∷ 1 ∷ 2 ∷ []) ∷ [])
 
-whole : read_of day (trips ((1 ∷ 1 ∷ []) ∷ (2 ∷ 1 ∷ []) ∷ []) ∷ cost_table day (block (0 ∷ 1 ∷ []) ∷ []) ∷ duties ∷ two_parts ∷ four_bounds ∷ []) ≡
+whole : read_of day (trips ((1 ∷ 1 ∷ []) ∷ (2 ∷ 1 ∷ []) ∷ []) ∷ cost_table day (block (0 ∷ 1 ∷ []) ∷ []) ∷ duties
+    ∷ two_parts ∷ four_bounds ∷ []) ≡
     Ok (record {
       blocks = record { columns = record { class = 0; worth = 0; items = 0 ∷ 1 ∷ [] } ∷ [] };
       duties = record { group = 1; parts = (1, 1) ∷ (1, 2) ∷ [] } ∷ [];
@@ -66,17 +84,24 @@ whole : read_of day (trips ((1 ∷ 1 ∷ []) ∷ (2 ∷ 1 ∷ []) ∷ []) ∷ co
 whole = refl
 
 -- the last table is missing: tables as wholes come before rows
-no_bounds : read_of day (trips ((7 ∷ 1 ∷ []) ∷ []) ∷ cost_table day (block (0 ∷ 1 ∷ []) ∷ []) ∷ duties ∷ two_parts ∷ []) ≡ Err (Form (codes "X_SCHRANKE") 0)
+no_bounds : read_of day (trips ((7 ∷ 1 ∷ []) ∷ []) ∷ cost_table day (block (0 ∷ 1 ∷ []) ∷ []) ∷ duties ∷ two_parts ∷ [])
+    ≡ Err (Form (codes "X_SCHRANKE") 0)
 no_bounds = refl
 
 -- a trip that is not of the day
-other_trip : read_of day (trips ((1 ∷ 1 ∷ []) ∷ (7 ∷ 1 ∷ []) ∷ []) ∷ cost_table day (block (0 ∷ 1 ∷ []) ∷ []) ∷ duties ∷ two_parts ∷ four_bounds ∷ []) ≡ Err (Form (codes "REC_FRT") 2)
+other_trip : read_of day (trips ((1 ∷ 1 ∷ []) ∷ (7 ∷ 1 ∷ []) ∷ []) ∷ cost_table day (block (0 ∷ 1 ∷ []) ∷ []) ∷ duties ∷ two_parts
+    ∷ four_bounds ∷ []) ≡ Err (Form (codes "REC_FRT") 2)
 other_trip = refl
 
 -- three passes: the table as a whole, after all rows
-three_passes : read_of day (trips [] ∷ cost_table day [] ∷ duties ∷ parts [] ∷ bounds ((1 ∷ 1 ∷ 1 ∷ []) ∷ (2 ∷ 2200 ∷ 2200 ∷ []) ∷ (3 ∷ 1 ∷ 1 ∷ []) ∷ []) ∷ []) ≡ Err (Form (codes "X_SCHRANKE") 0)
+three_passes : read_of day
+    (trips [] ∷ cost_table day [] ∷ duties ∷ parts [] ∷ bounds ((1 ∷ 1 ∷ 1 ∷ []) ∷ (2 ∷ 2200 ∷ 2200 ∷ []) ∷ (3 ∷ 1 ∷ 1 ∷ []) ∷ []) ∷ [])
+    ≡ Err (Form (codes "X_SCHRANKE") 0)
 three_passes = refl
 
 -- a fifth pass
-fifth_pass : read_of day (trips [] ∷ cost_table day [] ∷ duties ∷ parts [] ∷ bounds ((1 ∷ 1 ∷ 1 ∷ []) ∷ (2 ∷ 0 ∷ 0 ∷ []) ∷ (3 ∷ 0 ∷ 0 ∷ []) ∷ (4 ∷ 0 ∷ 0 ∷ []) ∷ (5 ∷ 0 ∷ 0 ∷ []) ∷ []) ∷ []) ≡ Err (Form (codes "X_SCHRANKE") 5)
+fifth_pass : read_of day
+    (trips [] ∷ cost_table day [] ∷ duties ∷ parts []
+    ∷ bounds ((1 ∷ 1 ∷ 1 ∷ []) ∷ (2 ∷ 0 ∷ 0 ∷ []) ∷ (3 ∷ 0 ∷ 0 ∷ []) ∷ (4 ∷ 0 ∷ 0 ∷ []) ∷ (5 ∷ 0 ∷ 0 ∷ []) ∷ []) ∷ [])
+    ≡ Err (Form (codes "X_SCHRANKE") 5)
 fifth_pass = refl

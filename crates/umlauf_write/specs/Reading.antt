@@ -60,7 +60,8 @@ part duty block index = (duty, two block index)
 
 -- FRT_FID, UM_UID: the trip, and its block from 0
 abbrev pub trip_entry : Numbers → List (Option ℤ) → Option (ℕ × ℕ)
-trip_entry n (fid ∷ uid ∷ []) = option_and_then (λ trip. option_map (λ block. two trip block) (counted n.blocks uid)) (class_among n.fids fid)
+trip_entry n (fid ∷ uid ∷ []) =
+    option_and_then (λ trip. option_map (λ block. two trip block) (counted n.blocks uid)) (class_among n.fids fid)
 trip_entry n _ = None
 
 -- whether a number is that of its row, which is counted from 0
@@ -84,7 +85,8 @@ duty_entry n row _ = None
 -- DIENST_NR, UM_UID, STUECK_NR: the duty from 0, the block from 1 and the index
 abbrev pub part_entry : Numbers → List (Option ℤ) → Option Part
 part_entry n (duty ∷ uid ∷ index ∷ []) =
-    option_and_then (λ d. option_and_then (λ b. option_map (λ i. part d (b + 1) i) (word index)) (counted n.blocks uid)) (counted n.duties duty)
+    option_and_then (λ d. option_and_then (λ b. option_map (λ i. part d (b + 1) i) (word index)) (counted n.blocks uid))
+    (counted n.duties duty)
 part_entry n _ = None
 
 -- a number that is not below 0
@@ -122,8 +124,10 @@ bound_entries tables = entries_from bound_entry 0 (rows_of bounds tables)
 abbrev pub places_of : DayFacts → List Table → List Place
 places_of day tables =
     let n = numbers_of day tables in
-    whole_faults trips tables ++ whole_faults blocks tables ++ whole_faults duties tables ++ whole_faults parts tables ++ whole_faults bounds tables ++
-    entry_faults trips.name 1 (trip_entries n tables) ++ entry_faults blocks.name 1 (block_entries n tables) ++ entry_faults duties.name 1 (duty_entries n tables) ++
+    whole_faults trips tables ++ whole_faults blocks tables ++ whole_faults duties tables ++ whole_faults parts tables
+    ++ whole_faults bounds tables ++
+    entry_faults trips.name 1 (trip_entries n tables) ++ entry_faults blocks.name 1 (block_entries n tables)
+    ++ entry_faults duties.name 1 (duty_entries n tables) ++
     entry_faults parts.name 1 (part_entries n tables) ++ entry_faults bounds.name 1 (bound_entries tables) ++
     when (nat_lt (length (rows_of bounds tables)) 4) (place bounds.name 0)
 

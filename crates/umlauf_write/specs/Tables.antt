@@ -26,12 +26,14 @@ pool_of day class = slice_index_or day.params.pools class no_pool
 
 abbrev pub block_columns : List (List ℕ)
 block_columns =
-    codes "BASIS_VERSION" ∷ codes "TAGESART_NR" ∷ codes "UM_UID" ∷ codes "ANF_ORT" ∷ codes "ANF_ONR_TYP" ∷ codes "END_ORT" ∷ codes "END_ONR_TYP" ∷ codes "FZG_TYP_NR" ∷ []
+    codes "BASIS_VERSION" ∷ codes "TAGESART_NR" ∷ codes "UM_UID" ∷ codes "ANF_ORT" ∷ codes "ANF_ONR_TYP" ∷ codes "END_ORT"
+    ∷ codes "END_ONR_TYP" ∷ codes "FZG_TYP_NR" ∷ []
 
 -- the version and kind of the day, the number of the block, where it begins and ends: at its pool's depot, and the type of its vehicle
 abbrev pub block_numbers : DayFacts → ℕ → Pool → List (Option ℕ)
 block_numbers day number pool =
-    Some day.kind.version ∷ Some day.kind.kind ∷ Some number ∷ Some pool.depot.nr ∷ Some pool.depot.typ ∷ Some pool.depot.nr ∷ Some pool.depot.typ ∷ Some pool.typ ∷ []
+    Some day.kind.version ∷ Some day.kind.kind ∷ Some number ∷ Some pool.depot.nr ∷ Some pool.depot.typ ∷ Some pool.depot.nr
+    ∷ Some pool.depot.typ ∷ Some pool.typ ∷ []
 
 abbrev pub block_row : DayFacts → ℕ → Column → List (Option ℕ)
 block_row day number block = block_numbers day number (pool_of day block.class)
@@ -76,7 +78,8 @@ with_uid heads (Some place) row number = slice_set row place (uid_field (format_
 
 -- the row of a trip, which stands at a place, with the number of its block
 abbrev pub trip_row : Table → List Column → ℕ → ℕ → List Field
-trip_row table blocks trip place = with_uid table.columns (place_of (codes "UM_UID") table.columns) (slice_index_or table.rows place []) (block_of 1 blocks trip)
+trip_row table blocks trip place =
+    with_uid table.columns (place_of (codes "UM_UID") table.columns) (slice_index_or table.rows place []) (block_of 1 blocks trip)
 
 -- REC_FRT with the rows of the day's trips by number, as they were read but for UM_UID
 abbrev pub trip_table : DayFacts → Table → List Column → Table

@@ -22,7 +22,8 @@ is_number n (Some (negsuc m)) = false
 
 -- a row is that of a trip of a version
 abbrev pub is_row_of : List Head → ℕ → ℕ → List Field → Bool
-is_row_of heads version fid row = is_number version (number_in heads row (codes "BASIS_VERSION")) && is_number fid (number_in heads row (codes "FRT_FID"))
+is_row_of heads version fid row =
+    is_number version (number_in heads row (codes "BASIS_VERSION")) && is_number fid (number_in heads row (codes "FRT_FID"))
 
 -- there is exactly one row of a trip of a version
 abbrev pub HasOneRow : Table → ℕ → ℕ → Type 0
@@ -34,8 +35,10 @@ row_of table version fid = unwrap_or (find (is_row_of table.columns version fid)
 
 -- the row of a trip with the number of its block
 abbrev pub found_row : Table → ℕ → List Column → ℕ → Trip → List Field
-found_row table version blocks number trip = with_uid table.columns (place_of (codes "UM_UID") table.columns) (row_of table version trip.fid) (block_of 1 blocks number)
+found_row table version blocks number trip =
+    with_uid table.columns (place_of (codes "UM_UID") table.columns) (row_of table version trip.fid) (block_of 1 blocks number)
 
 -- REC_FRT with the rows of the day's trips by number, as they were read but for UM_UID
 abbrev pub found_table : DayFacts → Table → List Column → Table
-found_table day table blocks = record { name = table.name; columns = table.columns; rows = numbered (found_row table day.kind.version blocks) 0 day.trips }
+found_table day table blocks =
+    record { name = table.name; columns = table.columns; rows = numbered (found_row table day.kind.version blocks) 0 day.trips }

@@ -29,7 +29,8 @@ pub record IsFound (p : Problem) (prices : List Price) (class : ℕ) (list : Lis
   pub is_value : least ≡ value_of prices worth list
   pub first : IsLeastOfClass p prices class (record { class = class; worth = worth; items = list })
 
-pub found-least : {L : Type 0} (w : Labelling L) (close : L → Option ℤ) (p : Problem) (prices : List Price) (class : ℕ) (list : List ℕ) (least : ℤ) →
+pub found-least : {L : Type 0} (w : Labelling L) (close : L → Option ℤ) (p : Problem) (prices : List Price) (class : ℕ)
+    (list : List ℕ) (least : ℤ) →
     class < length p.caps → IsTied w close prices (p.worth class) → IsLeastClosed w close list least → IsFound p prices class list least
 found-least {L = L} w close p prices class list least there tied closed =
     let (worth, has, is) = tied.from list closed.label least closed.label_is closed.closes in
@@ -53,31 +54,37 @@ found-least {L = L} w close p prices class list least there tied closed =
     }
 
 -- its items are there
-pub found-below : (p : Problem) (prices : List Price) (class : ℕ) (list : List ℕ) (least : ℤ) → HasListedColumns p → IsFound p prices class list least → AllBelow p.items list
+pub found-below : (p : Problem) (prices : List Price) (class : ℕ) (list : List ℕ) (least : ℤ) → HasListedColumns p →
+    IsFound p prices class list least → AllBelow p.items list
 found-below p prices class list least listed found = (listed class list found.worth found.has).2
 
 -- and it is there as a column
-pub found-column : (p : Problem) (prices : List Price) (class : ℕ) (list : List ℕ) (least : ℤ) (answer : Option Column) (found : IsFound p prices class list least) →
+pub found-column : (p : Problem) (prices : List Price) (class : ℕ) (list : List ℕ) (least : ℤ) (answer : Option Column)
+    (found : IsFound p prices class list least) →
     answer ≡ worth_column p class list → answer ≡ Some (record { class = class; worth = found.worth; items = list })
 found-column p prices class list least answer found e =
     let made : ℕ → Column = λ worth. record { class = class; worth = worth; items = list } in
     e ∙ ap (option_map made) found.has
 
-pub least-answer : (p : Problem) (prices : List Price) (class : ℕ) (list : List ℕ) (least : ℤ) (answer : Option Column) → IsFound p prices class list least →
+pub least-answer : (p : Problem) (prices : List Price) (class : ℕ) (list : List ℕ) (least : ℤ) (answer : Option Column) →
+    IsFound p prices class list least →
     answer ≡ worth_column p class list → IfSome answer (λ column. IsLeastOfClass p prices class column)
 least-answer p prices class list least answer found e =
     let P : Option Column → Type 0 = λ o. IfSome o (λ column. IsLeastOfClass p prices class column) in
     subst P (sym (found-column p prices class list least answer found e)) found.first
 
-pub unpaid-answer : (p : Problem) (prices : List Price) (class : ℕ) (list : List ℕ) (least class_price : ℤ) (answer : Option Column) → IsFound p prices class list least →
-    least ≤ℤ (neg_ℤ class_price -ℤ pos 1) → answer ≡ worth_column p class list → IfSome answer (λ column. value prices column <ℤ neg_ℤ class_price)
+pub unpaid-answer : (p : Problem) (prices : List Price) (class : ℕ) (list : List ℕ) (least class_price : ℤ) (answer : Option Column) →
+    IsFound p prices class list least →
+    least ≤ℤ (neg_ℤ class_price -ℤ pos 1) → answer ≡ worth_column p class list →
+    IfSome answer (λ column. value prices column <ℤ neg_ℤ class_price)
 unpaid-answer p prices class list least class_price answer found low e =
     let P : Option Column → Type 0 = λ o. IfSome o (λ column. value prices column <ℤ neg_ℤ class_price) in
     let is = found.is_value in
     let below : value_of prices found.worth list <ℤ neg_ℤ class_price = omega (arith, ints, is, low) in
     subst P (sym (found-column p prices class list least answer found e)) below
 
-pub none-answer : (p : Problem) (prices : List Price) (class : ℕ) (list : List ℕ) (least : ℤ) (answer : Option Column) (X : Type 0) → IsFound p prices class list least →
+pub none-answer : (p : Problem) (prices : List Price) (class : ℕ) (list : List ℕ) (least : ℤ) (answer : Option Column) (X : Type 0) →
+    IsFound p prices class list least →
     answer ≡ worth_column p class list → IfNone answer X
 none-answer p prices class list least answer X found e =
     let P : Option Column → Type 0 = λ o. IfNone o X in
@@ -85,15 +92,18 @@ none-answer p prices class list least answer X found e =
 
 -- where each list closes above the limit, the class is paid
 pub above-paid : {L : Type 0} (w : Labelling L) (close : L → Option ℤ) (p : Problem) (prices : List Price) (class : ℕ) (class_price : ℤ) →
-    IsTied w close prices (p.worth class) → AllCloseAbove w close (neg_ℤ class_price -ℤ pos 1) → IsAtMostAll p prices class (neg_ℤ class_price)
+    IsTied w close prices (p.worth class) → AllCloseAbove w close (neg_ℤ class_price -ℤ pos 1) →
+    IsAtMostAll p prices class (neg_ℤ class_price)
 above-paid w close p prices class class_price tied above = λ list worth e.
     let (a, labelled, closes) = tied.onto list worth e in
     let high = above list a (value_of prices worth list) labelled closes in
     omega (arith, ints, high)
 
 -- the first least of the first class that is not paid
-pub first-answer : (p : Problem) (prices : List Price) (class_prices : List ℤ) (class : ℕ) (column : Column) → IsLeastOfClass p prices class column →
-    value prices column <ℤ neg_ℤ (number_at class_prices class) → AreClassesPaid p prices class_prices class → IsFirstUnpaid p prices class_prices column
+pub first-answer : (p : Problem) (prices : List Price) (class_prices : List ℤ) (class : ℕ) (column : Column) →
+    IsLeastOfClass p prices class column →
+    value prices column <ℤ neg_ℤ (number_at class_prices class) → AreClassesPaid p prices class_prices class →
+    IsFirstUnpaid p prices class_prices column
 first-answer p prices class_prices class column least unpaid earlier =
     let is = sym least.of_class in
     let P : ℕ → Type 0 = λ k. IsLeastOfClass p prices k column in
@@ -102,7 +112,8 @@ first-answer p prices class_prices class column least unpaid earlier =
     record { least = subst P is least; unpaid = subst Q is unpaid; earlier = subst R is earlier }
 
 -- an unpaid list refutes that all classes are paid
-pub unpaid-refutes : (p : Problem) (prices : List Price) (class_prices : List ℤ) (column : Column) → IsFirstUnpaid p prices class_prices column →
+pub unpaid-refutes : (p : Problem) (prices : List Price) (class_prices : List ℤ) (column : Column) →
+    IsFirstUnpaid p prices class_prices column →
     AreClassesPaid p prices class_prices (length p.caps) → ⊥
 unpaid-refutes p prices class_prices column found paid =
     let listed = found.least.listed in
@@ -110,7 +121,8 @@ unpaid-refutes p prices class_prices column found paid =
     let high = found.unpaid in
     omega (arith, ints, low, high)
 
-pub next-paid : (p : Problem) (prices : List Price) (class_prices : List ℤ) (class : ℕ) → AreClassesPaid p prices class_prices class → IsClassPaid p prices class_prices class →
+pub next-paid : (p : Problem) (prices : List Price) (class_prices : List ℤ) (class : ℕ) → AreClassesPaid p prices class_prices class →
+    IsClassPaid p prices class_prices class →
     AreClassesPaid p prices class_prices (class + 1)
 next-paid p prices class_prices class earlier this = λ k below.
     elim (last-or-below k class below) as (λ _. IsClassPaid p prices class_prices k) [

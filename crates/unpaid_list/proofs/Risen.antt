@@ -20,7 +20,8 @@ use Rattle.mark_cover.specs.Searches.{AreThere}
 use Rattle.unpaid_list.specs.Laws.{TellsMarksApart}
 use Rattle.unpaid_list.specs.Unpaid.{AreClassesPaid}
 
-pub rising-pairs : {L : Type 0} (order : L → L → Ordering) (xs : List L) → IsStrictlySortedBy order xs → AllPairs (λ (a b : L). order a b ≡ Less) xs
+pub rising-pairs : {L : Type 0} (order : L → L → Ordering) (xs : List L) → IsStrictlySortedBy order xs →
+    AllPairs (λ (a b : L). order a b ≡ Less) xs
 unfolding IsStrictlySortedBy
 rising-pairs order [] h = λ i j d below there. absurd (omega arith)
 rising-pairs {L = L} order (x ∷ xs) h =
@@ -35,7 +36,8 @@ contains-stands xs a h = (h.0, slice_get_read xs (length xs) h.0 a refl h.1 (sym
 
 module _ {L : Type 0} (m : Marking L) where
   -- the same marks in other places
-  pub kept-same : (xs ys : List L) → ((a : L) → Contains xs a → Contains ys a) → ((a : L) → Contains ys a → Contains xs a) → AreKept m xs → AreKept m ys
+  pub kept-same : (xs ys : List L) → ((a : L) → Contains xs a → Contains ys a) → ((a : L) → Contains ys a → Contains xs a) →
+      AreKept m xs → AreKept m ys
   kept-same xs ys onto from kept =
       let over : (a : L) → StandsIn xs a → StandsIn ys a = λ a h. contains-stands ys a (onto a (stands-contains xs a h)) in
       let back : (a : L) → StandsIn ys a → StandsIn xs a = λ a h. contains-stands xs a (from a (stands-contains ys a h)) in
@@ -47,7 +49,8 @@ module _ {L : Type 0} (m : Marking L) where
       }
 
   -- a list's mark has the list's class
-  after-class : IsPlaced m → (class : ℕ) (o : Option L) (xs : List ℕ) (b : L) → ((a : L) → o ≡ Some a → m.class_of a ≡ class) → label_after (of_class m class) o xs ≡ Some b → m.class_of b ≡ class
+  after-class : IsPlaced m → (class : ℕ) (o : Option L) (xs : List ℕ) (b : L) → ((a : L) → o ≡ Some a → m.class_of a ≡ class) →
+      label_after (of_class m class) o xs ≡ Some b → m.class_of b ≡ class
   after-class placed class None xs b known e = absurd (cc)
   after-class placed class (Some a) [] b known e = known b e
   after-class placed class (Some a) (x ∷ xs) b known e =
@@ -57,16 +60,19 @@ module _ {L : Type 0} (m : Marking L) where
   list-class placed class [] b e = absurd (cc)
   list-class placed class (x ∷ xs) b e = after-class placed class (m.start class x) xs b (λ a is. (placed.starts class x a is).1) e
 
-  after-last : IsPlaced m → (class : ℕ) (o : Option L) (xs : List ℕ) (b : L) → ((a : L) → o ≡ Some a → m.last a < m.items) → label_after (of_class m class) o xs ≡ Some b → m.last b < m.items
+  after-last : IsPlaced m → (class : ℕ) (o : Option L) (xs : List ℕ) (b : L) → ((a : L) → o ≡ Some a → m.last a < m.items) →
+      label_after (of_class m class) o xs ≡ Some b → m.last b < m.items
   after-last placed class None xs b known e = absurd (cc)
   after-last placed class (Some a) [] b known e = known b e
   after-last placed class (Some a) (x ∷ xs) b known e =
-      after-last placed class (m.extend a x) xs b (λ c is. let step = placed.steps a c x is in let below = step.1 in let same = step.3 in omega (arith, below, same)) e
+      after-last placed class (m.extend a x) xs b (λ c is. let step = placed.steps a c x is in let below = step.1 in let same =
+      step.3 in omega (arith, below, same)) e
 
   list-last : IsPlaced m → (class : ℕ) (list : List ℕ) (b : L) → label_of (of_class m class) list ≡ Some b → m.last b < m.items
   list-last placed class [] b e = absurd (cc)
   list-last placed class (x ∷ xs) b e =
-      after-last placed class (m.start class x) xs b (λ a is. let first = placed.starts class x a is in let below = first.0 in let same = first.2 in omega (arith, below, same)) e
+      after-last placed class (m.start class x) xs b (λ a is. let first = placed.starts class x a is in let below = first.0 in let same =
+      first.2 in omega (arith, below, same)) e
 
   -- the classes and last items of kept marks are there
   pub kept-there : (marks : List L) → IsPlaced m → AreKept m marks → AreThere m marks
@@ -76,11 +82,13 @@ module _ {L : Type 0} (m : Marking L) where
       (omega (arith, there, same), list-last placed class list a has)
 
   -- kept marks are a cover, where none of them closes below minus its class price
-  pub high-cover : (marks : List L) (class_prices : List ℤ) → AreKept m marks → ((a : L) → StandsIn marks a → ClosesBelow m class_prices a → ⊥) → IsMarkCover m marks class_prices
+  pub high-cover : (marks : List L) (class_prices : List ℤ) → AreKept m marks →
+      ((a : L) → StandsIn marks a → ClosesBelow m class_prices a → ⊥) → IsMarkCover m marks class_prices
   high-cover marks class_prices kept high = record { starts = kept.starts; steps = kept.steps; closes = high }
 
   -- no kept mark closes below minus its class price, since it is a list's mark, and that list would be unpaid
-  pub paid-cover : (p : Problem) (prices : List Price) (class_prices : List ℤ) (marks : List L) → IsPlaced m → AreMarksOf m p prices → AreKept m marks →
+  pub paid-cover : (p : Problem) (prices : List Price) (class_prices : List ℤ) (marks : List L) → IsPlaced m →
+      AreMarksOf m p prices → AreKept m marks →
       AreClassesPaid p prices class_prices (length p.caps) → IsMarkCover m marks class_prices
   paid-cover p prices class_prices marks placed marks_of kept paid = record {
     starts = kept.starts;
@@ -108,5 +116,6 @@ equal-of Equal e = refl
 equal-of Greater e = absurd (cc)
 
 -- where the order tells apart, what counts as equal is the same
-pub exact-by-order : {L : Type 0} (order : L → L → Ordering) (E : L → L → Bool) → ((x y : L) → E x y ≡ is_eq (order x y)) → TellsMarksApart order → (x y : L) → E x y ≡ true → x ≡ y
+pub exact-by-order : {L : Type 0} (order : L → L → Ordering) (E : L → L → Bool) → ((x y : L) → E x y ≡ is_eq (order x y)) →
+    TellsMarksApart order → (x y : L) → E x y ≡ true → x ≡ y
 exact-by-order order E ties apart x y e = apart x y (equal-of (order x y) (sym (ties x y) ∙ e))

@@ -34,7 +34,8 @@ class-stepwise m class placed = record {
   steps = λ a b item e. let x = placed.steps a b item e in (x.0, x.1, x.3);
 }
 
-pub class-safe : {L : Type 0} (m : Marking L) (sound : L → Type 0) (class : ℕ) → IsPlaced m → AreSafe m sound → IsSafe (of_class m class) (IsOfClass m sound class)
+pub class-safe : {L : Type 0} (m : Marking L) (sound : L → Type 0) (class : ℕ) → IsPlaced m → AreSafe m sound →
+    IsSafe (of_class m class) (IsOfClass m sound class)
 class-safe m sound class placed safe = record {
   starts = λ item a e.
       let x = placed.starts class item a e in

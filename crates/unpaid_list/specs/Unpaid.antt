@@ -13,7 +13,8 @@ pub record IsLeastOfClass (p : Problem) (prices : List Price) (class : ℕ) (col
   pub listed : IsColumn p column
   pub of_class : column.class ≡ class
   pub least : IsAtMostAll p prices class (value prices column)
-  pub first : (list : List ℕ) (worth : ℕ) → p.worth class list ≡ Some worth → value_of prices worth list ≡ value prices column → IsNotAfter column.items list
+  pub first : (list : List ℕ) (worth : ℕ) → p.worth class list ≡ Some worth → value_of prices worth list ≡ value prices column →
+      IsNotAfter column.items list
 
 -- no list of the class with a worth has a value below minus the price of the class
 abbrev pub IsClassPaid : Problem → List Price → List ℤ → ℕ → Type 0

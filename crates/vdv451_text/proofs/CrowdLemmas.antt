@@ -20,13 +20,15 @@ and_true true = refl
 and_true false = refl
 
 -- kinds whose last field is as the others
-right_all : (kind : FieldKind) → ((p : Piece) → may_end kind p ≡ may_stand kind p) → (ps : List Piece) → all_right kind ps ≡ list_all (may_stand kind) ps
+right_all : (kind : FieldKind) → ((p : Piece) → may_end kind p ≡ may_stand kind p) → (ps : List Piece) →
+    all_right kind ps ≡ list_all (may_stand kind) ps
 right_all kind same [] = refl
 right_all kind same (p ∷ []) = same p ∙ and_true (may_stand kind p)
 right_all kind same (p ∷ q ∷ ps) = ap (λ t. may_stand kind p && t) (right_all kind same (q ∷ ps))
 
 -- `tbl`
-pub tbl_crowd : {A : Type 0} (rest : Option (List ℕ)) (x : A) (fault : TextKind) → few_of kind_of.Name 1 (fields_of rest) ≡ Err fault → outcome (wrong_fields 0 0 0 (Says Tbl rest) (fields_of rest)) x ≡ Err fault
+pub tbl_crowd : {A : Type 0} (rest : Option (List ℕ)) (x : A) (fault : TextKind) → few_of kind_of.Name 1 (fields_of rest) ≡ Err fault →
+    outcome (wrong_fields 0 0 0 (Says Tbl rest) (fields_of rest)) x ≡ Err fault
 tbl_crowd rest x fault e = elim (few_fault kind_of.Name 1 (fields_of rest) fault e) [
   | broken n f ↦ rw (n, f) refl
   | wrong ps s l r f ↦
@@ -55,7 +57,8 @@ one_dropped (p ∷ []) = by_test (is_void p) where
   by_test false = omega arith
 one_dropped (p ∷ q ∷ ps) = omega (arith, one_dropped (q ∷ ps))
 
-pub atr_crowd : {A : Type 0} (rest : Option (List ℕ)) (x : A) (fault : TextKind) → few_of kind_of.ColumnName 201 (fields_of rest) ≡ Err fault → outcome (wrong_fields 0 0 0 (Says Atr rest) (fields_of rest)) x ≡ Err fault
+pub atr_crowd : {A : Type 0} (rest : Option (List ℕ)) (x : A) (fault : TextKind) →
+    few_of kind_of.ColumnName 201 (fields_of rest) ≡ Err fault → outcome (wrong_fields 0 0 0 (Says Atr rest) (fields_of rest)) x ≡ Err fault
 atr_crowd rest x fault e = elim (few_fault kind_of.ColumnName 201 (fields_of rest) fault e) [
   | broken n f ↦ rw (n, f) refl
   | wrong ps s l r f ↦
@@ -73,21 +76,25 @@ atr_crowd rest x fault e = elim (few_fault kind_of.ColumnName 201 (fields_of res
 all_kept : (c : ℕ) (ps : List Piece) → c + 1 < length ps → at_most_one_void c ps ≡ ps
 all_kept c ps l = let other : (length ps == c + 1) ≡ false = grind (arith, nat_tests) in rw other refl
 
-pub frm_crowd : {A : Type 0} (c : ℕ) (rest : Option (List ℕ)) (x : A) (fault : TextKind) → few_of kind_of.Format (c + 1) (fields_of rest) ≡ Err fault → outcome (wrong_fields c 0 0 (Says Frm rest) (fields_of rest)) x ≡ Err fault
+pub frm_crowd : {A : Type 0} (c : ℕ) (rest : Option (List ℕ)) (x : A) (fault : TextKind) →
+    few_of kind_of.Format (c + 1) (fields_of rest) ≡ Err fault → outcome (wrong_fields c 0 0 (Says Frm rest) (fields_of rest)) x ≡ Err fault
 frm_crowd c rest x fault e = elim (few_fault kind_of.Format (c + 1) (fields_of rest) fault e) [
   | broken n f ↦ rw (n, f) refl
   | wrong ps s l r f ↦
-      let formats : list_all (may_stand kind_of.Format) (at_most_one_void c ps) ≡ false = ap (list_all (may_stand kind_of.Format)) (all_kept c ps l) ∙ sym (right_all kind_of.Format (λ p. refl) ps) ∙ r in
+      let formats : list_all (may_stand kind_of.Format) (at_most_one_void c ps) ≡ false =
+      ap (list_all (may_stand kind_of.Format)) (all_kept c ps l) ∙ sym (right_all kind_of.Format (λ p. refl) ps) ∙ r in
       rw (s, f, formats) refl
   | crowded ps s l r f ↦
-      let formats : list_all (may_stand kind_of.Format) (at_most_one_void c ps) ≡ true = ap (list_all (may_stand kind_of.Format)) (all_kept c ps l) ∙ sym (right_all kind_of.Format (λ p. refl) ps) ∙ r in
+      let formats : list_all (may_stand kind_of.Format) (at_most_one_void c ps) ≡ true =
+      ap (list_all (may_stand kind_of.Format)) (all_kept c ps l) ∙ sym (right_all kind_of.Format (λ p. refl) ps) ∙ r in
       let other : (length ps == c) ≡ false = grind (arith, nat_tests) in
       let number : (length (at_most_one_void c ps) == c) ≡ false = ap (λ t. length t == c) (all_kept c ps l) ∙ other in
       rw (s, f, formats, number) refl
 ]
 
 -- `end` and `eof`
-pub count_crowd : (number : ℕ) (rest : Option (List ℕ)) (fault : TextKind) → few_of kind_of.Count 1 (fields_of rest) ≡ Err fault → count_of number (fields_of rest) ≡ Err fault
+pub count_crowd : (number : ℕ) (rest : Option (List ℕ)) (fault : TextKind) → few_of kind_of.Count 1 (fields_of rest) ≡ Err fault →
+    count_of number (fields_of rest) ≡ Err fault
 count_crowd number rest fault e = elim (few_fault kind_of.Count 1 (fields_of rest) fault e) [
   | broken n f ↦ rw (n, f) refl
   | wrong ps s l r f ↦

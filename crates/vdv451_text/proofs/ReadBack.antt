@@ -76,11 +76,13 @@ ended_lines (line ∷ lines) = line ++ (crlf ++ ended_lines lines)
 
 ended_append : (xs ys : List (List ℕ)) → ended_lines (xs ++ ys) ≡ ended_lines xs ++ ended_lines ys
 ended_append [] ys = refl
-ended_append (x ∷ xs) ys = ap (λ (t : List ℕ). x ++ (crlf ++ t)) (ended_append xs ys) ∙ sym (append_assoc x (crlf ++ ended_lines xs) (ended_lines ys))
+ended_append (x ∷ xs) ys =
+    ap (λ (t : List ℕ). x ++ (crlf ++ t)) (ended_append xs ys) ∙ sym (append_assoc x (crlf ++ ended_lines xs) (ended_lines ys))
 
 rows_ended : (rows : List (List Field)) → flat_map (row_text crlf) rows ≡ ended_lines (map row_line rows)
 rows_ended [] = refl
-rows_ended (row ∷ rows) = append_assoc (row_line row) crlf (flat_map (row_text crlf) rows) ∙ ap (λ (t : List ℕ). row_line row ++ (crlf ++ t)) (rows_ended rows)
+rows_ended (row ∷ rows) =
+    append_assoc (row_line row) crlf (flat_map (row_text crlf) rows) ∙ ap (λ (t : List ℕ). row_line row ++ (crlf ++ t)) (rows_ended rows)
 
 table_ended : (table : Table) → table_text crlf table ≡ ended_lines (table_lines table)
 table_ended table =
@@ -89,17 +91,23 @@ table_ended table =
     let c = frm_bytes table in
     let rows = map row_line table.rows in
     let e = end_bytes table in
-    ap (λ (t : List ℕ). (a ++ crlf) ++ (b ++ crlf) ++ (c ++ crlf) ++ t ++ (e ++ crlf)) (rows_ended table.rows) ∙ joined a b c (ended_lines rows) e ∙ sym (ap (λ (t : List ℕ). a ++ (crlf ++ (b ++ (crlf ++ (c ++ (crlf ++ t)))))) (ended_append rows (e ∷ [])))
+    ap (λ (t : List ℕ). (a ++ crlf) ++ (b ++ crlf) ++ (c ++ crlf) ++ t ++ (e ++ crlf)) (rows_ended table.rows)
+    ∙ joined a b c (ended_lines rows) e
+    ∙ sym (ap (λ (t : List ℕ). a ++ (crlf ++ (b ++ (crlf ++ (c ++ (crlf ++ t)))))) (ended_append rows (e ∷ [])))
   where
-    joined : (a b c r e : List ℕ) → (a ++ crlf) ++ (b ++ crlf) ++ (c ++ crlf) ++ r ++ (e ++ crlf) ≡ a ++ (crlf ++ (b ++ (crlf ++ (c ++ (crlf ++ (r ++ (e ++ crlf)))))))
+    joined : (a b c r e : List ℕ) →
+        (a ++ crlf) ++ (b ++ crlf) ++ (c ++ crlf) ++ r ++ (e ++ crlf) ≡ a ++ (crlf ++ (b ++ (crlf ++ (c ++ (crlf ++ (r ++ (e ++ crlf)))))))
     joined a b c r e = simp append_assoc
 
 tables_ended : (tables : List Table) → flat_map (table_text crlf) tables ≡ ended_lines (tables_lines tables)
 tables_ended [] = refl
-tables_ended (table ∷ tables) = ap (λ (t : List ℕ). t ++ flat_map (table_text crlf) tables) (table_ended table) ∙ ap (λ (t : List ℕ). ended_lines (table_lines table) ++ t) (tables_ended tables) ∙ sym (ended_append (table_lines table) (tables_lines tables))
+tables_ended (table ∷ tables) = ap (λ (t : List ℕ). t ++ flat_map (table_text crlf) tables) (table_ended table)
+    ∙ ap (λ (t : List ℕ). ended_lines (table_lines table) ++ t) (tables_ended tables)
+    ∙ sym (ended_append (table_lines table) (tables_lines tables))
 
 text_ended : (tables : List Table) → text tables ≡ ended_lines (text_lines tables)
-text_ended tables = ap (λ (t : List ℕ). header_text crlf ++ (t ++ (eof_bytes tables ++ crlf))) (tables_ended tables) ∙ sym (ap (λ (t : List ℕ). ended_lines header_lines ++ t) (ended_append (tables_lines tables) (eof_bytes tables ∷ [])))
+text_ended tables = ap (λ (t : List ℕ). header_text crlf ++ (t ++ (eof_bytes tables ++ crlf))) (tables_ended tables)
+    ∙ sym (ap (λ (t : List ℕ). ended_lines header_lines ++ t) (ended_append (tables_lines tables) (eof_bytes tables ∷ [])))
 
 -- Lines without a line end in them are cut again where they end.
 return_goes : (line : List ℕ) → without_return (line ++ 13 ∷ []) ≡ line
@@ -121,7 +129,9 @@ cut_lines : (lines : List (List ℕ)) → list_all has_no_feed lines ≡ true �
 cut_lines [] h = refl
 cut_lines (line ∷ lines) h =
     let w = both_true (has_no_feed line) (list_all has_no_feed lines) h in
-    ap (map without_return) (cut_line line (ended_lines lines) w.0) ∙ ap (λ (t : List ℕ). t ∷ map without_return (cut_at_feeds (ended_lines lines))) (return_goes line) ∙ ap (λ (t : List (List ℕ)). line ∷ t) (cut_lines lines w.1)
+    ap (map without_return) (cut_line line (ended_lines lines) w.0)
+    ∙ ap (λ (t : List ℕ). t ∷ map without_return (cut_at_feeds (ended_lines lines))) (return_goes line)
+    ∙ ap (λ (t : List (List ℕ)). line ∷ t) (cut_lines lines w.1)
 
 -- Each line of a table.
 bares : List (List ℕ) → List Piece
@@ -134,8 +144,10 @@ pub record RightTable (table : Table) : Type 0 where
 number_read : (n : ℕ) → n < 10 ^ 18 → AllRead (decimal n ∷ []) (Bare (decimal n) ∷ [])
 number_read n h = (bare_reads (decimal n) (decimal_bare n (omega arith)), tt)
 
-names_read : (columns : List Head) → list_all is_plain_column columns ≡ true → AllRead (names_in columns) (map (λ (c : Head). Bare c.name) columns)
-    × (all_some (map name_of (map (λ (c : Head). Bare c.name) columns)) ≡ Some (names_in columns)) × (without_void (map (λ (c : Head). Bare c.name) columns) ≡ map (λ (c : Head). Bare c.name) columns)
+names_read : (columns : List Head) → list_all is_plain_column columns ≡ true →
+    AllRead (names_in columns) (map (λ (c : Head). Bare c.name) columns)
+    × (all_some (map name_of (map (λ (c : Head). Bare c.name) columns)) ≡ Some (names_in columns))
+    × (without_void (map (λ (c : Head). Bare c.name) columns) ≡ map (λ (c : Head). Bare c.name) columns)
 names_read [] h = (tt, refl, refl)
 names_read (c ∷ []) h =
     let w = both_true (is_plain_name c.name) (is_format c.format) (both_true (is_plain_column c) true h).0 in
@@ -144,22 +156,34 @@ names_read (c ∷ []) h =
 names_read (c ∷ d ∷ columns) h =
     let w = both_true (is_plain_column c) (list_all is_plain_column (d ∷ columns)) h in
     let n = name_reads c.name (both_true (is_plain_name c.name) (is_format c.format) w.0).0 in
-    let ih = names_read (d ∷ columns) w.1 in
-    ((n.0, ih.0), all_some_more (name_of (Bare c.name)) c.name (map name_of (map (λ (c : Head). Bare c.name) (d ∷ columns))) (names_in (d ∷ columns)) n.1 ih.1, ap (λ (t : List Piece). Bare c.name ∷ t) ih.2)
+    let ih = names_read (d ∷ columns) w.1 in (
+      (n.0, ih.0),
+      all_some_more (name_of (Bare c.name)) c.name (map name_of (map (λ (c : Head). Bare c.name) (d ∷ columns)))
+          (names_in (d ∷ columns)) n.1 ih.1,
+      ap (λ (t : List Piece). Bare c.name ∷ t) ih.2,
+    )
   where
-    all_some_more : (o : Option (List ℕ)) (x : List ℕ) (os : List (Option (List ℕ))) (xs : List (List ℕ)) → o ≡ Some x → all_some os ≡ Some xs → all_some (o ∷ os) ≡ Some (x ∷ xs)
+    all_some_more : (o : Option (List ℕ)) (x : List ℕ) (os : List (Option (List ℕ))) (xs : List (List ℕ)) → o ≡ Some x →
+        all_some os ≡ Some xs → all_some (o ∷ os) ≡ Some (x ∷ xs)
     all_some_more o x os xs e h = rw (e, h) refl
 
-formats_read : (columns : List Head) → list_all is_plain_column columns ≡ true → AllRead (formats_in columns) (map (λ (c : Head). Bare c.format) columns)
-    × (all_some (map format_of (map (λ (c : Head). Bare c.format) columns)) ≡ Some (formats_in columns)) × (length (map (λ (c : Head). Bare c.format) columns) ≡ length (formats_in columns))
+formats_read : (columns : List Head) → list_all is_plain_column columns ≡ true →
+    AllRead (formats_in columns) (map (λ (c : Head). Bare c.format) columns)
+    × (all_some (map format_of (map (λ (c : Head). Bare c.format) columns)) ≡ Some (formats_in columns))
+    × (length (map (λ (c : Head). Bare c.format) columns) ≡ length (formats_in columns))
 formats_read [] h = (tt, refl, refl)
 formats_read (c ∷ columns) h =
     let w = both_true (is_plain_column c) (list_all is_plain_column columns) h in
     let n = format_reads c.format (both_true (is_plain_name c.name) (is_format c.format) w.0).1 in
-    let ih = formats_read columns w.1 in
-    ((n.0, ih.0), all_some_more (format_of (Bare c.format)) c.format (map format_of (map (λ (c : Head). Bare c.format) columns)) (formats_in columns) n.1 ih.1, ap suc ih.2)
+    let ih = formats_read columns w.1 in (
+      (n.0, ih.0),
+      all_some_more (format_of (Bare c.format)) c.format (map format_of (map (λ (c : Head). Bare c.format) columns))
+          (formats_in columns) n.1 ih.1,
+      ap suc ih.2,
+    )
   where
-    all_some_more : (o : Option (List ℕ)) (x : List ℕ) (os : List (Option (List ℕ))) (xs : List (List ℕ)) → o ≡ Some x → all_some os ≡ Some xs → all_some (o ∷ os) ≡ Some (x ∷ xs)
+    all_some_more : (o : Option (List ℕ)) (x : List ℕ) (os : List (Option (List ℕ))) (xs : List (List ℕ)) → o ≡ Some x →
+        all_some os ≡ Some xs → all_some (o ∷ os) ≡ Some (x ∷ xs)
     all_some_more o x os xs e h = rw (e, h) refl
 
 -- the pieces of a row
@@ -169,7 +193,8 @@ record RowRead (columns : List Head) (row : List Field) : Type 0 where
   values : values_of columns pieces ≡ Some row
   many : length pieces ≡ length columns
 
-row_read : (columns : List Head) (row : List Field) → length columns ≡ length row → list_all (λ pair. is_plain_field pair.0 pair.1) (zip columns row) ≡ true → list_all is_sized_field row ≡ true → RowRead columns row
+row_read : (columns : List Head) (row : List Field) → length columns ≡ length row →
+    list_all (λ pair. is_plain_field pair.0 pair.1) (zip columns row) ≡ true → list_all is_sized_field row ≡ true → RowRead columns row
 row_read [] [] l h s = record { pieces = []; read = tt; values = refl; many = refl }
 row_read [] (v ∷ row) l h s = absurd (omega arith)
 row_read (c ∷ columns) [] l h s = absurd (omega arith)
@@ -178,18 +203,31 @@ row_read (c ∷ columns) (v ∷ row) l h s =
     let z = both_true (is_sized_field v) (list_all is_sized_field row) s in
     let f = field_reads c v w.0 z.0 in
     let ih = row_read columns row (omega arith) w.1 z.1 in
-    record { pieces = f.0 ∷ ih.pieces; read = (f.1.reads, ih.read); values = ap (with_value (value_of c.format f.0)) ih.values ∙ ap (λ (t : Field). Some (t ∷ row)) f.1.value_is; many = ap suc ih.many }
+    record {
+      pieces = f.0 ∷ ih.pieces;
+      read = (f.1.reads, ih.read);
+      values =
+          ap (with_value (value_of c.format f.0)) ih.values ∙ ap (λ (t : Field). Some (t ∷ row)) f.1.value_is;
+      many = ap suc ih.many;
+    }
 
-row_spelled : (columns : List Head) (row : List Field) → is_plain_row columns row ≡ true → list_all is_sized_field row ≡ true → SpellsRow columns (line_of (row_line row)) row × (has_no_feed (row_line row) ≡ true)
+row_spelled : (columns : List Head) (row : List Field) → is_plain_row columns row ≡ true → list_all is_sized_field row ≡ true →
+    SpellsRow columns (line_of (row_line row)) row × (has_no_feed (row_line row) ≡ true)
 row_spelled columns row h s =
     let w = both_true (length columns == length row) (list_all (λ pair. is_plain_field pair.0 pair.1) (zip columns row)) h in
     let same : length columns ≡ length row = grind (arith, nat_tests, w.0) in
     let r = row_read columns row same w.1 s in
     let fields = map field_text row in
-    let here : SpellsRow columns (Says Rec (behind fields)) row = (r.pieces, (behind fields, refl, fields_behind fields r.pieces r.read), ap (values_of columns) (kept_all (length columns) r.pieces r.many) ∙ r.values) in
+    let here : SpellsRow columns (Says Rec (behind fields)) row = (
+      r.pieces,
+      (behind fields, refl, fields_behind fields r.pieces r.read),
+      ap (values_of columns) (kept_all (length columns) r.pieces r.many) ∙ r.values,
+    ) in
     (subst (λ l. SpellsRow columns l row) (sym (rec_line fields)) here, no_feed_spaced (codes "rec") fields r.pieces refl r.read)
 
-rows_spelled : (columns : List Head) (rows : List (List Field)) → list_all (is_plain_row columns) rows ≡ true → list_all (λ row. list_all is_sized_field row) rows ≡ true → SpellsRows columns (map line_of (map row_line rows)) rows × (list_all has_no_feed (map row_line rows) ≡ true)
+rows_spelled : (columns : List Head) (rows : List (List Field)) → list_all (is_plain_row columns) rows ≡ true →
+    list_all (λ row. list_all is_sized_field row) rows ≡ true → SpellsRows columns (map line_of (map row_line rows)) rows
+    × (list_all has_no_feed (map row_line rows) ≡ true)
 rows_spelled columns [] h s = (tt, refl)
 rows_spelled columns (row ∷ rows) h s =
     let w = both_true (is_plain_row columns row) (list_all (is_plain_row columns) rows) h in
@@ -198,7 +236,8 @@ rows_spelled columns (row ∷ rows) h s =
     let ih = rows_spelled columns rows w.1 z.1 in
     ((r.0, ih.0), rw (r.1, ih.1) refl)
 
-no_feed_append : (xs ys : List (List ℕ)) → list_all has_no_feed xs ≡ true → list_all has_no_feed ys ≡ true → list_all has_no_feed (xs ++ ys) ≡ true
+no_feed_append : (xs ys : List (List ℕ)) → list_all has_no_feed xs ≡ true → list_all has_no_feed ys ≡ true →
+    list_all has_no_feed (xs ++ ys) ≡ true
 no_feed_append [] ys h e = e
 no_feed_append (x ∷ xs) ys h e = let w = both_true (has_no_feed x) (list_all has_no_feed xs) h in rw (w.0, no_feed_append xs ys w.1 e) refl
 
@@ -206,12 +245,16 @@ length_names : (columns : List Head) → length (names_in columns) ≡ length co
 length_names [] = refl
 length_names (c ∷ columns) = ap suc (length_names columns)
 
-name_spelled : (name : List ℕ) → is_plain_name name ≡ true → Names (Says Tbl (behind (name ∷ []))) name × (has_no_feed (codes "tbl" ++ spaced (name ∷ [])) ≡ true)
+name_spelled : (name : List ℕ) → is_plain_name name ≡ true →
+    Names (Says Tbl (behind (name ∷ []))) name × (has_no_feed (codes "tbl" ++ spaced (name ∷ [])) ≡ true)
 name_spelled name h =
-    let n = name_reads name h in
-    ((Bare name, (behind (name ∷ []), refl, fields_behind (name ∷ []) (Bare name ∷ []) (n.0, tt)), n.1), no_feed_spaced (codes "tbl") (name ∷ []) (Bare name ∷ []) refl (n.0, tt))
+    let n = name_reads name h in (
+      (Bare name, (behind (name ∷ []), refl, fields_behind (name ∷ []) (Bare name ∷ []) (n.0, tt)), n.1),
+      no_feed_spaced (codes "tbl") (name ∷ []) (Bare name ∷ []) refl (n.0, tt),
+    )
 
-names_spelled : (columns : List Head) → are_plain_columns columns ≡ true → NamesColumns (Says Atr (behind (names_in columns))) (names_in columns) × (has_no_feed (codes "atr" ++ spaced (names_in columns)) ≡ true)
+names_spelled : (columns : List Head) → are_plain_columns columns ≡ true →
+    NamesColumns (Says Atr (behind (names_in columns))) (names_in columns) × (has_no_feed (codes "atr" ++ spaced (names_in columns)) ≡ true)
 names_spelled columns h =
     let w = both_true (not (length columns == 0)) (nat_le (length columns) 200 && list_all is_plain_column columns) h in
     let v = both_true (nat_le (length columns) 200) (list_all is_plain_column columns) w.1 in
@@ -219,15 +262,27 @@ names_spelled columns h =
     let few : length columns ≤ 200 = grind (arith, nat_tests, v.0) in
     let n = names_read columns v.1 in
     let pieces = map (λ (c : Head). Bare c.name) columns in (
-      (pieces, (behind (names_in columns), refl, fields_behind (names_in columns) pieces n.0), ap (λ (t : List Piece). all_some (map name_of t)) n.2 ∙ n.1, omega (arith, length_names columns, some), omega (arith, length_names columns, few)),
+      (
+        pieces,
+        (behind (names_in columns), refl, fields_behind (names_in columns) pieces n.0),
+        ap (λ (t : List Piece). all_some (map name_of t)) n.2 ∙ n.1,
+        omega (arith, length_names columns, some),
+        omega (arith, length_names columns, few),
+      ),
       no_feed_spaced (codes "atr") (names_in columns) pieces refl n.0,
     )
 
-formats_spelled : (columns : List Head) → list_all is_plain_column columns ≡ true → FormatsColumns (Says Frm (behind (formats_in columns))) (formats_in columns) × (has_no_feed (codes "frm" ++ spaced (formats_in columns)) ≡ true)
+formats_spelled : (columns : List Head) → list_all is_plain_column columns ≡ true →
+    FormatsColumns (Says Frm (behind (formats_in columns))) (formats_in columns)
+    × (has_no_feed (codes "frm" ++ spaced (formats_in columns)) ≡ true)
 formats_spelled columns h =
     let n = formats_read columns h in
     let pieces = map (λ (c : Head). Bare c.format) columns in (
-      (pieces, (behind (formats_in columns), refl, fields_behind (formats_in columns) pieces n.0), ap (λ (t : List Piece). all_some (map format_of t)) (kept_all (length (formats_in columns)) pieces n.2) ∙ n.1),
+      (
+        pieces,
+        (behind (formats_in columns), refl, fields_behind (formats_in columns) pieces n.0),
+        ap (λ (t : List Piece). all_some (map format_of t)) (kept_all (length (formats_in columns)) pieces n.2) ∙ n.1,
+      ),
       no_feed_spaced (codes "frm") (formats_in columns) pieces refl n.0,
     )
 
@@ -245,7 +300,8 @@ table_right table h s =
     let rows = rows_spelled table.columns table.rows v.1 z.1 in
     let number = decimal (length table.rows) ∷ [] in
     let counted = decimal_counts End (length table.rows) few in
-    let end_clean = no_feed_spaced (codes "end") number (Bare (decimal (length table.rows)) ∷ []) refl (number_read (length table.rows) few) in
+    let end_clean = no_feed_spaced (codes "end") number (Bare (decimal (length table.rows)) ∷ []) refl
+    (number_read (length table.rows) few) in
     record {
       spells = record {
         tbl = line_of (tbl_bytes table);
@@ -253,32 +309,41 @@ table_right table h s =
         frm = line_of (frm_bytes table);
         recs = map line_of (map row_line table.rows);
         ended = line_of (end_bytes table);
-        parts = ap (λ (t : List Line). line_of (tbl_bytes table) ∷ line_of (atr_bytes table) ∷ line_of (frm_bytes table) ∷ t) (map_append (map row_line table.rows) (end_bytes table ∷ []));
+        parts = ap (λ (t : List Line). line_of (tbl_bytes table) ∷ line_of (atr_bytes table) ∷ line_of (frm_bytes table) ∷ t)
+            (map_append (map row_line table.rows) (end_bytes table ∷ []));
         name = subst (λ l. Names l table.name) (sym (tbl_line (table.name ∷ []))) name.0;
         columns = subst (λ l. NamesColumns l (names_in table.columns)) (sym (atr_line (names_in table.columns))) names.0;
         formats = subst (λ l. FormatsColumns l (formats_in table.columns)) (sym (frm_line (formats_in table.columns))) formats.0;
         rows = rows.0;
         count = subst (λ l. Counts l End (length table.rows)) (sym (end_line number)) counted;
       };
-      no_feed = four_clean (tbl_bytes table) (atr_bytes table) (frm_bytes table) (map row_line table.rows ++ end_bytes table ∷ []) name.1 names.1 formats.1 (no_feed_append (map row_line table.rows) (end_bytes table ∷ []) rows.1 (rw end_clean refl));
+      no_feed = four_clean (tbl_bytes table) (atr_bytes table) (frm_bytes table) (map row_line table.rows ++ end_bytes table ∷ []) name.1
+          names.1 formats.1 (no_feed_append (map row_line table.rows) (end_bytes table ∷ []) rows.1 (rw end_clean refl));
     }
   where
-    four_clean : (a b c : List ℕ) (xs : List (List ℕ)) → has_no_feed a ≡ true → has_no_feed b ≡ true → has_no_feed c ≡ true → list_all has_no_feed xs ≡ true → list_all has_no_feed (a ∷ b ∷ c ∷ xs) ≡ true
+    four_clean : (a b c : List ℕ) (xs : List (List ℕ)) → has_no_feed a ≡ true → has_no_feed b ≡ true → has_no_feed c ≡ true →
+        list_all has_no_feed xs ≡ true → list_all has_no_feed (a ∷ b ∷ c ∷ xs) ≡ true
     four_clean a b c xs p q r s = rw (p, q, r, s) refl
 
-tables_run : (ts tables : List Table) → list_all is_plain_table tables ≡ true → list_all is_sized_table tables ≡ true → (run (Open true ts) (map line_of (tables_lines tables)) ≡ Ok (Open true (ts ++ tables))) × (list_all has_no_feed (tables_lines tables) ≡ true)
+tables_run : (ts tables : List Table) → list_all is_plain_table tables ≡ true → list_all is_sized_table tables ≡ true →
+    (run (Open true ts) (map line_of (tables_lines tables)) ≡ Ok (Open true (ts ++ tables)))
+    × (list_all has_no_feed (tables_lines tables) ≡ true)
 tables_run ts [] h s = (ap (λ (t : List Table). Ok (Open true t)) (sym (append-nil ts)), refl)
 tables_run ts (t ∷ tables) h s =
     let w = both_true (is_plain_table t) (list_all is_plain_table tables) h in
     let z = both_true (is_sized_table t) (list_all is_sized_table tables) s in
     let r = table_right t w.0 z.0 in
     let ih = tables_run (ts ++ t ∷ []) tables w.1 z.1 in (
-      ap (run (Open true ts)) (map_append (table_lines t) (tables_lines tables)) ∙ run_append (Open true ts) (map line_of (table_lines t)) (map line_of (tables_lines tables))
-          ∙ ap (λ (u : Result State TextKind). goes_on u (λ v. run v (map line_of (tables_lines tables)))) (run_table true ts (map line_of (table_lines t)) t r.spells) ∙ ih.0 ∙ ap (λ (u : List Table). Ok (Open true u)) (append_assoc ts (t ∷ []) tables),
+      ap (run (Open true ts)) (map_append (table_lines t) (tables_lines tables))
+          ∙ run_append (Open true ts) (map line_of (table_lines t)) (map line_of (tables_lines tables))
+          ∙ ap (λ (u : Result State TextKind). goes_on u (λ v. run v (map line_of (tables_lines tables))))
+          (run_table true ts (map line_of (table_lines t)) t r.spells) ∙ ih.0
+          ∙ ap (λ (u : List Table). Ok (Open true u)) (append_assoc ts (t ∷ []) tables),
       no_feed_append (table_lines t) (tables_lines tables) r.no_feed ih.1,
     )
 
-all_run : (tables : List Table) → list_all is_plain_table tables ≡ true → list_all is_sized_table tables ≡ true → (b : Bool) × (run start (map line_of (tables_lines tables)) ≡ Ok (Open b tables)) × (list_all has_no_feed (tables_lines tables) ≡ true)
+all_run : (tables : List Table) → list_all is_plain_table tables ≡ true → list_all is_sized_table tables ≡ true →
+    (b : Bool) × (run start (map line_of (tables_lines tables)) ≡ Ok (Open b tables)) × (list_all has_no_feed (tables_lines tables) ≡ true)
 all_run [] h s = (false, refl, refl)
 all_run (t ∷ tables) h s =
     let w = both_true (is_plain_table t) (list_all is_plain_table tables) h in
@@ -286,40 +351,52 @@ all_run (t ∷ tables) h s =
     let r = table_right t w.0 z.0 in
     let ih = tables_run (t ∷ []) tables w.1 z.1 in (
       true,
-      ap (run start) (map_append (table_lines t) (tables_lines tables)) ∙ run_append start (map line_of (table_lines t)) (map line_of (tables_lines tables))
-          ∙ ap (λ (u : Result State TextKind). goes_on u (λ v. run v (map line_of (tables_lines tables)))) (run_table false [] (map line_of (table_lines t)) t r.spells) ∙ ih.0,
+      ap (run start) (map_append (table_lines t) (tables_lines tables))
+          ∙ run_append start (map line_of (table_lines t)) (map line_of (tables_lines tables))
+          ∙ ap (λ (u : Result State TextKind). goes_on u (λ v. run v (map line_of (tables_lines tables))))
+          (run_table false [] (map line_of (table_lines t)) t r.spells) ∙ ih.0,
       no_feed_append (table_lines t) (tables_lines tables) r.no_feed ih.1,
     )
 
 header_runs : run start (map line_of header_lines) ≡ Ok start
 header_runs = refl
 
-body_runs : (tables : List Table) → are_plain tables ≡ true → are_sized tables ≡ true → (run start (map line_of (tables_lines tables ++ eof_bytes tables ∷ [])) ≡ Ok (Ended tables)) × (list_all has_no_feed (tables_lines tables ++ eof_bytes tables ∷ []) ≡ true)
+body_runs : (tables : List Table) → are_plain tables ≡ true → are_sized tables ≡ true →
+    (run start (map line_of (tables_lines tables ++ eof_bytes tables ∷ [])) ≡ Ok (Ended tables))
+    × (list_all has_no_feed (tables_lines tables ++ eof_bytes tables ∷ []) ≡ true)
 body_runs tables h s =
     let z = both_true (nat_lt (length tables) (10 ^ 18)) (list_all is_sized_table tables) s in
     let few : length tables < 10 ^ 18 = grind (arith, nat_tests, z.0) in
     let number = decimal (length tables) ∷ [] in
     let w = all_run tables h z.1 in
     let eof : line_of (eof_bytes tables) ≡ Says Eof (behind number) = eof_line number in
-    let clean : has_no_feed (eof_bytes tables) ≡ true = no_feed_spaced (codes "eof") number (Bare (decimal (length tables)) ∷ []) refl (number_read (length tables) few) in
-    let last : run (Open w.0 tables) (map line_of (eof_bytes tables ∷ [])) ≡ Ok (Ended tables) = ap (λ (l : Line). run (Open w.0 tables) (l ∷ [])) eof ∙ ap (λ (r : Result State TextKind). goes_on r (λ v. Ok v)) (eof_step w.0 tables (Says Eof (behind number)) (decimal_counts Eof (length tables) few)) in (
-      ap (run start) (map_append (tables_lines tables) (eof_bytes tables ∷ [])) ∙ run_append start (map line_of (tables_lines tables)) (map line_of (eof_bytes tables ∷ []))
+    let clean : has_no_feed (eof_bytes tables) ≡ true =
+    no_feed_spaced (codes "eof") number (Bare (decimal (length tables)) ∷ []) refl (number_read (length tables) few) in
+    let last : run (Open w.0 tables) (map line_of (eof_bytes tables ∷ [])) ≡ Ok (Ended tables) =
+    ap (λ (l : Line). run (Open w.0 tables) (l ∷ [])) eof
+    ∙ ap (λ (r : Result State TextKind). goes_on r (λ v. Ok v))
+    (eof_step w.0 tables (Says Eof (behind number)) (decimal_counts Eof (length tables) few)) in (
+      ap (run start) (map_append (tables_lines tables) (eof_bytes tables ∷ []))
+          ∙ run_append start (map line_of (tables_lines tables)) (map line_of (eof_bytes tables ∷ []))
           ∙ ap (λ (u : Result State TextKind). goes_on u (λ v. run v (map line_of (eof_bytes tables ∷ [])))) w.1 ∙ last,
       no_feed_append (tables_lines tables) (eof_bytes tables ∷ []) w.2 (rw clean refl),
     )
 
 lines_again : (tables : List Table) → are_plain tables ≡ true → are_sized tables ≡ true → lines_of (text tables) ≡ text_lines tables
-lines_again tables h s = ap (λ (t : List ℕ). map without_return (cut_at_feeds t)) (text_ended tables) ∙ cut_lines (text_lines tables) (body_runs tables h s).1
+lines_again tables h s =
+    ap (λ (t : List ℕ). map without_return (cut_at_feeds t)) (text_ended tables) ∙ cut_lines (text_lines tables) (body_runs tables h s).1
 
 -- What is written is read back.
 pub text_back : (tables : List Table) → are_plain tables ≡ true → are_sized tables ≡ true → Spells (lines_of (text tables)) tables
 text_back tables h s =
     let body = tables_lines tables ++ eof_bytes tables ∷ [] in
-    let runs : run_lines (text_lines tables) ≡ Ok (Ended tables) = ap (run start) (map_append header_lines body) ∙ run_append start (map line_of header_lines) (map line_of body)
+    let runs : run_lines (text_lines tables) ≡ Ok (Ended tables) =
+    ap (run start) (map_append header_lines body) ∙ run_append start (map line_of header_lines) (map line_of body)
     ∙ ap (λ (u : Result State TextKind). goes_on u (λ v. run v (map line_of body))) header_runs ∙ (body_runs tables h s).0 in
     subst (λ lines. Spells lines tables) (sym (lines_again tables h s)) (run_spells (text_lines tables) tables runs)
 
-pub back_clause : {E : Type 0} (tables : List Table) (r : Result (List ℕ) E) → IfOk r (λ bytes. bytes ≡ text tables) → IsTrue (are_plain tables) → OnOk r (IsTrue (are_sized tables)) → IfOk r (λ bytes. Spells (lines_of bytes) tables)
+pub back_clause : {E : Type 0} (tables : List Table) (r : Result (List ℕ) E) → IfOk r (λ bytes. bytes ≡ text tables) →
+    IsTrue (are_plain tables) → OnOk r (IsTrue (are_sized tables)) → IfOk r (λ bytes. Spells (lines_of bytes) tables)
 back_clause tables (Ok bytes) e h s = subst (λ b. Spells (lines_of b) tables) (sym e) (text_back tables h s)
 back_clause tables (Err x) e h s = tt
 
@@ -327,10 +404,13 @@ back_clause tables (Err x) e h s = tt
 spelled_once : (lines : List (List ℕ)) (tables others : List Table) → Spells lines tables → Spells lines others → others ≡ tables
 spelled_once lines tables others a b = let p = spells_run lines tables a in let q = spells_run lines others b in cc (p, q)
 
-pub only_clause : {E : Type 0} (tables others : List Table) (r : Result (List ℕ) E) → IfOk r (λ bytes. Spells (lines_of bytes) tables) → IfOk r (λ bytes. Spells (lines_of bytes) others → others ≡ tables)
+pub only_clause : {E : Type 0} (tables others : List Table) (r : Result (List ℕ) E) → IfOk r (λ bytes. Spells (lines_of bytes) tables) →
+    IfOk r (λ bytes. Spells (lines_of bytes) others → others ≡ tables)
 only_clause tables others (Ok bytes) a = λ b. spelled_once (lines_of bytes) tables others a b
 only_clause tables others (Err x) a = tt
 
-pub one_clause : {E : Type 0} (tables others : List Table) (r : Result (List ℕ) E) → IsTrue (are_plain others) → IsTrue (are_sized others) → IfOk r (λ bytes. Spells (lines_of bytes) tables) → IfOk r (λ bytes. bytes ≡ text others → others ≡ tables)
-one_clause tables others (Ok bytes) h s a = λ e. spelled_once (lines_of bytes) tables others a (subst (λ b. Spells (lines_of b) others) (sym e) (text_back others h s))
+pub one_clause : {E : Type 0} (tables others : List Table) (r : Result (List ℕ) E) → IsTrue (are_plain others) → IsTrue (are_sized others) →
+    IfOk r (λ bytes. Spells (lines_of bytes) tables) → IfOk r (λ bytes. bytes ≡ text others → others ≡ tables)
+one_clause tables others (Ok bytes) h s a =
+    λ e. spelled_once (lines_of bytes) tables others a (subst (λ b. Spells (lines_of b) others) (sym e) (text_back others h s))
 one_clause tables others (Err x) h s a = tt

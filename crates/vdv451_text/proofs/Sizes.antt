@@ -44,10 +44,18 @@ kept_size p (line ∷ lines) =
 
 counting_size : (bytes : List ℕ) → length (counting (lines_of bytes)) ≤ length bytes
 counting_size bytes =
-    omega (arith, kept_size counts (map line_of (lines_of bytes)), length-map (lines_of bytes) line_of, length-map (cut_at_feeds (without_mark bytes)) without_return, cut_size (without_mark bytes), mark_size bytes)
+    omega (
+      arith,
+      kept_size counts (map line_of (lines_of bytes)),
+      length-map (lines_of bytes) line_of,
+      length-map (cut_at_feeds (without_mark bytes)) without_return,
+      cut_size (without_mark bytes),
+      mark_size bytes,
+    )
 
 -- a line for each row
-rows_size : (columns : List Head) (lines : List Line) (rows : List (List Field)) → SpellsRows columns lines rows → length rows ≡ length lines
+rows_size : (columns : List Head) (lines : List Line) (rows : List (List Field)) → SpellsRows columns lines rows →
+    length rows ≡ length lines
 rows_size columns [] [] spelled = refl
 rows_size columns (line ∷ lines) (row ∷ rows) spelled = omega (arith, rows_size columns lines rows spelled.1)
 rows_size columns [] (row ∷ rows) spelled = absurd spelled
@@ -55,10 +63,17 @@ rows_size columns (line ∷ lines) [] spelled = absurd spelled
 
 table_size : (lines : List Line) (table : Table) → SpellsTable lines table → length table.rows ≤ length lines
 table_size lines table spelled =
-    let all : length lines ≡ length (spelled.tbl ∷ spelled.atr ∷ spelled.frm ∷ spelled.recs ++ spelled.ended ∷ []) = ap (λ (ls : List Line). length ls) spelled.parts in
-    omega (arith, all, length-append (spelled.tbl ∷ spelled.atr ∷ spelled.frm ∷ spelled.recs) (spelled.ended ∷ []), rows_size table.columns spelled.recs table.rows spelled.rows)
+    let all : length lines ≡ length (spelled.tbl ∷ spelled.atr ∷ spelled.frm ∷ spelled.recs ++ spelled.ended ∷ []) =
+    ap (λ (ls : List Line). length ls) spelled.parts in
+    omega (
+      arith,
+      all,
+      length-append (spelled.tbl ∷ spelled.atr ∷ spelled.frm ∷ spelled.recs) (spelled.ended ∷ []),
+      rows_size table.columns spelled.recs table.rows spelled.rows,
+    )
 
-tables_size : (most : ℕ) (lines : List Line) (tables : List Table) → length lines ≤ most → SpellsTables lines tables → All (λ table. length table.rows ≤ most) tables
+tables_size : (most : ℕ) (lines : List Line) (tables : List Table) → length lines ≤ most → SpellsTables lines tables →
+    All (λ table. length table.rows ≤ most) tables
 tables_size most lines [] few spelled = λ k d within. absurd (omega (arith, within))
 tables_size most lines (table ∷ tables) few (first, others, parts, one, more) =
     let all : length lines ≡ length first + length others = ap (λ (ls : List Line). length ls) parts ∙ length-append first others in
@@ -69,14 +84,17 @@ tables_size most lines (table ∷ tables) few (first, others, parts, one, more) 
       | suc j ↦ λ d within. rest j d (omega (arith, within))
     ]
 
-pub given_sizes : (most : ℕ) (bytes : List ℕ) (tables : List Table) → most ≤ 4294967294 → Gives most bytes tables → All (λ table. length table.rows < 2 ^ 32) tables
+pub given_sizes : (most : ℕ) (bytes : List ℕ) (tables : List Table) → most ≤ 4294967294 → Gives most bytes tables →
+    All (λ table. length table.rows < 2 ^ 32) tables
 given_sizes most bytes tables small (few, spelled) =
-    let whole : length (counting (lines_of bytes)) ≡ length (spelled.header ++ spelled.body) + 1 = ap (λ (ls : List Line). length ls) spelled.parts ∙ length-append (spelled.header ++ spelled.body) (spelled.eof ∷ []) in
+    let whole : length (counting (lines_of bytes)) ≡ length (spelled.header ++ spelled.body) + 1 =
+    ap (λ (ls : List Line). length ls) spelled.parts ∙ length-append (spelled.header ++ spelled.body) (spelled.eof ∷ []) in
     let body : length spelled.body ≤ most = omega (arith, whole, length-append spelled.header spelled.body, counting_size bytes, few) in
     let all = tables_size most spelled.body tables body spelled.tables_lines in
     λ k d within. omega (arith, all k d within, small)
 
 -- the same of the answer of reading a file
-pub sized_clause : (most : ℕ) (bytes : List ℕ) (r : Result (List Table) TextFault) → most ≤ 4294967294 → IfOk r (λ tables. Gives most bytes tables) → IfOk r (λ tables. All (λ table. length table.rows < 2 ^ 32) tables)
+pub sized_clause : (most : ℕ) (bytes : List ℕ) (r : Result (List Table) TextFault) → most ≤ 4294967294 →
+    IfOk r (λ tables. Gives most bytes tables) → IfOk r (λ tables. All (λ table. length table.rows < 2 ^ 32) tables)
 sized_clause most bytes (Ok tables) small given = given_sizes most bytes tables small given
 sized_clause most bytes (Err e) small given = tt

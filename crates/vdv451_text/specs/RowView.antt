@@ -32,7 +32,8 @@ row_of (column ∷ columns) (Some (p ∷ ps)) = ok_map (λ row. value_of column.
 -- one count, and whether it is this number
 abbrev pub count_of : ℕ → Option (List Piece) → Result Bool TextKind
 count_of number None = Err kinds.Field
-count_of number (Some ps) = outcome (if_wrong (not (list_all is_count ps)) kinds.Field (if_wrong (not (length ps == 1)) kinds.Count None)) (stated ps == number)
+count_of number (Some ps) =
+    outcome (if_wrong (not (list_all is_count ps)) kinds.Field (if_wrong (not (length ps == 1)) kinds.Count None)) (stated ps == number)
 
 -- why a line may not stand where the tables have begun
 abbrev pub misplaced_kind : Keyword → TextKind

@@ -14,5 +14,6 @@ pub refusal_same : (faults all : List TableFault) (refusal : Refusal) → faults
 refusal_same faults all refusal same given = subst (λ fs. IsRefusal fs refusal) same given
 
 -- where nothing is wrong before
-pub refusal_after : (front rest : List TableFault) (refusal : Refusal) → front ≡ [] → IsRefusal rest refusal → IsRefusal (front ++ rest) refusal
+pub refusal_after : (front rest : List TableFault) (refusal : Refusal) → front ≡ [] → IsRefusal rest refusal →
+    IsRefusal (front ++ rest) refusal
 refusal_after front rest refusal none given = subst (λ fs. IsRefusal (fs ++ rest) refusal) (sym none) given

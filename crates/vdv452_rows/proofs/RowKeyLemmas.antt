@@ -22,7 +22,8 @@ numbers_back : (cells : List Cell) → IfSome (numbers_of cells) (λ ns. map Num
 numbers_back [] = refl
 numbers_back (Number n ∷ cells) = step (numbers_of cells) (numbers_back cells)
   where
-    step : (found : Option (List ℕ)) → IfSome found (λ ns. map Number ns ≡ cells) → IfSome (option_map (λ ns. n ∷ ns) found) (λ ns. map Number ns ≡ Number n ∷ cells)
+    step : (found : Option (List ℕ)) → IfSome found (λ ns. map Number ns ≡ cells) →
+        IfSome (option_map (λ ns. n ∷ ns) found) (λ ns. map Number ns ≡ Number n ∷ cells)
     step None back = tt
     step (Some ns) back = ap (λ cs. Number n ∷ cs) back
 numbers_back (Nothing ∷ cells) = tt
@@ -69,8 +70,10 @@ trip_back (Number n ∷ Long m ∷ cell ∷ cells) e = absurd (too_long (Number 
 pub cells_back : (cells : List Cell) → cells_of (short cells) ≡ cells
 cells_back cells = by (is_trip cells) (trip_back cells) (nat_le (length cells) 7) (numbers_of cells) (numbers_back cells)
   where
-    by : (trip : Bool) → (trip ≡ true → Number (number_at cells 0) ∷ Long (long_at cells 1) ∷ [] ≡ cells) → (few : Bool) (found : Option (List ℕ)) → IfSome found (λ ns. map Number ns ≡ cells)
-        → cells_of (if trip then Trip (number_at cells 0) (long_at cells 1) else (if few then key_of_numbers found cells else Cells cells)) ≡ cells
+    by : (trip : Bool) → (trip ≡ true → Number (number_at cells 0) ∷ Long (long_at cells 1) ∷ [] ≡ cells) →
+        (few : Bool) (found : Option (List ℕ)) → IfSome found (λ ns. map Number ns ≡ cells)
+        → cells_of (if trip then Trip (number_at cells 0) (long_at cells 1) else (if few then key_of_numbers found cells else Cells cells))
+        ≡ cells
     by true back few found numbers = back refl
     by false back true None numbers = refl
     by false back true (Some ns) numbers = numbers
@@ -114,9 +117,11 @@ both_true : (p q : Bool) → p ≡ true → q ≡ true → (p && q) ≡ true
 both_true true q p_is q_is = q_is
 both_true false q p_is q_is = absurd cc
 
-trips_decide : (v f v' f' : ℕ) → (key_eq (Trip v f) (Trip v' f') ≡ true → Trip v f ≡ Trip v' f') × (Trip v f ≡ Trip v' f' → key_eq (Trip v f) (Trip v' f') ≡ true)
+trips_decide : (v f v' f' : ℕ) → (key_eq (Trip v f) (Trip v' f') ≡ true → Trip v f ≡ Trip v' f')
+    × (Trip v f ≡ Trip v' f' → key_eq (Trip v f) (Trip v' f') ≡ true)
 trips_decide v f v' f' = (
-  λ e. λ i. Trip ((unsigned_Decides v v').0 (first_true (v == v') (f == f') e) i) ((unsigned_Decides f f').0 (second_true (v == v') (f == f') e) i),
+  λ e. λ i. Trip ((unsigned_Decides v v').0 (first_true (v == v') (f == f') e) i)
+      ((unsigned_Decides f f').0 (second_true (v == v') (f == f') e) i),
   λ e. both_true (v == v') (f == f') ((unsigned_Decides v v').1 cc) ((unsigned_Decides f f').1 cc),
 )
 
@@ -144,12 +149,15 @@ short_same cells key is_short =
     (λ e. (cells_decide cells (cells_of key)).1 (sym (cells_back cells) ∙ ap cells_of ((key_decides (short cells) key).0 e)))
     (λ e. (key_decides (short cells) key).1 (ap short ((cells_decide cells (cells_of key)).0 e) ∙ is_short))
 
-pub any_short : (same : RowKey → RowKey → Bool) → ((x y : RowKey) → same x y ≡ key_eq x y) → (cells : List Cell) (keys : List RowKey) → All IsShort keys → list_any (same (short cells)) keys ≡ list_any (same_cells cells) (map cells_of keys)
+pub any_short : (same : RowKey → RowKey → Bool) → ((x y : RowKey) → same x y ≡ key_eq x y) → (cells : List Cell) (keys : List RowKey) →
+    All IsShort keys → list_any (same (short cells)) keys ≡ list_any (same_cells cells) (map cells_of keys)
 any_short same agrees cells [] all_short = refl
 any_short same agrees cells (key ∷ keys) all_short =
-    λ i. (agrees (short cells) key ∙ short_same cells key (All-head IsShort key keys all_short)) i || any_short same agrees cells keys (All-tail IsShort key keys all_short) i
+    λ i. (agrees (short cells) key ∙ short_same cells key (All-head IsShort key keys all_short)) i
+    || any_short same agrees cells keys (All-tail IsShort key keys all_short) i
 
-module _ (same : RowKey → RowKey → Bool) (keys after : List RowKey) (key : RowKey) (cells : List Cell) (is : key ≡ short cells) (after_is : after ≡ insert_key same keys key) where
+module _ (same : RowKey → RowKey → Bool) (keys after : List RowKey) (key : RowKey) (cells : List Cell) (is : key ≡ short cells)
+    (after_is : after ≡ insert_key same keys key) where
   -- the keys stay short
   pub still_short : All IsShort keys → All IsShort after
   still_short all_short = subst (All IsShort) (sym after_is) (by (list_any (same key) keys))

@@ -78,7 +78,8 @@ when false x = []
 
 -- a column of the schema that must be there, and that no column of the table has the name of
 abbrev pub missing_column : List ℕ → List Head → Column → List TableFault
-missing_column table heads column = if column.may_be_missing then [] else when (is_none (place_of column.name heads)) (fault kinds.NoColumn table column.name 0)
+missing_column table heads column =
+    if column.may_be_missing then [] else when (is_none (place_of column.name heads)) (fault kinds.NoColumn table column.name 0)
 
 abbrev pub missing_columns : Schema → Table → List TableFault
 missing_columns s table = flat_map (missing_column s.name table.columns) s.columns
@@ -110,7 +111,8 @@ row_fault s table before place row = cell_faults s table place row ++ key_fault 
 -- row by row, counted from `place`
 abbrev pub row_faults : Schema → Table → List (List Cell) → ℕ → List (List Field) → List TableFault
 row_faults s table before place [] = []
-row_faults s table before place (row ∷ rows) = row_fault s table before place row ++ row_faults s table (before ++ own_key (key_of s table row)) (place + 1) rows
+row_faults s table before place (row ∷ rows) =
+    row_fault s table before place row ++ row_faults s table (before ++ own_key (key_of s table row)) (place + 1) rows
 
 -- A table that must be there is there, it has all columns that must be there, and its rows are right.
 abbrev pub faults_in : Schema → Option Table → List TableFault

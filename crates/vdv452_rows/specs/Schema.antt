@@ -78,7 +78,8 @@ sections =
     needed
     (codes "REC_SEL")
     (
-    key (codes "BASIS_VERSION") ∷ key (codes "BEREICH_NR") ∷ key (codes "ONR_TYP_NR") ∷ key (codes "ORT_NR") ∷ key (codes "SEL_ZIEL") ∷ key (codes "SEL_ZIEL_TYP")
+    key (codes "BASIS_VERSION") ∷ key (codes "BEREICH_NR") ∷ key (codes "ONR_TYP_NR") ∷ key (codes "ORT_NR") ∷ key (codes "SEL_ZIEL")
+    ∷ key (codes "SEL_ZIEL_TYP")
     ∷ some_metres (codes "SEL_LAENGE") ∷ []
     )
 
@@ -87,7 +88,8 @@ runs =
     needed
     (codes "SEL_FZT_FELD")
     (
-    key (codes "BASIS_VERSION") ∷ key (codes "BEREICH_NR") ∷ key (codes "FGR_NR") ∷ key (codes "ONR_TYP_NR") ∷ key (codes "ORT_NR") ∷ key (codes "SEL_ZIEL")
+    key (codes "BASIS_VERSION") ∷ key (codes "BEREICH_NR") ∷ key (codes "FGR_NR") ∷ key (codes "ONR_TYP_NR")
+    ∷ key (codes "ORT_NR") ∷ key (codes "SEL_ZIEL")
     ∷ key (codes "SEL_ZIEL_TYP") ∷ seconds (codes "SEL_FZT") ∷ []
     )
 
@@ -101,17 +103,20 @@ abbrev pub trip_dwells : Schema
 trip_dwells =
     optional
     (codes "REC_FRT_HZT")
-    (key (codes "BASIS_VERSION") ∷ trip_key (codes "FRT_FID") ∷ key (codes "ONR_TYP_NR") ∷ key (codes "ORT_NR") ∷ seconds (codes "FRT_HZT_ZEIT") ∷ [])
+    (key (codes "BASIS_VERSION") ∷ trip_key (codes "FRT_FID") ∷ key (codes "ONR_TYP_NR") ∷ key (codes "ORT_NR")
+    ∷ seconds (codes "FRT_HZT_ZEIT") ∷ [])
 
 abbrev pub lines : Schema
-lines = needed (codes "REC_LID") (key (codes "BASIS_VERSION") ∷ key (codes "LI_NR") ∷ word_key (codes "STR_LI_VAR") ∷ number (codes "BEREICH_NR") ∷ [])
+lines = needed (codes "REC_LID")
+    (key (codes "BASIS_VERSION") ∷ key (codes "LI_NR") ∷ word_key (codes "STR_LI_VAR") ∷ number (codes "BEREICH_NR") ∷ [])
 
 abbrev pub stops : Schema
 stops =
     needed
     (codes "LID_VERLAUF")
     (
-    key (codes "BASIS_VERSION") ∷ key (codes "LI_LFD_NR") ∷ key (codes "LI_NR") ∷ word_key (codes "STR_LI_VAR") ∷ number (codes "ONR_TYP_NR")
+    key (codes "BASIS_VERSION") ∷ key (codes "LI_LFD_NR") ∷ key (codes "LI_NR") ∷ word_key (codes "STR_LI_VAR")
+    ∷ number (codes "ONR_TYP_NR")
     ∷ number (codes "ORT_NR") ∷ []
     )
 
@@ -120,7 +125,8 @@ trips =
     needed
     (codes "REC_FRT")
     (
-    key (codes "BASIS_VERSION") ∷ trip_key (codes "FRT_FID") ∷ seconds (codes "FRT_START") ∷ number (codes "LI_NR") ∷ number (codes "TAGESART_NR")
+    key (codes "BASIS_VERSION") ∷ trip_key (codes "FRT_FID") ∷ seconds (codes "FRT_START") ∷ number (codes "LI_NR")
+    ∷ number (codes "TAGESART_NR")
     ∷ number (codes "FAHRTART_NR") ∷ number (codes "FGR_NR") ∷ plain (codes "STR_LI_VAR") AnyWord ∷ unseen (codes "UM_UID") ∷ []
     )
 
@@ -172,7 +178,8 @@ drivers =
     needed
     (codes "X_FAHRER")
     (
-    key (codes "GRUPPE_NR") ∷ number (codes "ONR_TYP_NR") ∷ number (codes "ORT_NR") ∷ count (codes "ANZAHL") ∷ fixed_costs (codes "FIX_KOSTEN")
+    key (codes "GRUPPE_NR") ∷ number (codes "ONR_TYP_NR") ∷ number (codes "ORT_NR") ∷ count (codes "ANZAHL")
+    ∷ fixed_costs (codes "FIX_KOSTEN")
     ∷ rate (codes "SATZ") ∷ seconds (codes "ANMELDE_SEK") ∷ seconds (codes "ABMELDE_SEK") ∷ flag (codes "ZEHN_STD")
     ∷ flag (codes "KURZE_RUHE") ∷ []
     )

@@ -61,7 +61,14 @@ line_row row place = record { version = number_at row 0; line = number_at row 1;
 
 -- BASIS_VERSION, LI_LFD_NR, LI_NR, STR_LI_VAR, ONR_TYP_NR, ORT_NR
 abbrev pub stop_row : List Cell → ℕ → StopRow
-stop_row row place = record { version = number_at row 0; number = number_at row 1; line = number_at row 2; variant = word_at row 3; at = point_at row 4 5 }
+stop_row row place = record {
+  version = number_at row 0;
+  number = number_at row 1;
+  line = number_at row 2;
+  variant =
+      word_at row 3;
+  at = point_at row 4 5;
+}
 
 -- BASIS_VERSION, BEREICH_NR, ONR_TYP_NR, ORT_NR, SEL_ZIEL, SEL_ZIEL_TYP, SEL_LAENGE: the target's number comes before its type
 abbrev pub section_row : List Cell → ℕ → SectionRow

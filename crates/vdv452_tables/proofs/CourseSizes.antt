@@ -11,7 +11,8 @@ put_length : (row : StopRow) (rows : List StopRow) → length (put_in_order row 
 put_length row [] = refl
 put_length row (next ∷ rows) = by (nat_lt next.number row.number) (put_length row rows)
   where
-    by : (b : Bool) → length (put_in_order row rows) ≡ suc (length rows) → length (if b then next ∷ put_in_order row rows else row ∷ next ∷ rows) ≡ suc (suc (length rows))
+    by : (b : Bool) → length (put_in_order row rows) ≡ suc (length rows) →
+        length (if b then next ∷ put_in_order row rows else row ∷ next ∷ rows) ≡ suc (suc (length rows))
     by true more = ap suc more
     by false more = refl
 
@@ -24,7 +25,9 @@ points_few key [] = omega arith
 points_few key (row ∷ rows) = by (line_key_eq (stop_key_of row) key) (points_few key rows)
   where
     by : (b : Bool) → length (points_of key rows) ≤ length rows
-        → length (map (λ (r : StopRow). r.at) (if b then row ∷ filter (λ (r : StopRow). line_key_eq (stop_key_of r) key) rows else filter (λ (r : StopRow). line_key_eq (stop_key_of r) key) rows)) ≤ suc (length rows)
+        → length (map (λ (r : StopRow). r.at)
+        (if b then row ∷ filter (λ (r : StopRow). line_key_eq (stop_key_of r) key) rows else filter
+        (λ (r : StopRow). line_key_eq (stop_key_of r) key) rows)) ≤ suc (length rows)
     by true few = omega (arith, few)
     by false few = omega (arith, few)
 

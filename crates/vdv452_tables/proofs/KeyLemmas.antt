@@ -31,7 +31,8 @@ second_false : (a b : Bool) → (a || b) ≡ false → b ≡ false
 second_false true b none = absurd cc
 second_false false b none = none
 
-none_passes : {A : Type 0} (test : A → Bool) (xs : List A) → list_any test xs ≡ false → (k : ℕ) (d : A) → k < length xs → test (get_or xs k d) ≡ false
+none_passes : {A : Type 0} (test : A → Bool) (xs : List A) → list_any test xs ≡ false → (k : ℕ) (d : A) → k < length xs →
+    test (get_or xs k d) ≡ false
 none_passes test [] none k d within = absurd (omega arith)
 none_passes test (x ∷ xs) none zero d within = first_false (test x) (list_any test xs) none
 none_passes test (x ∷ xs) none (suc k) d within = none_passes test xs (second_false (test x) (list_any test xs) none) k d (omega arith)
@@ -40,25 +41,32 @@ abbrev Differs : List Cell → List Cell → Type 0
 Differs earlier later = same_cells later earlier ≡ false
 
 -- a key that is not there twice joins the others
-keyed : (before : List (List Cell)) (key : List Cell) → is_twice before key ≡ false → AllPairs Differs before → AllPairs Differs (before ++ own_key key)
+keyed : (before : List (List Cell)) (key : List Cell) → is_twice before key ≡ false → AllPairs Differs before →
+    AllPairs Differs (before ++ own_key key)
 keyed before [] new own = subst (AllPairs Differs) (sym (append-nil before)) own
-keyed before (cell ∷ cells) new own = all_pairs_push Differs before (cell ∷ cells) own (λ k d within. none_passes (same_cells (cell ∷ cells)) before new k d within)
+keyed before (cell ∷ cells) new own =
+    all_pairs_push Differs before (cell ∷ cells) own (λ k d within. none_passes (same_cells (cell ∷ cells)) before new k d within)
 
 module _ (s : Schema) (table : Table) where
-  own_keys : (before : List (List Cell)) (place : ℕ) (rows : List (List Field)) → row_faults s table before place rows ≡ [] → AllPairs Differs before → AllPairs Differs (before ++ flat_map (λ row. own_key (key_of s table row)) rows)
+  own_keys : (before : List (List Cell)) (place : ℕ) (rows : List (List Field)) → row_faults s table before place rows ≡ [] →
+      AllPairs Differs before → AllPairs Differs (before ++ flat_map (λ row. own_key (key_of s table row)) rows)
   own_keys before place [] none own = subst (AllPairs Differs) (sym (append-nil before)) own
   own_keys before place (row ∷ rows) none own =
       let key : List Cell = key_of s table row in
       let here : row_fault s table before place row ≡ [] = front_empty (row_fault s table before place row) _ none in
       let new : is_twice before key ≡ false = not_when _ _ (rest_empty _ (key_fault s.name place before key) here) in
       let later : AllPairs Differs (before ++ own_key key) = keyed before key new own in
-      subst (AllPairs Differs) (append_assoc before (own_key key) (flat_map (λ r. own_key (key_of s table r)) rows)) (own_keys (before ++ own_key key) (place + 1) rows (rest_empty (row_fault s table before place row) _ none) later)
+      subst (AllPairs Differs) (append_assoc before (own_key key) (flat_map (λ r. own_key (key_of s table r)) rows))
+      (own_keys (before ++ own_key key) (place + 1) rows (rest_empty (row_fault s table before place row) _ none) later)
 
 own_in : (s : Schema) (tables : List Table) (found : Option Table) → faults_in s found ≡ [] → AllPairs Differs (keys_in s found)
 own_in s tables None none = λ i j d below within. absurd (omega arith)
-own_in s tables (Some table) none = own_keys s table [] 1 table.rows (rest_empty (missing_columns s table) _ none) (λ i j d below within. absurd (omega arith))
+own_in s tables (Some table) none =
+    own_keys s table [] 1 table.rows (rest_empty (missing_columns s table) _ none) (λ i j d below within. absurd (omega arith))
 
 pub own_of : (schemas : List Schema) (tables : List Table) → faults_of schemas tables ≡ [] → All (HasOwnKeys tables) schemas
 own_of [] tables none = All-nil _
 own_of (s ∷ schemas) tables none =
-    All-cons (HasOwnKeys tables) s schemas (own_in s tables (table_of s tables) (rest_empty _ (faults_in s (table_of s tables)) (front_empty (table_faults s tables) _ none))) (own_of schemas tables (rest_empty (table_faults s tables) _ none))
+    All-cons (HasOwnKeys tables) s schemas
+    (own_in s tables (table_of s tables) (rest_empty _ (faults_in s (table_of s tables)) (front_empty (table_faults s tables) _ none)))
+    (own_of schemas tables (rest_empty (table_faults s tables) _ none))

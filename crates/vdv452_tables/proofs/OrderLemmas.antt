@@ -53,9 +53,14 @@ put_rises : (row : StopRow) (rows : List StopRow) → Rises rows → Rises (put_
 put_rises row [] rises = (All-nil _, tt)
 put_rises row (next ∷ rows) rises = by (nat_lt next.number row.number) refl (put_rises row rows rises.1)
   where
-    by : (b : Bool) → nat_lt next.number row.number ≡ b → Rises (put_in_order row rows) → Rises (if b then next ∷ put_in_order row rows else row ∷ next ∷ rows)
+    by : (b : Bool) → nat_lt next.number row.number ≡ b → Rises (put_in_order row rows) →
+        Rises (if b then next ∷ put_in_order row rows else row ∷ next ∷ rows)
     by true e later = (put_all (IsAfter next) row rows (omega (arith, lt_from next.number row.number e)) rises.0, later)
-    by false e later = (All-cons (IsAfter row) next rows (not_lt_from next.number row.number e) (λ k d within. omega (arith, rises.0 k d within, not_lt_from next.number row.number e)), rises)
+    by false e later = (
+      All-cons (IsAfter row) next rows (not_lt_from next.number row.number e)
+          (λ k d within. omega (arith, rises.0 k d within, not_lt_from next.number row.number e)),
+      rises,
+    )
 
 in_order_rises : (rows : List StopRow) → Rises (in_order rows)
 in_order_rises [] = tt
@@ -68,8 +73,10 @@ put_level x row (next ∷ rows) = by (nat_lt next.number row.number) refl (put_l
     by_next : (b c : Bool) → level x next ≡ b → level x row ≡ c → nat_lt next.number row.number ≡ true
         → filter (level x) (put_in_order row rows) ≡ (if c then row ∷ filter (level x) rows else filter (level x) rows)
         → (if b then next ∷ filter (level x) (put_in_order row rows) else filter (level x) (put_in_order row rows))
-        ≡ (if c then row ∷ (if b then next ∷ filter (level x) rows else filter (level x) rows) else (if b then next ∷ filter (level x) rows else filter (level x) rows))
-    by_next true true e f below later = absurd (omega (arith, lt_from next.number row.number below, level_number x next e, level_number x row f))
+        ≡ (if c then row ∷ (if b then next ∷ filter (level x) rows else filter (level x) rows) else
+        (if b then next ∷ filter (level x) rows else filter (level x) rows))
+    by_next true true e f below later =
+        absurd (omega (arith, lt_from next.number row.number below, level_number x next e, level_number x row f))
     by_next true false e f below later = ap (λ rs. next ∷ rs) later
     by_next false true e f below later = later
     by_next false false e f below later = later
@@ -146,12 +153,19 @@ one_order (x ∷ xs) (y ∷ ys) rises others same = λ i. first i ∷ one_order 
     later row = by (level row x) refl
       where
         by : (b : Bool) → level row x ≡ b → filter (level row) xs ≡ filter (level row) ys
-        by true e = others_same x y _ _ (sym (ap (λ c. if c then x ∷ filter (level row) xs else filter (level row) xs) e) ∙ same row ∙ ap (λ c. if c then y ∷ filter (level row) ys else filter (level row) ys) (ap (level row) (sym first) ∙ e))
-        by false e = sym (ap (λ c. if c then x ∷ filter (level row) xs else filter (level row) xs) e) ∙ same row ∙ ap (λ c. if c then y ∷ filter (level row) ys else filter (level row) ys) (ap (level row) (sym first) ∙ e)
+        by true e = others_same x y _ _ (sym (ap (λ c. if c then x ∷ filter (level row) xs else filter (level row) xs) e) ∙ same row
+            ∙ ap (λ c. if c then y ∷ filter (level row) ys else filter (level row) ys) (ap (level row) (sym first) ∙ e))
+        by false e = sym (ap (λ c. if c then x ∷ filter (level row) xs else filter (level row) xs) e) ∙ same row
+            ∙ ap (λ c. if c then y ∷ filter (level row) ys else filter (level row) ys) (ap (level row) (sym first) ∙ e)
 
 rises_from : (rows : List StopRow) → IsNonDecreasingBy (λ row. row.number) rows → Rises rows
 rises_from [] sorted = tt
-rises_from (row ∷ rows) sorted = (λ k d within. sorted 0 (suc k) d (omega arith) (omega arith), rises_from rows (λ i j d below within. sorted (suc i) (suc j) d (omega arith) (omega arith)))
+rises_from (row ∷ rows) sorted = (
+  λ k d within. sorted 0 (suc k) d (omega arith) (omega arith),
+  rises_from rows (λ i j d below within. sorted (suc i) (suc j) d (omega arith) (omega arith)),
+)
 
-pub sorted_stops : (rows sorted : List StopRow) → IsNonDecreasingBy (λ row. row.number) sorted → IsStableByKey (λ row. row.number) nat_cmp rows sorted → sorted ≡ in_order rows
-sorted_stops rows sorted rises stable = one_order sorted (in_order rows) (rises_from sorted rises) (in_order_rises rows) (λ row. stable row ∙ sym (in_order_level row rows))
+pub sorted_stops : (rows sorted : List StopRow) → IsNonDecreasingBy (λ row. row.number) sorted →
+    IsStableByKey (λ row. row.number) nat_cmp rows sorted → sorted ≡ in_order rows
+sorted_stops rows sorted rises stable =
+    one_order sorted (in_order rows) (rises_from sorted rises) (in_order_rises rows) (λ row. stable row ∙ sym (in_order_level row rows))

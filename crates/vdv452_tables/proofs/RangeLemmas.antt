@@ -25,7 +25,8 @@ use Rattle.vdv452_rows.specs.Values.{long_in, number_of, some_number}
 
 -- no number of the value is above the domain's greatest one
 abbrev Within : Domain → Option Cell → Type 0
-Within domain found = (number_of (unwrap_or found Nothing) ≤ greatest_in domain) × (long_in (Some (unwrap_or found Nothing)) ≤ greatest_in domain)
+Within domain found = (number_of (unwrap_or found Nothing) ≤ greatest_in domain)
+    × (long_in (Some (unwrap_or found Nothing)) ≤ greatest_in domain)
 
 le_from : (m n : ℕ) → nat_le m n ≡ true → m ≤ n
 le_from m n e = grind (arith, nat_tests)
@@ -61,7 +62,8 @@ empty_within : (domain : Domain) (may_be_empty : Bool) → Within domain (if may
 empty_within domain true = (omega arith, omega arith)
 empty_within domain false = (omega arith, omega arith)
 
-field_within : (column : Column) (field : Field) (b : Bool) → Within column.domain (if b then (if column.may_be_empty then Some Nothing else None) else value_in column.domain field)
+field_within : (column : Column) (field : Field) (b : Bool) →
+    Within column.domain (if b then (if column.may_be_empty then Some Nothing else None) else value_in column.domain field)
 field_within column field true = empty_within column.domain column.may_be_empty
 field_within column field false = value_within column.domain field
 
@@ -86,7 +88,8 @@ module _ (table : Table) (row : List Field) where
   width_of [] = refl
   width_of (column ∷ columns) = ap suc (width_of columns)
 
-  value_fits : (columns : List Column) (place : ℕ) → place < length (map number_of (map (cell_at table row) columns)) → slice_index (map number_of (map (cell_at table row) columns)) place ≤ greatest_at columns place
+  value_fits : (columns : List Column) (place : ℕ) → place < length (map number_of (map (cell_at table row) columns)) →
+      slice_index (map number_of (map (cell_at table row) columns)) place ≤ greatest_at columns place
   value_fits [] place within = absurd (omega arith)
   value_fits (column ∷ columns) zero within = number_at_most column
   value_fits (column ∷ columns) (suc place) within = value_fits columns place (omega arith)
@@ -94,10 +97,12 @@ module _ (table : Table) (row : List Field) where
   fits : (columns : List Column) → Fits columns (map number_of (map (cell_at table row) columns))
   fits columns = record { width = width_of columns; within = value_fits columns }
 
-module _ {A : Type 0} (P : A → Type 0) (row_of : List Cell → ℕ → A) (s : Schema) (each : (table : Table) (row : List Field) (place : ℕ) → P (row_of (cells s table row) place)) where
+module _ {A : Type 0} (P : A → Type 0) (row_of : List Cell → ℕ → A) (s : Schema) (each : (table : Table) (row : List Field) (place : ℕ) →
+    P (row_of (cells s table row) place)) where
   typed_all : (table : Table) (rows : List (List Field)) (place : ℕ) → All P (typed row_of place (map (cells s table) rows))
   typed_all table [] place = All-nil P
-  typed_all table (row ∷ rows) place = All-cons P (row_of (cells s table row) place) _ (each table row place) (typed_all table rows (place + 1))
+  typed_all table (row ∷ rows) place =
+      All-cons P (row_of (cells s table row) place) _ (each table row place) (typed_all table rows (place + 1))
 
   found_all : (found : Option Table) → All P (typed row_of 0 (rows_in s found))
   found_all None = All-nil P
@@ -107,19 +112,23 @@ module _ {A : Type 0} (P : A → Type 0) (row_of : List Cell → ℕ → A) (s :
   rows_all tables = found_all (table_of s tables)
 
 module _ {A : Type 0} (row_of : List Cell → ℕ → A) (s : Schema) where
-  typed_length : (table : Table) (rows : List (List Field)) (place : ℕ) → length (typed row_of place (map (cells s table) rows)) ≡ length rows
+  typed_length : (table : Table) (rows : List (List Field)) (place : ℕ) →
+      length (typed row_of place (map (cells s table) rows)) ≡ length rows
   typed_length table [] place = refl
   typed_length table (row ∷ rows) place = ap suc (typed_length table rows (place + 1))
 
-  found_few : (found : Option Table) → IfSome found (λ table. length table.rows < 2 ^ 32) → length (typed row_of 0 (rows_in s found)) < 2 ^ 32
+  found_few : (found : Option Table) → IfSome found (λ table. length table.rows < 2 ^ 32) →
+      length (typed row_of 0 (rows_in s found)) < 2 ^ 32
   found_few None few = omega arith
   found_few (Some table) few = subst (λ n. n < 2 ^ 32) (sym (typed_length table table.rows 0)) few
 
-  table_few : (tables : List Table) → All (λ table. length table.rows < 2 ^ 32) tables → IfSome (find (has_name s.name) tables) (λ table. length table.rows < 2 ^ 32)
+  table_few : (tables : List Table) → All (λ table. length table.rows < 2 ^ 32) tables →
+      IfSome (find (has_name s.name) tables) (λ table. length table.rows < 2 ^ 32)
   table_few [] few = tt
   table_few (table ∷ tables) few = by (has_name s.name table) (table_few tables (λ k d within. few (suc k) d (omega arith)))
     where
-      by : (b : Bool) → IfSome (find (has_name s.name) tables) (λ t. length t.rows < 2 ^ 32) → IfSome (if b then Some table else find (has_name s.name) tables) (λ t. length t.rows < 2 ^ 32)
+      by : (b : Bool) → IfSome (find (has_name s.name) tables) (λ t. length t.rows < 2 ^ 32) →
+          IfSome (if b then Some table else find (has_name s.name) tables) (λ t. length t.rows < 2 ^ 32)
       by true later = few 0 table (omega arith)
       by false later = later
 
@@ -133,8 +142,10 @@ pub ranges_of : (needs : Needs) (tables : List Table) → All (λ table. length 
 ranges_of needs.Calendar tables few = record {
   few_trips = rows_few trip_row schema.trips tables few;
   few_stops = omega arith;
-  starts = rows_all (λ row. IsTime row.start) trip_row schema.trips (λ table row place. number_at_most table row (schema.seconds (codes "FRT_START"))) tables;
-  fids = rows_all (λ row. row.fid ≤ 1000000000000000000) trip_row schema.trips (λ table row place. long_at_most table row (schema.trip_key (codes "FRT_FID"))) tables;
+  starts = rows_all (λ row. IsTime row.start) trip_row schema.trips
+      (λ table row place. number_at_most table row (schema.seconds (codes "FRT_START"))) tables;
+  fids = rows_all (λ row. row.fid ≤ 1000000000000000000) trip_row schema.trips
+      (λ table row place. long_at_most table row (schema.trip_key (codes "FRT_FID"))) tables;
   lengths = All-nil _;
   runs = All-nil _;
   group_dwells = All-nil _;
@@ -150,13 +161,21 @@ ranges_of needs.Calendar tables few = record {
 ranges_of needs.All tables few = record {
   few_trips = rows_few trip_row schema.trips tables few;
   few_stops = rows_few stop_row schema.stops tables few;
-  starts = rows_all (λ row. IsTime row.start) trip_row schema.trips (λ table row place. number_at_most table row (schema.seconds (codes "FRT_START"))) tables;
-  fids = rows_all (λ row. row.fid ≤ 1000000000000000000) trip_row schema.trips (λ table row place. long_at_most table row (schema.trip_key (codes "FRT_FID"))) tables;
-  lengths = rows_all (λ row. IfSome row.length IsLength) section_row schema.sections (λ table row place. some_within (cell_at table row (schema.some_metres (codes "SEL_LAENGE"))) 1000000 (number_at_most table row (schema.some_metres (codes "SEL_LAENGE")))) tables;
-  runs = rows_all (λ row. IsTime row.time) run_row schema.runs (λ table row place. number_at_most table row (schema.seconds (codes "SEL_FZT"))) tables;
-  group_dwells = rows_all (λ row. IsTime row.time) group_dwell_row schema.group_dwells (λ table row place. number_at_most table row (schema.seconds (codes "HP_HZT"))) tables;
-  trip_dwells = rows_all (λ row. IsTime row.time) trip_dwell_row schema.trip_dwells (λ table row place. number_at_most table row (schema.seconds (codes "FRT_HZT_ZEIT"))) tables;
-  deads = rows_all (λ row. IsTime row.time) dead_row schema.deads (λ table row place. number_at_most table row (schema.seconds (codes "UEB_FAHRZEIT"))) tables;
+  starts = rows_all (λ row. IsTime row.start) trip_row schema.trips
+      (λ table row place. number_at_most table row (schema.seconds (codes "FRT_START"))) tables;
+  fids = rows_all (λ row. row.fid ≤ 1000000000000000000) trip_row schema.trips
+      (λ table row place. long_at_most table row (schema.trip_key (codes "FRT_FID"))) tables;
+  lengths = rows_all (λ row. IfSome row.length IsLength) section_row schema.sections
+      (λ table row place. some_within (cell_at table row (schema.some_metres (codes "SEL_LAENGE"))) 1000000
+      (number_at_most table row (schema.some_metres (codes "SEL_LAENGE")))) tables;
+  runs = rows_all (λ row. IsTime row.time) run_row schema.runs
+      (λ table row place. number_at_most table row (schema.seconds (codes "SEL_FZT"))) tables;
+  group_dwells = rows_all (λ row. IsTime row.time) group_dwell_row schema.group_dwells
+      (λ table row place. number_at_most table row (schema.seconds (codes "HP_HZT"))) tables;
+  trip_dwells = rows_all (λ row. IsTime row.time) trip_dwell_row schema.trip_dwells
+      (λ table row place. number_at_most table row (schema.seconds (codes "FRT_HZT_ZEIT"))) tables;
+  deads = rows_all (λ row. IsTime row.time) dead_row schema.deads
+      (λ table row place. number_at_most table row (schema.seconds (codes "UEB_FAHRZEIT"))) tables;
   plan = number_rows schema.plan tables;
   depots = number_rows schema.depots tables;
   line_types = number_rows schema.line_types tables;

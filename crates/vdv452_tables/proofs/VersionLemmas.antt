@@ -31,30 +31,51 @@ module _ (row : VersionRow) (rows : List VersionRow) (day : ℕ) where
   head_among = Contains-get_or (row ∷ rows) 0 row (omega arith)
 
   later_tells : (found : Option VersionRow) → row.day ≤ day → Tells rows day found → Tells (row ∷ rows) day (Some (later row found))
-  later_tells None begins none = (head_among, begins, All-cons (IsLatest day row) row rows (λ _. omega arith) (λ k d within begins_too. absurd (omega (arith, none k d within))))
+  later_tells None begins none = (
+    head_among,
+    begins,
+    All-cons (IsLatest day row) row rows (λ _. omega arith)
+        (λ k d within begins_too. absurd (omega (arith, none k d within))),
+  )
   later_tells (Some other) begins told = by (nat_lt row.day other.day) refl
     where
       by : (b : Bool) → nat_lt row.day other.day ≡ b → Tells (row ∷ rows) day (Some (if b then other else row))
-      by true e = (Contains-append_right (row ∷ []) rows other told.0, told.1, All-cons (IsLatest day other) row rows (λ _. omega (arith, lt_from row.day other.day e)) told.2)
-      by false e = (head_among, begins, All-cons (IsLatest day row) row rows (λ _. omega arith) (λ k d within begun_too. omega (arith, told.2 k d within begun_too, not_lt_from row.day other.day e)))
+      by true e = (
+        Contains-append_right (row ∷ []) rows other told.0,
+        told.1,
+        All-cons (IsLatest day other) row rows (λ _. omega (arith, lt_from row.day other.day e)) told.2,
+      )
+      by false e = (
+        head_among,
+        begins,
+        All-cons (IsLatest day row) row rows (λ _. omega arith)
+            (λ k d within begun_too. omega (arith, told.2 k d within begun_too, not_lt_from row.day other.day e)),
+      )
 
   early_tells : (found : Option VersionRow) → day < row.day → Tells rows day found → Tells (row ∷ rows) day found
   early_tells None early none = All-cons (λ other. day < other.day) row rows early none
-  early_tells (Some other) early told = (Contains-append_right (row ∷ []) rows other told.0, told.1, All-cons (IsLatest day other) row rows (λ begins. absurd (omega arith)) told.2)
+  early_tells (Some other) early told = (
+    Contains-append_right (row ∷ []) rows other told.0,
+    told.1,
+    All-cons (IsLatest day other) row rows (λ begins. absurd (omega arith)) told.2,
+  )
 
 pub latest_tells : (rows : List VersionRow) (day : ℕ) → Tells rows day (latest (begun rows day))
 latest_tells [] day = All-nil _
 latest_tells (row ∷ rows) day = by (nat_le row.day day) refl (latest_tells rows day)
   where
-    by : (b : Bool) → nat_le row.day day ≡ b → Tells rows day (latest (begun rows day)) → Tells (row ∷ rows) day (latest (if b then row ∷ begun rows day else begun rows day))
+    by : (b : Bool) → nat_le row.day day ≡ b → Tells rows day (latest (begun rows day)) →
+        Tells (row ∷ rows) day (latest (if b then row ∷ begun rows day else begun rows day))
     by true e told = later_tells row rows day (latest (begun rows day)) (le_from row.day day e) told
     by false e told = early_tells row rows day (latest (begun rows day)) (not_le_from row.day day e) told
 
-pub in_force : (rows : List VersionRow) (day : ℕ) (found : Option VersionRow) → Tells rows day found → IfSome (option_map (λ row. row.version) found) (IsInForce rows day)
+pub in_force : (rows : List VersionRow) (day : ℕ) (found : Option VersionRow) → Tells rows day found →
+    IfSome (option_map (λ row. row.version) found) (IsInForce rows day)
 in_force rows day None told = tt
 in_force rows day (Some row) told = record { row = row; among = told.0; version_is = refl; has_begun = told.1; is_latest = told.2 }
 
-pub none_in_force : (rows : List VersionRow) (day : ℕ) (found : Option VersionRow) → Tells rows day found → IsNone (option_map (λ row. row.version) found) ↔ All (λ row. day < row.day) rows
+pub none_in_force : (rows : List VersionRow) (day : ℕ) (found : Option VersionRow) → Tells rows day found →
+    IsNone (option_map (λ row. row.version) found) ↔ All (λ row. day < row.day) rows
 none_in_force rows day None told = (λ _. told, λ _. refl)
 none_in_force rows day (Some row) told = (λ none. absurd cc, λ after. absurd (no_later told.0 after))
   where

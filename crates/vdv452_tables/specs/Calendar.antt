@@ -102,7 +102,12 @@ with_own net tables = record net {
 -- the rows of the tables, by their schemas; none of a table that is not looked at
 abbrev pub net_of : Needs → List Table → Net
 net_of needs.Calendar tables =
-    record empty { versions = rows_as version_row schema.versions tables; days = rows_as calendar_row schema.days tables; trips = rows_as trip_row schema.trips tables }
+    record empty {
+      versions = rows_as version_row schema.versions tables;
+      days = rows_as calendar_row schema.days tables;
+      trips =
+          rows_as trip_row schema.trips tables;
+    }
 net_of needs.All tables = with_own (with_trips (with_times (with_places empty tables) tables) tables) tables
 
 -- the row of the later day; of two with one day the first

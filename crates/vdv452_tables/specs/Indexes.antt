@@ -24,7 +24,8 @@ AreCourses rows courses = (key : LineKey) → course_or_none (get line_key_eq co
 
 -- a row's point comes to the end of the course of its key, and the other courses stay
 abbrev pub CourseGrows : {S : Type 0} → StopRow → IndexMap LineKey (List Point) S → IndexMap LineKey (List Point) S → Type 0
-CourseGrows row old new = (key : LineKey) → course_or_none (get line_key_eq new key) ≡ course_or_none (get line_key_eq old key) ++ points_of key (row ∷ [])
+CourseGrows row old new =
+    (key : LineKey) → course_or_none (get line_key_eq new key) ≡ course_or_none (get line_key_eq old key) ++ points_of key (row ∷ [])
 
 pub record ArePlaces (net : Net) (places : Places) : Type 0 where
   pub kinds : IsIndex day_key_eq day_key_of (λ row. row.kind) net.days places.kinds

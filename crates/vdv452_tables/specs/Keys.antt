@@ -51,7 +51,8 @@ abbrev pub section_key_eq : SectionKey → SectionKey → Bool
 section_key_eq a b = (a.version == b.version) && ((a.area == b.area) && (point_eq a.from b.from && point_eq a.to b.to))
 
 abbrev pub move_key_eq : MoveKey → MoveKey → Bool
-move_key_eq a b = (a.version == b.version) && ((a.area == b.area) && ((a.group == b.group) && (point_eq a.from b.from && point_eq a.to b.to)))
+move_key_eq a b = (a.version == b.version)
+    && ((a.area == b.area) && ((a.group == b.group) && (point_eq a.from b.from && point_eq a.to b.to)))
 
 abbrev pub group_dwell_key_eq : GroupDwellKey → GroupDwellKey → Bool
 group_dwell_key_eq a b = (a.version == b.version) && ((a.group == b.group) && point_eq a.at b.at)
@@ -102,7 +103,8 @@ pub same_line_key : (a b : LineKey) → line_key_eq a b ≡ true → a ≡ b
 same_line_key a b e =
     let version = both_true (a.version == b.version) _ e in
     let line = both_true (a.line == b.line) _ version.1 in
-    λ i. named ((unsigned_Decides a.version b.version).0 version.0 i) ((unsigned_Decides a.line b.line).0 line.0 i) ((bytes_decides a.variant b.variant).0 line.1 i)
+    λ i. named ((unsigned_Decides a.version b.version).0 version.0 i) ((unsigned_Decides a.line b.line).0 line.0 i)
+    ((bytes_decides a.variant b.variant).0 line.1 i)
 
 abbrev pub line_key_of : LineRow → LineKey
 line_key_of row = named row.version row.line row.variant

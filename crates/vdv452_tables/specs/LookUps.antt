@@ -9,7 +9,8 @@ use Rattle.vdv452_tables.specs.Keys.{value_at, point_key_eq, point_key_of, type_
 
 -- REC_ORT has the point
 abbrev pub has_point_on : Net → ℕ → Point → Bool
-has_point_on net version at = is_some (value_at point_key_eq point_key_of (λ row. tt {0}) net.points (record { version = version; at = at }))
+has_point_on net version at =
+    is_some (value_at point_key_eq point_key_of (λ row. tt {0}) net.points (record { version = version; at = at }))
 
 -- MENGE_FZG_TYP has the type
 abbrev pub has_type_on : Net → ℕ → ℕ → Bool
@@ -21,11 +22,13 @@ area_on net version line variant = value_at line_key_eq line_key_of (λ row. row
 
 -- SEL_FZT of SEL_FZT_FELD
 abbrev pub run_time_on : Net → ℕ → ℕ → ℕ → Point → Point → Option ℕ
-run_time_on net version area group from to = value_at move_key_eq run_key_of (λ row. row.time) net.runs (move_key version area group from to)
+run_time_on net version area group from to =
+    value_at move_key_eq run_key_of (λ row. row.time) net.runs (move_key version area group from to)
 
 -- UEB_FAHRZEIT of UEB_FZT
 abbrev pub dead_time_on : Net → ℕ → ℕ → ℕ → Point → Point → Option ℕ
-dead_time_on net version area group from to = value_at move_key_eq dead_key_of (λ row. row.time) net.deads (move_key version area group from to)
+dead_time_on net version area group from to =
+    value_at move_key_eq dead_key_of (λ row. row.time) net.deads (move_key version area group from to)
 
 -- FRT_HZT_ZEIT of REC_FRT_HZT
 abbrev pub trip_dwell_on : Net → ℕ → ℕ → Point → Option ℕ
@@ -45,7 +48,8 @@ known (Some length) = length
 -- SEL_LAENGE of REC_SEL
 abbrev pub length_on : Net → ℕ → ℕ → Point → Point → Option ℕ
 length_on net version area from to =
-    known (value_at section_key_eq section_key_of (λ row. row.length) net.sections (record { version = version; area = area; from = from; to = to }))
+    known (value_at section_key_eq section_key_of (λ row. row.length) net.sections
+    (record { version = version; area = area; from = from; to = to }))
 
 -- a row before the first one whose LI_LFD_NR is not below its own
 abbrev pub put_in_order : StopRow → List StopRow → List StopRow

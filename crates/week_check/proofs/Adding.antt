@@ -14,9 +14,11 @@ pub record Leads (old new : List Denial) (left whole : List Finding) : Type 0 wh
 pub leads_start : (old : List Denial) (whole : List Finding) → Leads old old whole whole
 leads_start old whole = record { findings = refl; days = λ all. all }
 
-pub leads_step : (old mid new : List Denial) (found left next whole : List Finding) → next ≡ found ++ left → Leads old mid next whole → Adds mid new found → Leads old new left whole
+pub leads_step : (old mid new : List Denial) (found left next whole : List Finding) → next ≡ found ++ left → Leads old mid next whole →
+    Adds mid new found → Leads old new left whole
 leads_step old mid new found left next whole e so_far here = record {
-  findings = ap (λ z. z ++ left) here.findings ∙ append_assoc (map finding_of mid) found left ∙ ap (λ z. map finding_of mid ++ z) (sym e) ∙ so_far.findings;
+  findings = ap (λ z. z ++ left) here.findings ∙ append_assoc (map finding_of mid) found left
+      ∙ ap (λ z. map finding_of mid ++ z) (sym e) ∙ so_far.findings;
   days = λ all. here.days (so_far.days all);
 }
 

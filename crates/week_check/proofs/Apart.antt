@@ -25,14 +25,17 @@ pub not_when : (b : Bool) (x : TableFault) → when b x ≡ [] → b ≡ false
 not_when true x e = absurd cc
 not_when false x e = refl
 
-none_found : {X : Type 0} (fails : X → Bool) (fault_at : X → TableFault) (xs : List X) → flat_map (λ x. when (fails x) (fault_at x)) xs ≡ [] → find fails xs ≡ None
+none_found : {X : Type 0} (fails : X → Bool) (fault_at : X → TableFault) (xs : List X) →
+    flat_map (λ x. when (fails x) (fault_at x)) xs ≡ [] → find fails xs ≡ None
 none_found fails fault_at [] e = refl
 none_found fails fault_at (x ∷ xs) e =
     let parts = both_none (when (fails x) (fault_at x)) (flat_map (λ x. when (fails x) (fault_at x)) xs) e in
     ap (λ b. if b then Some x else find fails xs) (not_when (fails x) (fault_at x) parts.0) ∙ none_found fails fault_at xs parts.1
 
 pub none_wrong : (number : ℕ) (fields : RowFields) → value_faults number fields ≡ [] → wrong_column (entry_of fields) ≡ None
-none_wrong number fields e = none_found (λ column. not (is_right (entry_of fields) column)) (λ column. fault (kind_of (field_of fields column)) roster_name (name_of column) number) columns e
+none_wrong number fields e =
+    none_found (λ column. not (is_right (entry_of fields) column))
+    (λ column. fault (kind_of (field_of fields column)) roster_name (name_of column) number) columns e
 
 abbrev key_of_turn : Turn → DriverDay
 key_of_turn t = record { driver = t.driver; day = t.day }
@@ -51,9 +54,11 @@ turned a b c d e = grind (arith, nat_tests)
 one_key : (t : Turn) (key : DriverDay) → list_any (same_key (key_of_turn t)) (key ∷ []) ≡ false → same_key (key_of_turn t) key ≡ false
 one_key t key e = (neither (same_key (key_of_turn t) key) _ e).0
 
-older : (before : List DriverDay) (key : DriverDay) (t : Turn) → IsNew (before ++ key ∷ []) t → IsNew before t × (same_key (key_of_turn t) key ≡ false)
+older : (before : List DriverDay) (key : DriverDay) (t : Turn) → IsNew (before ++ key ∷ []) t →
+    IsNew before t × (same_key (key_of_turn t) key ≡ false)
 older before key t new =
-    let both = neither (list_any (same_key (key_of_turn t)) before) (list_any (same_key (key_of_turn t)) (key ∷ [])) (sym (list_any-append (same_key (key_of_turn t)) before (key ∷ [])) ∙ new) in
+    let both = neither (list_any (same_key (key_of_turn t)) before) (list_any (same_key (key_of_turn t)) (key ∷ []))
+    (sym (list_any-append (same_key (key_of_turn t)) before (key ∷ [])) ∙ new) in
     (both.0, one_key t key both.1)
 
 pub record AreRows (before : List DriverDay) (turns : List Turn) : Type 0 where
@@ -61,8 +66,10 @@ pub record AreRows (before : List DriverDay) (turns : List Turn) : Type 0 where
   pub apart : AllPairs AreApart turns
   pub new : All (IsNew before) turns
 
-pub are_rows : (number : ℕ) (before : List DriverDay) (rows : List RowFields) → row_faults number before rows ≡ [] → AreRows before (map row_turn rows)
-are_rows number before [] none = record { each = All-nil IsTurn; apart = λ i j d order within. absurd (omega arith); new = All-nil (IsNew before) }
+pub are_rows : (number : ℕ) (before : List DriverDay) (rows : List RowFields) → row_faults number before rows ≡ [] →
+    AreRows before (map row_turn rows)
+are_rows number before [] none =
+    record { each = All-nil IsTurn; apart = λ i j d order within. absurd (omega arith); new = All-nil (IsNew before) }
 are_rows number before (fields ∷ rows) none =
     let key : DriverDay = key_of (entry_of fields) in
     let parts = both_none (row_fault number before fields) (row_faults (number + 1) (before ++ key ∷ []) rows) none in
@@ -74,6 +81,8 @@ are_rows number before (fields ∷ rows) none =
     record {
       each = All-cons IsTurn (row_turn fields) turns is rest.each;
       apart = AllPairs-cons AreApart (row_turn fields) turns
-          (All-weaker (IsNew (before ++ key ∷ [])) (AreApart (row_turn fields)) (λ t h. turned t.driver key.driver t.day key.day (older before key t h).1) turns rest.new) rest.apart;
-      new = All-cons (IsNew before) (row_turn fields) turns new (All-weaker (IsNew (before ++ key ∷ [])) (IsNew before) (λ t h. (older before key t h).0) turns rest.new);
+          (All-weaker (IsNew (before ++ key ∷ [])) (AreApart (row_turn fields))
+          (λ t h. turned t.driver key.driver t.day key.day (older before key t h).1) turns rest.new) rest.apart;
+      new = All-cons (IsNew before) (row_turn fields) turns new
+          (All-weaker (IsNew (before ++ key ∷ [])) (IsNew before) (λ t h. (older before key t h).0) turns rest.new);
     }

@@ -26,13 +26,22 @@ below_last n h = omega (arith, signed_arith)
 
 -- the calendar's words for the parts of a day
 pub civil_of : (day : ℕ) → IsDay day → IsCivilDate (pos (year_of day)) (month_of day) (day_of_month day)
-civil_of day (year, month, dom) = (year, (omega (arith, signed_arith, month.0), omega (arith, signed_arith, month.1)), (omega (arith, signed_arith, dom.0), omega (arith, signed_arith, dom.1)))
+civil_of day (year, month, dom) = (
+  year,
+  (omega (arith, signed_arith, month.0), omega (arith, signed_arith, month.1)),
+  (
+    omega (arith, signed_arith, dom.0),
+    omega (arith, signed_arith, dom.1),
+  ),
+)
 
 pub duty_number : (day : ℕ) → IsDutyDay day → IsDutyNumber (number_of day)
 duty_number day duty =
     let civil = civil_of day duty.civil in
-    let low = day_count-lt_year (pos 0) 2 1 (pos (year_of day)) (month_of day) (day_of_month day) february_is_civil civil.2.0 (positive _ duty.first) in
-    let high = day_count-lt_year (pos (year_of day)) (month_of day) (day_of_month day) (pos 9999) 1 1 civil (omega arith) (below_last _ duty.last) in
+    let low = day_count-lt_year (pos 0) 2 1 (pos (year_of day)) (month_of day) (day_of_month day) february_is_civil
+    civil.2.0 (positive _ duty.first) in
+    let high = day_count-lt_year (pos (year_of day)) (month_of day) (day_of_month day) (pos 9999) 1 1 civil (omega arith)
+    (below_last _ duty.last) in
     let is = days_from_civil-day_count (pos (year_of day)) (month_of day) (day_of_month day) in
     (omega (arith, signed_arith, low, is, february_of_zero), omega (arith, signed_arith, high, is, first_of_last))
 
@@ -58,10 +67,18 @@ dom_is : (n m d : ℕ) → m ≤ 12 → d ≤ 31 → day_of_month (n * 10000 + m
 dom_is n m d a b = omega arith
 
 date_of_civil : (n m d : ℕ) → IsCivilDate (pos n) m d → IsDate (pos n) (pos m) (pos d)
-date_of_civil n m d civil = (civil.0, (omega (arith, signed_arith, civil.1.0), omega (arith, signed_arith, civil.1.1)), (omega (arith, signed_arith, civil.2.0), omega (arith, signed_arith, civil.2.1)))
+date_of_civil n m d civil = (
+  civil.0,
+  (omega (arith, signed_arith, civil.1.0), omega (arith, signed_arith, civil.1.1)),
+  (
+    omega (arith, signed_arith, civil.2.0),
+    omega (arith, signed_arith, civil.2.1),
+  ),
+)
 
 -- a date written as YYYYMMDD
-pub written : (y : ℤ) (n m d : ℕ) → y ≡ pos n → IsCivilDate y m d → (number_of (n * 10000 + m * 100 + d) ≡ days_from_civil y m d) × IsDay (n * 10000 + m * 100 + d)
+pub written : (y : ℤ) (n m d : ℕ) → y ≡ pos n → IsCivilDate y m d → (number_of (n * 10000 + m * 100 + d) ≡ days_from_civil y m d)
+    × IsDay (n * 10000 + m * 100 + d)
 written y n m d e civil =
     let short = days_in_month_bounds y m in
     let few : m ≤ 12 = omega (arith, civil.1.1) in
@@ -72,11 +89,15 @@ written y n m d e civil =
     let Number : ℕ → ℕ → ℕ → Type 0 = λ a b c. days_from_civil (pos a) b c ≡ days_from_civil y m d in
     let number : Number n m d = ap (λ z. days_from_civil z m d) (sym e) in
     let number1 : Number n m (day_of_month (n * 10000 + m * 100 + d)) = subst (λ c. Number n m c) (sym dom) number in
-    let number2 : Number n (month_of (n * 10000 + m * 100 + d)) (day_of_month (n * 10000 + m * 100 + d)) = subst (λ b. Number n b (day_of_month (n * 10000 + m * 100 + d))) (sym month) number1 in
-    let number3 : Number (year_of (n * 10000 + m * 100 + d)) (month_of (n * 10000 + m * 100 + d)) (day_of_month (n * 10000 + m * 100 + d)) = subst (λ a. Number a (month_of (n * 10000 + m * 100 + d)) (day_of_month (n * 10000 + m * 100 + d))) (sym year) number2 in
+    let number2 : Number n (month_of (n * 10000 + m * 100 + d)) (day_of_month (n * 10000 + m * 100 + d)) =
+    subst (λ b. Number n b (day_of_month (n * 10000 + m * 100 + d))) (sym month) number1 in
+    let number3 : Number (year_of (n * 10000 + m * 100 + d)) (month_of (n * 10000 + m * 100 + d)) (day_of_month (n * 10000 + m * 100 + d)) =
+    subst (λ a. Number a (month_of (n * 10000 + m * 100 + d)) (day_of_month (n * 10000 + m * 100 + d))) (sym year) number2 in
     let Civil : ℕ → ℕ → ℕ → Type 0 = λ a b c. IsDate (pos a) (pos b) (pos c) in
     let day : Civil n m d = date_of_civil n m d (subst (λ z. IsCivilDate z m d) e civil) in
     let day1 : Civil n m (day_of_month (n * 10000 + m * 100 + d)) = subst (λ c. Civil n m c) (sym dom) day in
-    let day2 : Civil n (month_of (n * 10000 + m * 100 + d)) (day_of_month (n * 10000 + m * 100 + d)) = subst (λ b. Civil n b (day_of_month (n * 10000 + m * 100 + d))) (sym month) day1 in
-    let day3 : Civil (year_of (n * 10000 + m * 100 + d)) (month_of (n * 10000 + m * 100 + d)) (day_of_month (n * 10000 + m * 100 + d)) = subst (λ a. Civil a (month_of (n * 10000 + m * 100 + d)) (day_of_month (n * 10000 + m * 100 + d))) (sym year) day2 in
+    let day2 : Civil n (month_of (n * 10000 + m * 100 + d)) (day_of_month (n * 10000 + m * 100 + d)) =
+    subst (λ b. Civil n b (day_of_month (n * 10000 + m * 100 + d))) (sym month) day1 in
+    let day3 : Civil (year_of (n * 10000 + m * 100 + d)) (month_of (n * 10000 + m * 100 + d)) (day_of_month (n * 10000 + m * 100 + d)) =
+    subst (λ a. Civil a (month_of (n * 10000 + m * 100 + d)) (day_of_month (n * 10000 + m * 100 + d))) (sym year) day2 in
     (number3, day3)

@@ -47,17 +47,21 @@ module _ (heads : List Head) (none : missing_column heads ≡ None) where
 
   pub all_rows : (rows : List (List Field)) → map (fields_at (places_in heads)) rows ≡ map (fields_in heads) rows
   all_rows [] = refl
-  all_rows (row ∷ rows) = ap (λ fields. fields ∷ map (fields_at (places_in heads)) rows) (one_row row) ∙ ap (λ fs. fields_in heads row ∷ fs) (all_rows rows)
+  all_rows (row ∷ rows) =
+      ap (λ fields. fields ∷ map (fields_at (places_in heads)) rows) (one_row row) ∙ ap (λ fs. fields_in heads row ∷ fs) (all_rows rows)
 
 -- a table in which no column is missing
-module _ (table : Table) (heads : List Head) (places : Places) (rows : List (List Field)) (columns_are : heads ≡ table.columns) (rows_are : rows ≡ table.rows) (placed : places ≡ places_in heads)
+module _ (table : Table) (heads : List Head) (places : Places) (rows : List (List Field)) (columns_are : heads ≡ table.columns)
+    (rows_are : rows ≡ table.rows) (placed : places ≡ places_in heads)
     (none : missing_column heads ≡ None) where
   pub table_rows : map (fields_at places) rows ≡ rows_in table
   table_rows =
-      ap (λ (p : Places). map (fields_at p) rows) placed ∙ all_rows heads none rows ∙ ap (λ (h : List Head). map (fields_in h) rows) columns_are
+      ap (λ (p : Places). map (fields_at p) rows) placed ∙ all_rows heads none rows
+      ∙ ap (λ (h : List Head). map (fields_in h) rows) columns_are
       ∙ ap (λ (rs : List (List Field)). map (fields_in table.columns) rs) rows_are
 
   pub table_faults : faults_in (Some table) ≡ row_faults 1 [] (map (fields_at places) rows)
   table_faults =
       let whole : missing_column table.columns ≡ None = subst (λ (h : List Head). missing_column h ≡ None) columns_are none in
-      ap (λ fs. fs ++ row_faults 1 [] (rows_in table)) (no_column_fault table.columns whole) ∙ ap (λ fs. row_faults 1 [] fs) (sym table_rows)
+      ap (λ fs. fs ++ row_faults 1 [] (rows_in table)) (no_column_fault table.columns whole)
+      ∙ ap (λ fs. row_faults 1 [] fs) (sym table_rows)

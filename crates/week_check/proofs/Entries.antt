@@ -73,7 +73,8 @@ pub wider : (n : Option ℤ) → is_within n (pos 0) (pos 172800) ≡ true → i
 wider None h = absurd cc
 wider (Some n) h =
     let both = between n (pos 0) (pos 172800) h in
-    and_from (int_le (pos 0) n) (int_le n (pos 4294967295)) (le_true (pos 0) n both.0) (le_true n (pos 4294967295) (omega (arith, signed_arith, both.1)))
+    and_from (int_le (pos 0) n) (int_le n (pos 4294967295)) (le_true (pos 0) n both.0)
+    (le_true n (pos 4294967295) (omega (arith, signed_arith, both.1)))
 
 -- a test of a day is the calendar's
 pub day_is : (day : ℕ) → is_duty_day day ≡ true → IsDutyDay day
@@ -88,7 +89,8 @@ day_is day h =
     let m1 : 1 ≤ month_of day = leb-true 1 (month_of day) month.0 in
     let m2 : month_of day ≤ 12 = leb-true (month_of day) 12 month.1 in
     let d1 : 1 ≤ day_of_month day = leb-true 1 (day_of_month day) dom.0 in
-    let d2 : day_of_month day ≤ days_in_month (pos (year_of day)) (month_of day) = leb-true (day_of_month day) (days_in_month (pos (year_of day)) (month_of day)) dom.1 in
+    let d2 : day_of_month day ≤ days_in_month (pos (year_of day)) (month_of day) =
+    leb-true (day_of_month day) (days_in_month (pos (year_of day)) (month_of day)) dom.1 in
     record {
       first = first;
       last = last;
@@ -147,15 +149,20 @@ turn_is e right =
     }
 
 -- the parts of a duty
-pub turn_made : (e : Entry) (driver day : ℕ) (begin end : ℤ) (driving : ℕ) (three : Bool) → driver ≡ word e.driver → day ≡ word e.day → begin ≡ moment (word e.day) (value e.begin)
+pub turn_made : (e : Entry) (driver day : ℕ) (begin end : ℤ) (driving : ℕ) (three : Bool) → driver ≡ word e.driver → day ≡ word e.day →
+    begin ≡ moment (word e.day) (value e.begin)
     → end ≡ moment (word e.day) (value e.end) → driving ≡ word e.driving → three ≡ is_one e.pause
     → record { driver = driver; day = day; begin = begin; end = end; driving = driving; three = three } ≡ turn_of e
 turn_made e driver day begin end driving three a b c d f g =
-    let made : ℕ → ℕ → ℤ → ℤ → ℕ → Bool → Turn = λ p q r s t u. record { driver = p; day = q; begin = r; end = s; driving = t; three = u } in
+    let made : ℕ → ℕ → ℤ → ℤ → ℕ → Bool → Turn =
+    λ p q r s t u. record { driver = p; day = q; begin = r; end = s; driving = t; three = u } in
     ap (λ p. made p day begin end driving three) a ∙ ap (λ q. made (word e.driver) q begin end driving three) b
-    ∙ ap (λ r. made (word e.driver) (word e.day) r end driving three) c ∙ ap (λ s. made (word e.driver) (word e.day) (moment (word e.day) (value e.begin)) s driving three) d
+    ∙ ap (λ r. made (word e.driver) (word e.day) r end driving three) c
+    ∙ ap (λ s. made (word e.driver) (word e.day) (moment (word e.day) (value e.begin)) s driving three) d
     ∙ ap (λ t. made (word e.driver) (word e.day) (moment (word e.day) (value e.begin)) (moment (word e.day) (value e.end)) t three) f
-    ∙ ap (λ u. made (word e.driver) (word e.day) (moment (word e.day) (value e.begin)) (moment (word e.day) (value e.end)) (word e.driving) u) g
+    ∙ ap (λ u. made (word e.driver) (word e.day) (moment (word e.day) (value e.begin))
+    (moment (word e.day) (value e.end)) (word e.driving) u) g
 
-pub moment_is : (z made : ℤ) (day wanted : ℕ) (seconds own : ℤ) → z ≡ made → made ≡ moment day seconds → day ≡ wanted → seconds ≡ own → z ≡ moment wanted own
+pub moment_is : (z made : ℤ) (day wanted : ℕ) (seconds own : ℤ) → z ≡ made → made ≡ moment day seconds → day ≡ wanted →
+    seconds ≡ own → z ≡ moment wanted own
 moment_is z made day wanted seconds own e f g h = e ∙ f ∙ ap (λ d. moment d seconds) g ∙ ap (λ s. moment wanted s) h

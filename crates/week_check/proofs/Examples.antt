@@ -29,7 +29,8 @@ third_long : findings_of (long 0 ∷ long 1 ∷ long 2 ∷ []) ≡ finding 1 61 
 unfolding long duty days_from_civil day_count days_of_years days_of_months weekday_number
 third_long = refl
 
-fourth_reduced : findings_of (short false 0 ∷ short false 1 ∷ short false 2 ∷ short false 3 ∷ short false 4 ∷ []) ≡ finding 1 84 (pos 20517) (pos 20518) (pos 4) ∷ []
+fourth_reduced : findings_of (short false 0 ∷ short false 1 ∷ short false 2 ∷ short false 3 ∷ short false 4 ∷ [])
+    ≡ finding 1 84 (pos 20517) (pos 20518) (pos 4) ∷ []
 unfolding short duty days_from_civil day_count days_of_years days_of_months weekday_number
 fourth_reduced = refl
 
@@ -47,11 +48,14 @@ unfolding duty
 nine after = duty after (pos 20000) (pos 60000) 32400 false
 
 -- 63 hours in the week that ends on 8 March
-full_week : findings_of (nine 0 ∷ nine 1 ∷ nine 2 ∷ nine 3 ∷ nine 4 ∷ nine 5 ∷ nine 6 ∷ []) ≡ finding 1 62 (pos 20514) (pos 20520) (pos 226800) ∷ []
+full_week : findings_of (nine 0 ∷ nine 1 ∷ nine 2 ∷ nine 3 ∷ nine 4 ∷ nine 5 ∷ nine 6 ∷ [])
+    ≡ finding 1 62 (pos 20514) (pos 20520) (pos 226800) ∷ []
 unfolding nine duty days_from_civil day_count days_of_years days_of_months weekday_number
 full_week = refl
 
 -- 54 hours in that week and 45 in the next
-two_weeks : weeks_from (nine 0 ∷ nine 1 ∷ nine 2 ∷ nine 3 ∷ nine 4 ∷ nine 5 ∷ nine 7 ∷ nine 8 ∷ nine 9 ∷ nine 10 ∷ nine 11 ∷ []) [] (nine 0 ∷ nine 1 ∷ nine 2 ∷ nine 3 ∷ nine 4 ∷ nine 5 ∷ nine 7 ∷ nine 8 ∷ nine 9 ∷ nine 10 ∷ nine 11 ∷ []) ≡ finding 1 63 (pos 20514) (pos 20527) (pos 356400) ∷ []
+two_weeks : weeks_from (nine 0 ∷ nine 1 ∷ nine 2 ∷ nine 3 ∷ nine 4 ∷ nine 5 ∷ nine 7 ∷ nine 8 ∷ nine 9 ∷ nine 10 ∷ nine 11 ∷ []) []
+    (nine 0 ∷ nine 1 ∷ nine 2 ∷ nine 3 ∷ nine 4 ∷ nine 5 ∷ nine 7 ∷ nine 8 ∷ nine 9 ∷ nine 10 ∷ nine 11 ∷ [])
+    ≡ finding 1 63 (pos 20514) (pos 20527) (pos 356400) ∷ []
 unfolding nine duty days_from_civil day_count days_of_years days_of_months weekday_number
 two_weeks = refl

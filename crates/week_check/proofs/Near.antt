@@ -20,24 +20,32 @@ pub day_more : (old own new : ℕ) → (new ≡ old) ⊎ (new ≡ own) → IsDut
 day_more old own new (inl e) first second = subst IsDutyDay (sym e) first
 day_more old own new (inr e) first second = subst IsDutyDay (sym e) second
 
-pub there_more : (turns : List Turn) (i : ℕ) (t : Turn) (old new : ℕ) → i < length turns → t ≡ get_or turns i t → (new ≡ old) ⊎ (new ≡ t.day) → list_any (λ (u : Turn). u.day == old) turns ≡ true
+pub there_more : (turns : List Turn) (i : ℕ) (t : Turn) (old new : ℕ) → i < length turns → t ≡ get_or turns i t →
+    (new ≡ old) ⊎ (new ≡ t.day) → list_any (λ (u : Turn). u.day == old) turns ≡ true
     → list_any (λ (u : Turn). u.day == new) turns ≡ true
 there_more turns i t old new within is (inl e) there = subst (λ n. list_any (λ (u : Turn). u.day == n) turns ≡ true) (sym e) there
 there_more turns i t old new within is (inr e) there =
-    list_any_at (λ (u : Turn). u.day == new) turns i t within (eq-eqb (get_or turns i t).day new (ap (λ (u : Turn). u.day) (sym is) ∙ sym e))
+    list_any_at (λ (u : Turn). u.day == new) turns i t within
+    (eq-eqb (get_or turns i t).day new (ap (λ (u : Turn). u.day) (sym is) ∙ sym e))
 
-pub least_more : (turns : List Turn) (i : ℕ) (t : Turn) (old new : ℕ) → i < length turns → t ≡ get_or turns i t → number_of new ≤ℤ number_of old → number_of new ≤ℤ number_of t.day
-    → All (λ (u : Turn). number_of old ≤ℤ number_of u.day) (take i turns) → All (λ (u : Turn). number_of new ≤ℤ number_of u.day) (take (i + 1) turns)
+pub least_more : (turns : List Turn) (i : ℕ) (t : Turn) (old new : ℕ) → i < length turns → t ≡ get_or turns i t →
+    number_of new ≤ℤ number_of old → number_of new ≤ℤ number_of t.day
+    → All (λ (u : Turn). number_of old ≤ℤ number_of u.day) (take i turns) →
+    All (λ (u : Turn). number_of new ≤ℤ number_of u.day) (take (i + 1) turns)
 least_more turns i t old new within is low own so_far =
     All-more (λ (u : Turn). number_of new ≤ℤ number_of u.day) turns i t within
-    (All-weaker (λ (u : Turn). number_of old ≤ℤ number_of u.day) (λ (u : Turn). number_of new ≤ℤ number_of u.day) (λ u h. below (number_of new) (number_of old) (number_of u.day) low h) (take i turns) so_far)
+    (All-weaker (λ (u : Turn). number_of old ≤ℤ number_of u.day) (λ (u : Turn). number_of new ≤ℤ number_of u.day)
+    (λ u h. below (number_of new) (number_of old) (number_of u.day) low h) (take i turns) so_far)
     (subst (λ (u : Turn). number_of new ≤ℤ number_of u.day) is own)
 
-pub greatest_more : (turns : List Turn) (i : ℕ) (t : Turn) (old new : ℕ) → i < length turns → t ≡ get_or turns i t → number_of old ≤ℤ number_of new → number_of t.day ≤ℤ number_of new
-    → All (λ (u : Turn). number_of u.day ≤ℤ number_of old) (take i turns) → All (λ (u : Turn). number_of u.day ≤ℤ number_of new) (take (i + 1) turns)
+pub greatest_more : (turns : List Turn) (i : ℕ) (t : Turn) (old new : ℕ) → i < length turns → t ≡ get_or turns i t →
+    number_of old ≤ℤ number_of new → number_of t.day ≤ℤ number_of new
+    → All (λ (u : Turn). number_of u.day ≤ℤ number_of old) (take i turns) →
+    All (λ (u : Turn). number_of u.day ≤ℤ number_of new) (take (i + 1) turns)
 greatest_more turns i t old new within is high own so_far =
     All-more (λ (u : Turn). number_of u.day ≤ℤ number_of new) turns i t within
-    (All-weaker (λ (u : Turn). number_of u.day ≤ℤ number_of old) (λ (u : Turn). number_of u.day ≤ℤ number_of new) (λ u h. below (number_of u.day) (number_of old) (number_of new) h high) (take i turns) so_far)
+    (All-weaker (λ (u : Turn). number_of u.day ≤ℤ number_of old) (λ (u : Turn). number_of u.day ≤ℤ number_of new)
+    (λ u h. below (number_of u.day) (number_of old) (number_of new) h high) (take i turns) so_far)
     (subst (λ (u : Turn). number_of u.day ≤ℤ number_of new) is own)
 
 pub all_taken : (P : Turn → Type 0) (turns : List Turn) (i : ℕ) → i ≡ length turns → All P (take i turns) → All P turns
@@ -46,9 +54,12 @@ all_taken P turns i e all = subst (λ ts. All P ts) (take_all i turns (omega (ar
 apart_by : (a b first last : ℤ) → first ≤ℤ b → a ≤ℤ last → last ≤ℤ (first +ℤ pos 13) → a ≤ℤ (b +ℤ pos 13)
 apart_by a b first last low high near = omega (arith, signed_arith, low, high, near)
 
-pub all_near : (turns : List Turn) (first last : ℕ) → IsFirstDay turns first → IsLastDay turns last → number_of last ≤ℤ (number_of first +ℤ pos 13) → AllPairs AreNear turns
+pub all_near : (turns : List Turn) (first last : ℕ) → IsFirstDay turns first → IsLastDay turns last →
+    number_of last ≤ℤ (number_of first +ℤ pos 13) → AllPairs AreNear turns
 all_near turns first last begins ends near = λ i j d order within.
     let before : i < length turns = omega (arith, order, within) in (
-      apart_by (number_of (get_or turns i d).day) (number_of (get_or turns j d).day) (number_of first) (number_of last) (begins.least j d within) (ends.greatest i d before) near,
-      apart_by (number_of (get_or turns j d).day) (number_of (get_or turns i d).day) (number_of first) (number_of last) (begins.least i d before) (ends.greatest j d within) near,
+      apart_by (number_of (get_or turns i d).day) (number_of (get_or turns j d).day) (number_of first) (number_of last)
+          (begins.least j d within) (ends.greatest i d before) near,
+      apart_by (number_of (get_or turns j d).day) (number_of (get_or turns i d).day) (number_of first) (number_of last)
+          (begins.least i d before) (ends.greatest j d within) near,
     )

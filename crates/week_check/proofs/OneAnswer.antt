@@ -68,7 +68,8 @@ same_day turns a b f g e =
     sym f.on ∙ ap (λ (t : Turn). t.day) there ∙ g.on
 
 number_at : (turns : List Turn) (a : ℕ) (f : Found turns a) (d : Turn) → number_of (get_or turns f.at d).day ≡ number_of a
-number_at turns a f d = ap (λ (t : Turn). number_of t.day) (at_place turns f.at d f.turn f.within) ∙ ap (λ (t : Turn). number_of t.day) f.is ∙ ap (λ (n : ℕ). number_of n) f.on
+number_at turns a f d = ap (λ (t : Turn). number_of t.day) (at_place turns f.at d f.turn f.within) ∙ ap (λ (t : Turn). number_of t.day) f.is
+    ∙ ap (λ (n : ℕ). number_of n) f.on
 
 within_by : (a b x y : ℤ) → x ≡ a → y ≡ b → y ≤ℤ (x +ℤ pos 13) → b ≤ℤ (a +ℤ pos 13)
 within_by a b x y e f near = omega (arith, signed_arith, e, f, near)
@@ -88,10 +89,12 @@ not_far turns a b near far = by_order (cases_order f.at g.at)
         too_far (number_of a) (number_of b) far.far (omega (arith, signed_arith, same))
     by_order (inr (inl h)) =
         too_far (number_of a) (number_of b) far.far
-        (within_by (number_of a) (number_of b) _ _ (number_at turns a f f.turn) (number_at turns b g f.turn) (near f.at g.at f.turn h g.within).1)
+        (within_by (number_of a) (number_of b) _ _ (number_at turns a f f.turn) (number_at turns b g f.turn)
+        (near f.at g.at f.turn h g.within).1)
     by_order (inr (inr h)) =
         too_far (number_of a) (number_of b) far.far
-        (within_by (number_of a) (number_of b) _ _ (number_at turns a f f.turn) (number_at turns b g f.turn) (near g.at f.at f.turn h f.within).0)
+        (within_by (number_of a) (number_of b) _ _ (number_at turns a f f.turn) (number_at turns b g f.turn)
+        (near g.at f.at f.turn h f.within).0)
 
 -- the duties of tables without a fault
 pub turns_are : (tables : List Table) → roster_faults tables ≡ [] → AreRows [] (turns_of tables)
@@ -101,7 +104,8 @@ turns_are tables none = by (roster_of tables) (both_none _ (faults_in (roster_of
     by None e = absurd cc
     by (Some table) e = are_rows 1 [] (rows_in table) (both_none _ (row_faults 1 [] (rows_in table)) e).1
 
-pub roster_is : (tables : List Table) (turns slice : List Turn) → turns ≡ turns_of tables → slice ≡ turns → roster_faults tables ≡ [] → AllPairs AreNear slice → IsRoster turns
+pub roster_is : (tables : List Table) (turns slice : List Turn) → turns ≡ turns_of tables → slice ≡ turns → roster_faults tables ≡ [] →
+    AllPairs AreNear slice → IsRoster turns
 roster_is tables turns slice is same none near =
     let rows = turns_are tables none in
     subst IsRoster (sym is) (record { each = rows.each; key = rows.apart; near = subst (λ ts. AllPairs AreNear ts) (same ∙ is) near })
@@ -126,7 +130,8 @@ turns_few tables few = by (roster_of tables) refl
 no_first : (tables : List Table) (fault : TableFault) → roster_faults tables ≡ [] → first (roster_faults tables) ≡ Some fault → ⊥
 no_first tables fault none some = cc
 
-pub one_answer : (tables : List Table) (a b : Result (List Turn) RosterFault) → IsAnswer tables a → IsAnswer tables b → a ≢ Err Memory → b ≢ Err Memory → a ≡ b
+pub one_answer : (tables : List Table) (a b : Result (List Turn) RosterFault) → IsAnswer tables a → IsAnswer tables b →
+    a ≢ Err Memory → b ≢ Err Memory → a ≡ b
 one_answer tables (Ok turns) (Ok others) x y m n = ap Ok (x.1 ∙ sym y.1)
 one_answer tables (Ok turns) (Err (Wrong fault)) x y m n = absurd (no_first tables fault x.0 y)
 one_answer tables (Ok turns) (Err (Days c d)) x y m n = absurd (not_far turns c d x.2.near (subst (λ ts. AreFar ts c d) (sym x.1) y.1))
@@ -139,4 +144,5 @@ one_answer tables (Err (Days a b)) (Ok others) x y m n = absurd (not_far others 
 one_answer tables (Err (Days a b)) (Err (Wrong fault)) x y m n = absurd (no_first tables fault x.0 y)
 one_answer tables (Err (Days a b)) (Err (Days c d)) x y m n =
     let each = (turns_are tables x.0).each in
-    ap (λ k. Err (Days k b)) (first_one (turns_of tables) a c each x.1.begins y.1.begins) ∙ ap (λ k. Err (Days c k)) (last_one (turns_of tables) b d each x.1.ends y.1.ends)
+    ap (λ k. Err (Days k b)) (first_one (turns_of tables) a c each x.1.begins y.1.begins)
+    ∙ ap (λ k. Err (Days c k)) (last_one (turns_of tables) b d each x.1.ends y.1.ends)

@@ -16,7 +16,8 @@ joined_complete : (current : List Turn) → joined (complete current) ≡ curren
 joined_complete [] = refl
 joined_complete (t ∷ ts) = append-nil (t ∷ ts)
 
-joined_step : (b : Bool) (current : List Turn) (t : Turn) → joined (if b then complete current else []) ++ (if b then t ∷ [] else current ++ t ∷ []) ≡ current ++ t ∷ []
+joined_step : (b : Bool) (current : List Turn) (t : Turn) →
+    joined (if b then complete current else []) ++ (if b then t ∷ [] else current ++ t ∷ []) ≡ current ++ t ∷ []
 joined_step true current t = ap (λ ts. ts ++ t ∷ []) (joined_complete current)
 joined_step false current t = refl
 
@@ -43,9 +44,11 @@ one_more : (current : List Turn) (t : Turn) → ends_before current t ≡ false 
 one_more [] t e one = absurd (cc)
 one_more (a ∷ others) t e one =
     let same : a.driver ≡ t.driver = same_driver a.driver t.driver e in
-    All-append (λ (u : Turn). u.driver ≡ a.driver) (a ∷ others) (t ∷ []) one (All-cons (λ (u : Turn). u.driver ≡ a.driver) t [] (sym same) (All-nil (λ (u : Turn). u.driver ≡ a.driver)))
+    All-append (λ (u : Turn). u.driver ≡ a.driver) (a ∷ others) (t ∷ []) one
+    (All-cons (λ (u : Turn). u.driver ≡ a.driver) t [] (sym same) (All-nil (λ (u : Turn). u.driver ≡ a.driver)))
 
-one_continued : (b : Bool) (current : List Turn) (t : Turn) → ends_before current t ≡ b → HasOneDriver current → HasOneDriver (if b then t ∷ [] else current ++ t ∷ [])
+one_continued : (b : Bool) (current : List Turn) (t : Turn) → ends_before current t ≡ b → HasOneDriver current →
+    HasOneDriver (if b then t ∷ [] else current ++ t ∷ [])
 one_continued true current t e one = one_single t
 one_continued false current t e one = one_more current t e one
 
@@ -59,7 +62,9 @@ one_ended false current one = All-nil HasOneDriver
 
 one_from : (current ts : List Turn) → HasOneDriver current → All HasOneDriver (lists_from current ts)
 one_from current [] one = one_complete current one
-one_from current (t ∷ ts) one = All-append HasOneDriver (ended current t) (lists_from (continued current t) ts) (one_ended (ends_before current t) current one) (one_from (continued current t) ts (one_continued (ends_before current t) current t refl one))
+one_from current (t ∷ ts) one =
+    All-append HasOneDriver (ended current t) (lists_from (continued current t) ts) (one_ended (ends_before current t) current one)
+    (one_from (continued current t) ts (one_continued (ends_before current t) current t refl one))
 
 -- each list has the duties of one driver
 pub lists_of_one : (ordered : List Turn) → All HasOneDriver (drivers_lists ordered)

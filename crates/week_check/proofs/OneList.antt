@@ -57,9 +57,11 @@ AreSame {X} xs ys = (f : X → ℕ) → sum_by f xs ≡ sum_by f ys
 same_from : {X : Type 0} (xs ys : List X) → IsPermutation xs ys → AreSame xs ys
 same_from xs ys p = λ f. sym (sum_by-IsPermutation f xs ys p)
 
-not_below : {X : Type 0} (R : X → X → Ordering) (x y : X) (xs ys : List X) → AreSame xs (y ∷ ys) → All (λ z. is_lt (R z x) ≡ false) xs → is_lt (R y x) ≡ false
+not_below : {X : Type 0} (R : X → X → Ordering) (x y : X) (xs ys : List X) → AreSame xs (y ∷ ys) → All (λ z. is_lt (R z x) ≡ false) xs →
+    is_lt (R y x) ≡ false
 not_below R x y xs ys same all =
-    first_not (is_lt (R y x)) (sum_by (is_below R x) ys) (sym (sum_by-cons (is_below R x) y ys) ∙ sym (same (is_below R x)) ∙ none_below R x xs all)
+    first_not (is_lt (R y x)) (sum_by (is_below R x) ys)
+    (sym (sum_by-cons (is_below R x) y ys) ∙ sym (same (is_below R x)) ∙ none_below R x xs all)
 
 -- no item is below an earlier one
 abbrev IsRising : {X : Type 0} → (X → X → Ordering) → List X → Type 0
@@ -74,7 +76,8 @@ tail_rising R x xs up = λ i j d order within. up (suc i) (suc j) d (omega (arit
 not_empty : {X : Type 0} (x : X) (xs : List X) → AreSame [] (x ∷ xs) → 1 ≤ 0
 not_empty x xs same = omega (arith, same (λ _. 1), sum_by-cons (λ _. 1) x xs)
 
-pub one_sorted : {X : Type 0} (R : X → X → Ordering) → IsTotalOrder R → CmpEqualImpliesEq R → (xs ys : List X) → IsRising R xs → IsRising R ys → AreSame xs ys → xs ≡ ys
+pub one_sorted : {X : Type 0} (R : X → X → Ordering) → IsTotalOrder R → CmpEqualImpliesEq R → (xs ys : List X) → IsRising R xs →
+    IsRising R ys → AreSame xs ys → xs ≡ ys
 one_sorted R o exact [] [] first second same = refl
 one_sorted R o exact [] (y ∷ ys) first second same = absurd (omega (arith, not_empty y ys same))
 one_sorted R o exact (x ∷ xs) [] first second same = absurd (omega (arith, not_empty x xs (λ f. sym (same f))))
@@ -88,10 +91,14 @@ one_sorted R o exact (x ∷ xs) (y ∷ ys) first second same =
     ap (λ z. z ∷ xs) e ∙ ap (λ zs. y ∷ zs) rest
 
 -- an earlier day has a lower number
-day_before : (a b : ℕ) → IsCivilDate (pos (year_of a)) (month_of a) (day_of_month a) → IsCivilDate (pos (year_of b)) (month_of b) (day_of_month b) → a < b
-    → (year_of a < year_of b) ⊎ ((year_of a ≡ year_of b) × ((month_of a < month_of b) ⊎ ((month_of a ≡ month_of b) × (day_of_month a < day_of_month b))))
+day_before : (a b : ℕ) → IsCivilDate (pos (year_of a)) (month_of a) (day_of_month a) →
+    IsCivilDate (pos (year_of b)) (month_of b) (day_of_month b) → a < b
+    → (year_of a < year_of b) ⊎
+    ((year_of a ≡ year_of b) × ((month_of a < month_of b) ⊎ ((month_of a ≡ month_of b) × (day_of_month a < day_of_month b))))
     → day_count (pos (year_of a)) (month_of a) (day_of_month a) < day_count (pos (year_of b)) (month_of b) (day_of_month b)
-day_before a b first second order (inl years) = day_count-lt_year (pos (year_of a)) (month_of a) (day_of_month a) (pos (year_of b)) (month_of b) (day_of_month b) first second.2.0 (omega (arith, signed_arith, years))
+day_before a b first second order (inl years) =
+    day_count-lt_year (pos (year_of a)) (month_of a) (day_of_month a) (pos (year_of b)) (month_of b) (day_of_month b) first second.2.0
+    (omega (arith, signed_arith, years))
 day_before a b first second order (inr (year, inl months)) =
     subst (λ y. day_count (pos (year_of a)) (month_of a) (day_of_month a) < day_count (pos y) (month_of b) (day_of_month b)) year
     (day_count-lt_month (pos (year_of a)) (month_of a) (day_of_month a) (month_of b) (day_of_month b) first second.2.0 months)
@@ -100,15 +107,20 @@ day_before a b first second order (inr (year, inr (month, days))) =
     (subst (λ m. day_count (pos (year_of a)) (month_of a) (day_of_month a) < day_count (pos (year_of a)) m (day_of_month b)) month
     (omega (arith, days, day_count-day (pos (year_of a)) (month_of a) (day_of_month a) (day_of_month b) first.2.0 second.2.0)))
 
-parts_before : (a b : ℕ) → a < b → (year_of a < year_of b) ⊎ ((year_of a ≡ year_of b) × ((month_of a < month_of b) ⊎ ((month_of a ≡ month_of b) × (day_of_month a < day_of_month b))))
+parts_before : (a b : ℕ) → a < b →
+    (year_of a < year_of b) ⊎
+    ((year_of a ≡ year_of b) × ((month_of a < month_of b) ⊎ ((month_of a ≡ month_of b) × (day_of_month a < day_of_month b))))
 parts_before a b order = by_year (cases_order (year_of a) (year_of b))
   where
-    by_month : year_of a ≡ year_of b → (month_of a ≡ month_of b) ⊎ ((month_of a < month_of b) ⊎ (month_of b < month_of a)) → (month_of a < month_of b) ⊎ ((month_of a ≡ month_of b) × (day_of_month a < day_of_month b))
+    by_month : year_of a ≡ year_of b → (month_of a ≡ month_of b) ⊎ ((month_of a < month_of b) ⊎ (month_of b < month_of a)) →
+        (month_of a < month_of b) ⊎ ((month_of a ≡ month_of b) × (day_of_month a < day_of_month b))
     by_month year (inl month) = inr (month, omega (arith, order, year, month))
     by_month year (inr (inl months)) = inl months
     by_month year (inr (inr months)) = absurd (omega (arith, order, year, months))
 
-    by_year : (year_of a ≡ year_of b) ⊎ ((year_of a < year_of b) ⊎ (year_of b < year_of a)) → (year_of a < year_of b) ⊎ ((year_of a ≡ year_of b) × ((month_of a < month_of b) ⊎ ((month_of a ≡ month_of b) × (day_of_month a < day_of_month b))))
+    by_year : (year_of a ≡ year_of b) ⊎ ((year_of a < year_of b) ⊎ (year_of b < year_of a)) →
+        (year_of a < year_of b) ⊎
+        ((year_of a ≡ year_of b) × ((month_of a < month_of b) ⊎ ((month_of a ≡ month_of b) × (day_of_month a < day_of_month b))))
     by_year (inl year) = inr (year, by_month year (cases_order (month_of a) (month_of b)))
     by_year (inr (inl years)) = inl years
     by_year (inr (inr years)) = absurd (omega (arith, order, years))
@@ -116,13 +128,20 @@ parts_before a b order = by_year (cases_order (year_of a) (year_of b))
 pub number_rises : (a b : ℕ) → IsDay a → IsDay b → a < b → number_of a <ℤ number_of b
 number_rises a b first second order =
     let less = day_before a b (civil_of a first) (civil_of b second) order (parts_before a b order) in
-    omega (arith, signed_arith, less, days_from_civil-day_count (pos (year_of a)) (month_of a) (day_of_month a), days_from_civil-day_count (pos (year_of b)) (month_of b) (day_of_month b))
+    omega (
+      arith,
+      signed_arith,
+      less,
+      days_from_civil-day_count (pos (year_of a)) (month_of a) (day_of_month a),
+      days_from_civil-day_count (pos (year_of b)) (month_of b) (day_of_month b),
+    )
 
 -- days and their numbers have one order
 same_order : (a b : ℕ) → IsDay a → IsDay b → nat_cmp a b ≡ int_cmp (number_of a) (number_of b)
 same_order a b first second = int_cmp_is (number_of a) (number_of b) (nat_cmp a b) (go (nat_cmp a b) (ranked a b (nat_cmp a b) refl))
   where
-    go : (r : Ordering) → MatchOrdering r (a < b) (a ≡ b) (b < a) → MatchOrdering r (number_of a <ℤ number_of b) (number_of a ≡ number_of b) (number_of b <ℤ number_of a)
+    go : (r : Ordering) → MatchOrdering r (a < b) (a ≡ b) (b < a) →
+        MatchOrdering r (number_of a <ℤ number_of b) (number_of a ≡ number_of b) (number_of b <ℤ number_of a)
     go Less h = number_rises a b first second h
     go Equal h = ap (λ (n : ℕ). number_of n) h
     go Greater h = number_rises b a second first h
@@ -160,7 +179,8 @@ turn_exact a b e =
     let end : a.end ≡ b.end = exact_signed a.end b.end s.0 in
     let driving : a.driving ≡ b.driving = exact_unsigned a.driving b.driving t.0 in
     let three : a.three ≡ b.three = exact_bool a.three b.three t.1 in
-    let made : ℕ → ℕ → ℤ → ℤ → ℕ → Bool → Turn = λ d n x y m w. record { driver = d; day = n; begin = x; end = y; driving = m; three = w } in
+    let made : ℕ → ℕ → ℤ → ℤ → ℕ → Bool → Turn =
+    λ d n x y m w. record { driver = d; day = n; begin = x; end = y; driving = m; three = w } in
     ap (λ d. made d a.day a.begin a.end a.driving a.three) driver ∙ ap (λ n. made b.driver n a.begin a.end a.driving a.three) day
     ∙ ap (λ x. made b.driver b.day x a.end a.driving a.three) begin ∙ ap (λ y. made b.driver b.day b.begin y a.driving a.three) end
     ∙ ap (λ m. made b.driver b.day b.begin b.end m a.three) driving ∙ ap (λ w. made b.driver b.day b.begin b.end b.driving w) three
@@ -176,7 +196,8 @@ finding_order a b =
 finding_order_total : IsTotalOrder finding_order
 finding_order_total =
     then_total (on_total (λ (f : Finding). f.driver) nat_cmp_total) (then_total (on_total (λ (f : Finding). f.article) nat_cmp_total)
-    (then_total (on_total (λ (f : Finding). f.from) int_cmp_total) (then_total (on_total (λ (f : Finding). f.to) int_cmp_total) (on_total (λ (f : Finding). f.value) int_cmp_total))))
+    (then_total (on_total (λ (f : Finding). f.from) int_cmp_total)
+    (then_total (on_total (λ (f : Finding). f.to) int_cmp_total) (on_total (λ (f : Finding). f.value) int_cmp_total))))
 
 finding_exact : CmpEqualImpliesEq finding_order
 finding_exact a b e =
@@ -197,12 +218,18 @@ finding_exact a b e =
 denial_order_total : IsTotalOrder denial_order
 denial_order_total =
     then_total (on_total (λ (d : Denial). d.driver) nat_cmp_total) (then_total (on_total (λ (d : Denial). d.article) nat_cmp_total)
-    (then_total (on_total (λ (d : Denial). d.from) nat_cmp_total) (then_total (on_total (λ (d : Denial). d.to) nat_cmp_total) (on_total (λ (d : Denial). d.value) int_cmp_total))))
+    (then_total (on_total (λ (d : Denial). d.from) nat_cmp_total)
+    (then_total (on_total (λ (d : Denial). d.to) nat_cmp_total) (on_total (λ (d : Denial). d.value) int_cmp_total))))
 
 finding_agrees : (a b : Denial) → HasDays a → HasDays b → denial_order a b ≡ finding_order (finding_of a) (finding_of b)
 finding_agrees a b first second =
-    ap (λ o. ordering_then (nat_cmp a.driver b.driver) (ordering_then (nat_cmp a.article b.article) (ordering_then o (ordering_then (nat_cmp a.to b.to) (int_cmp a.value b.value))))) (same_order a.from b.from first.0 second.0)
-    ∙ ap (λ o. ordering_then (nat_cmp a.driver b.driver) (ordering_then (nat_cmp a.article b.article) (ordering_then (int_cmp (number_of a.from) (number_of b.from)) (ordering_then o (int_cmp a.value b.value))))) (same_order a.to b.to first.1 second.1)
+    ap (λ o. ordering_then (nat_cmp a.driver b.driver)
+    (ordering_then (nat_cmp a.article b.article) (ordering_then o (ordering_then (nat_cmp a.to b.to) (int_cmp a.value b.value)))))
+    (same_order a.from b.from first.0 second.0)
+    ∙ ap (λ o. ordering_then (nat_cmp a.driver b.driver)
+    (ordering_then (nat_cmp a.article b.article)
+    (ordering_then (int_cmp (number_of a.from) (number_of b.from)) (ordering_then o (int_cmp a.value b.value)))))
+    (same_order a.to b.to first.1 second.1)
 
 -- what stands for a denial past the end of a list
 past_end : Denial
@@ -214,7 +241,8 @@ findings_rise ds days up i j e order within =
     let first : HasDays (get_or ds j past_end) = All-get_or HasDays ds j past_end below days in
     let second : HasDays (get_or ds i past_end) = All-get_or HasDays ds i past_end (omega (arith, order, below)) days in
     ap (λ f. is_lt (finding_order f (get_or (map finding_of ds) i e))) (get_or-map finding_of ds j past_end e below)
-    ∙ ap (λ f. is_lt (finding_order (finding_of (get_or ds j past_end)) f)) (get_or-map finding_of ds i past_end e (omega (arith, order, below)))
+    ∙ ap (λ f. is_lt (finding_order (finding_of (get_or ds j past_end)) f))
+    (get_or-map finding_of ds i past_end e (omega (arith, order, below)))
     ∙ ap is_lt (sym (finding_agrees (get_or ds j past_end) (get_or ds i past_end) first second))
     ∙ rising_from denial_order denial_order_total ds up i j past_end order below
 
@@ -244,14 +272,19 @@ denials_one (x ∷ xs) (y ∷ ys) first second e =
 -- there is one list of what is denied
 pub one_list : (turns : List Turn) (a b : List Denial) → AreDenials turns a → AreDenials turns b → a ≡ b
 one_list turns a b first second =
-    let orders : IsPermutation first.ordered second.ordered = IsPermutation-trans first.ordered turns second.ordered (IsPermutation-sym turns first.ordered first.same) second.same in
+    let orders : IsPermutation first.ordered second.ordered =
+    IsPermutation-trans first.ordered turns second.ordered (IsPermutation-sym turns first.ordered first.same) second.same in
     let one : first.ordered ≡ second.ordered =
-    one_sorted turn_order turn_order_total turn_exact first.ordered second.ordered (rising_from turn_order turn_order_total first.ordered first.rising)
+    one_sorted turn_order turn_order_total turn_exact first.ordered second.ordered
+    (rising_from turn_order turn_order_total first.ordered first.rising)
     (rising_from turn_order turn_order_total second.ordered second.rising) (same_from first.ordered second.ordered orders) in
     let whole : List Turn → List Finding = λ ts. flat_map findings_of (drivers_lists ts) in
-    let found : IsPermutation (whole first.ordered) (map finding_of b) = subst (λ ts. IsPermutation (flat_map findings_of (drivers_lists ts)) (map finding_of b)) (sym one) second.are in
+    let found : IsPermutation (whole first.ordered) (map finding_of b) =
+    subst (λ ts. IsPermutation (flat_map findings_of (drivers_lists ts)) (map finding_of b)) (sym one) second.are in
     let moved : IsPermutation (map finding_of a) (map finding_of b) =
-    IsPermutation-trans (map finding_of a) (whole first.ordered) (map finding_of b) (IsPermutation-sym (whole first.ordered) (map finding_of a) first.are) found in
+    IsPermutation-trans (map finding_of a) (whole first.ordered) (map finding_of b)
+    (IsPermutation-sym (whole first.ordered) (map finding_of a) first.are) found in
     denials_one a b first.days second.days
-    (one_sorted finding_order finding_order_total finding_exact (map finding_of a) (map finding_of b) (findings_rise a first.days first.order)
+    (one_sorted finding_order finding_order_total finding_exact (map finding_of a) (map finding_of b)
+    (findings_rise a first.days first.order)
     (findings_rise b second.days second.order) (same_from (map finding_of a) (map finding_of b) moved))

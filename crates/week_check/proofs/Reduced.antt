@@ -22,21 +22,26 @@ or_true true = refl
 or_true false = refl
 
 any_same : (rs : List Rest) (r : Rest) → is_weekly r ≡ false → list_any is_weekly (rs ++ r ∷ []) ≡ list_any is_weekly rs
-any_same rs r e = list_any-append is_weekly rs (r ∷ []) ∙ ap (λ b. list_any is_weekly rs || b) (any_one r false e) ∙ or_false (list_any is_weekly rs)
+any_same rs r e = list_any-append is_weekly rs (r ∷ []) ∙ ap (λ b. list_any is_weekly rs || b) (any_one r false e)
+    ∙ or_false (list_any is_weekly rs)
 
 any_true : (rs : List Rest) (r : Rest) → is_weekly r ≡ true → list_any is_weekly (rs ++ r ∷ []) ≡ true
-any_true rs r e = list_any-append is_weekly rs (r ∷ []) ∙ ap (λ b. list_any is_weekly rs || b) (any_one r true e) ∙ or_true (list_any is_weekly rs)
+any_true rs r e = list_any-append is_weekly rs (r ∷ []) ∙ ap (λ b. list_any is_weekly rs || b) (any_one r true e)
+    ∙ or_true (list_any is_weekly rs)
 
 since_more : (rs : List Rest) (r : Rest) → is_weekly r ≡ false → since_weekly (rs ++ r ∷ []) ≡ since_weekly rs ++ r ∷ []
 since_more [] r e = ap (λ b. if b then [] else r ∷ []) (any_one r false e)
 since_more (q ∷ rs) r e =
-    let step : (b : Bool) → (if b then since_weekly (rs ++ r ∷ []) else q ∷ (rs ++ r ∷ [])) ≡ (if b then since_weekly rs else q ∷ rs) ++ r ∷ [] =
-    λ b. elim b as (λ b. (if b then since_weekly (rs ++ r ∷ []) else q ∷ (rs ++ r ∷ [])) ≡ (if b then since_weekly rs else q ∷ rs) ++ r ∷ []) [ true ↦ since_more rs r e | false ↦ refl ] in
+    let step : (b : Bool) →
+    (if b then since_weekly (rs ++ r ∷ []) else q ∷ (rs ++ r ∷ [])) ≡ (if b then since_weekly rs else q ∷ rs) ++ r ∷ [] =
+    λ b. elim b as (λ b. (if b then since_weekly (rs ++ r ∷ []) else q ∷ (rs ++ r ∷ [])) ≡ (if b then since_weekly rs else q ∷ rs)
+    ++ r ∷ []) [ true ↦ since_more rs r e | false ↦ refl ] in
     ap (λ b. if b then since_weekly (rs ++ r ∷ []) else q ∷ (rs ++ r ∷ [])) (any_same (q ∷ rs) r e) ∙ step (list_any is_weekly (q ∷ rs))
 
 since_none : (rs : List Rest) (r : Rest) → is_weekly r ≡ true → since_weekly (rs ++ r ∷ []) ≡ []
 since_none [] r e = ap (λ b. if b then [] else r ∷ []) (any_one r true e)
-since_none (q ∷ rs) r e = ap (λ b. if b then since_weekly (rs ++ r ∷ []) else q ∷ (rs ++ r ∷ [])) (any_true (q ∷ rs) r e) ∙ since_none rs r e
+since_none (q ∷ rs) r e =
+    ap (λ b. if b then since_weekly (rs ++ r ∷ []) else q ∷ (rs ++ r ∷ [])) (any_true (q ∷ rs) r e) ∙ since_none rs r e
 
 count_one : (r : Rest) (b : Bool) → is_reduced r ≡ b → length (filter is_reduced (r ∷ [])) ≡ (if b then 1 else 0)
 count_one r true e = grind (arith, common_steps)
@@ -45,13 +50,18 @@ count_one r false e = grind (arith, common_steps)
 after : (w b : Bool) (n : ℕ) → ℕ
 after w b n = if w then 0 else (if b then n + 1 else n)
 
-more_by : (rs : List Rest) (r : Rest) (w b : Bool) → is_weekly r ≡ w → is_reduced r ≡ b → reduced_in (rs ++ r ∷ []) ≡ after w b (reduced_in rs)
+more_by : (rs : List Rest) (r : Rest) (w b : Bool) → is_weekly r ≡ w → is_reduced r ≡ b →
+    reduced_in (rs ++ r ∷ []) ≡ after w b (reduced_in rs)
 unfolding after
 more_by rs r true b e f = ap (λ qs. length (filter is_reduced qs)) (since_none rs r e)
-more_by rs r false true e f = ap (λ qs. length (filter is_reduced qs)) (since_more rs r e) ∙ ap length (filter-append is_reduced (since_weekly rs) (r ∷ [])) ∙ length-append (filter is_reduced (since_weekly rs)) (filter is_reduced (r ∷ [])) ∙ ap (λ k. reduced_in rs + k) (count_one r true f)
+more_by rs r false true e f = ap (λ qs. length (filter is_reduced qs)) (since_more rs r e)
+    ∙ ap length (filter-append is_reduced (since_weekly rs) (r ∷ []))
+    ∙ length-append (filter is_reduced (since_weekly rs)) (filter is_reduced (r ∷ [])) ∙ ap (λ k. reduced_in rs + k) (count_one r true f)
 more_by rs r false false e f =
     let plain : reduced_in rs + 0 ≡ reduced_in rs = omega arith in
-    ap (λ qs. length (filter is_reduced qs)) (since_more rs r e) ∙ ap length (filter-append is_reduced (since_weekly rs) (r ∷ [])) ∙ length-append (filter is_reduced (since_weekly rs)) (filter is_reduced (r ∷ [])) ∙ ap (λ k. reduced_in rs + k) (count_one r false f) ∙ plain
+    ap (λ qs. length (filter is_reduced qs)) (since_more rs r e) ∙ ap length (filter-append is_reduced (since_weekly rs) (r ∷ []))
+    ∙ length-append (filter is_reduced (since_weekly rs)) (filter is_reduced (r ∷ []))
+    ∙ ap (λ k. reduced_in rs + k) (count_one r false f) ∙ plain
 
 -- one rest more
 pub reduced_more : (rs : List Rest) (r : Rest) → reduced_in (rs ++ r ∷ []) ≡ reduced_after (reduced_in rs) r
@@ -61,8 +71,10 @@ reduced_more rs r = more_by rs r (is_weekly r) (is_reduced r) refl refl
 pub after_few : (n : ℕ) (r : Rest) → reduced_after n r ≤ n + 1
 after_few n r = grind arith
 
-pub count_more : (rs : List Rest) (i n count : ℕ) (r : Rest) → n ≡ reduced_after count r → count ≡ reduced_in (take i rs) → i < length rs → r ≡ get_or rs i r → n ≡ reduced_in (take (i + 1) rs)
-count_more rs i n count r e so_far within is = e ∙ ap (λ k. reduced_after k r) so_far ∙ sym (reduced_more (take i rs) r) ∙ ap (λ qs. reduced_in qs) (sym (front_at rs i r within is))
+pub count_more : (rs : List Rest) (i n count : ℕ) (r : Rest) → n ≡ reduced_after count r → count ≡ reduced_in (take i rs) → i < length rs →
+    r ≡ get_or rs i r → n ≡ reduced_in (take (i + 1) rs)
+count_more rs i n count r e so_far within is =
+    e ∙ ap (λ k. reduced_after k r) so_far ∙ sym (reduced_more (take i rs) r) ∙ ap (λ qs. reduced_in qs) (sym (front_at rs i r within is))
 
 pub count_few : (i n count : ℕ) (r : Rest) → n ≡ reduced_after count r → count ≤ i → n ≤ i + 1
 count_few i n count r e few = omega (arith, e, few, after_few count r)

@@ -27,7 +27,8 @@ refused_same faults all r same given = subst (λ fs. IsFirstOf fs r) same given
 pub refused_after : (front rest : List TableFault) (r : RosterFault) → front ≡ [] → IsFirstOf rest r → IsFirstOf (front ++ rest) r
 refused_after front rest r none given = subst (λ fs. IsFirstOf (fs ++ rest) r) (sym none) given
 
-pub refused_at : (faults : List TableFault) (x : TableFault) (r : RosterFault) → first faults ≡ Some x → IsFirstOf (x ∷ []) r → IsFirstOf faults r
+pub refused_at : (faults : List TableFault) (x : TableFault) (r : RosterFault) → first faults ≡ Some x →
+    IsFirstOf (x ∷ []) r → IsFirstOf faults r
 refused_at faults x Memory e given = tt
 refused_at faults x (Days a b) e given = given
 refused_at faults x (Table fault) e given = e ∙ given
@@ -39,43 +40,53 @@ module _ {X : Type 0} (fails : X → Bool) (fault_at : X → TableFault) where
       let parts = find_split x (find fails xs) (fails x) e in
       ap (λ b. when b (fault_at x) ++ flat_map (λ x. when (fails x) (fault_at x)) xs) parts.0 ∙ none_faulty xs parts.1
 
-  pub first_faulty : (xs : List X) (y : X) → find fails xs ≡ Some y → first (flat_map (λ x. when (fails x) (fault_at x)) xs) ≡ Some (fault_at y)
+  pub first_faulty : (xs : List X) (y : X) → find fails xs ≡ Some y →
+      first (flat_map (λ x. when (fails x) (fault_at x)) xs) ≡ Some (fault_at y)
   first_faulty [] y e = absurd cc
   first_faulty (x ∷ xs) y e = by (fails x) e (λ found. first_faulty xs y found)
     where
       rest : List TableFault
       rest = flat_map (λ x. when (fails x) (fault_at x)) xs
 
-      by : (b : Bool) → (if b then Some x else find fails xs) ≡ Some y → (find fails xs ≡ Some y → first rest ≡ Some (fault_at y)) → first (when b (fault_at x) ++ rest) ≡ Some (fault_at y)
+      by : (b : Bool) → (if b then Some x else find fails xs) ≡ Some y → (find fails xs ≡ Some y → first rest ≡ Some (fault_at y)) →
+          first (when b (fault_at x) ++ rest) ≡ Some (fault_at y)
       by true found later = let same : x ≡ y = cc in ap (λ z. Some (fault_at z)) same
       by false found later = later found
 
 -- one row more
-pub row_right : (number : ℕ) (before : List DriverDay) (fields : RowFields) → value_faults number fields ≡ [] → list_any (same_key (key_of (entry_of fields))) before ≡ false → row_fault number before fields ≡ []
-row_right number before fields right new = ap (λ fs. fs ++ key_fault number before (key_of (entry_of fields))) right ∙ ap (λ b. when b (fault KeyTwice roster_name [] number)) new
+pub row_right : (number : ℕ) (before : List DriverDay) (fields : RowFields) → value_faults number fields ≡ [] →
+    list_any (same_key (key_of (entry_of fields))) before ≡ false → row_fault number before fields ≡ []
+row_right number before fields right new =
+    ap (λ fs. fs ++ key_fault number before (key_of (entry_of fields))) right ∙ ap (λ b. when b (fault KeyTwice roster_name [] number)) new
 
-pub row_twice : (number : ℕ) (before : List DriverDay) (fields : RowFields) (r : RosterFault) → value_faults number fields ≡ [] → list_any (same_key (key_of (entry_of fields))) before ≡ true
+pub row_twice : (number : ℕ) (before : List DriverDay) (fields : RowFields) (r : RosterFault) → value_faults number fields ≡ [] →
+    list_any (same_key (key_of (entry_of fields))) before ≡ true
     → IsFirstOf (fault KeyTwice roster_name [] number ∷ []) r → IsFirstOf (row_fault number before fields) r
 row_twice number before fields r right twice given =
     refused_after (value_faults number fields) (key_fault number before (key_of (entry_of fields))) r right
     (subst (λ b. IsFirstOf (when b (fault KeyTwice roster_name [] number)) r) (sym twice) given)
 
-module _ (at : List RowFields) (fields : RowFields) (later : List RowFields) (is : at ≡ fields ∷ later) (number : ℕ) (before : List DriverDay) (whole : List TableFault)
+module _ (at : List RowFields) (fields : RowFields) (later : List RowFields) (is : at ≡ fields ∷ later) (number : ℕ)
+    (before : List DriverDay) (whole : List TableFault)
     (so_far : row_faults number before at ≡ whole) where
   parts : row_fault number before fields ++ row_faults (number + 1) (before ++ key_of (entry_of fields) ∷ []) later ≡ whole
   parts = ap (row_faults number before) (sym is) ∙ so_far
 
   pub row_refused : (r : RosterFault) → IsFirstOf (row_fault number before fields) r → IsFirstOf whole r
-  row_refused r given = refused_same _ whole r parts (refused_front _ (row_faults (number + 1) (before ++ key_of (entry_of fields) ∷ []) later) r given)
+  row_refused r given = refused_same _ whole r parts
+      (refused_front _ (row_faults (number + 1) (before ++ key_of (entry_of fields) ∷ []) later) r given)
 
-  pub row_step : (after : List DriverDay) → row_fault number before fields ≡ [] → after ≡ before ++ key_of (entry_of fields) ∷ [] → row_faults (number + 1) after later ≡ whole
+  pub row_step : (after : List DriverDay) → row_fault number before fields ≡ [] → after ≡ before ++ key_of (entry_of fields) ∷ [] →
+      row_faults (number + 1) after later ≡ whole
   row_step after right keys =
       ap (λ ks. row_faults (number + 1) ks later) keys
       ∙ ap (λ fs. fs ++ row_faults (number + 1) (before ++ key_of (entry_of fields) ∷ []) later) (sym right)
       ∙ parts
 
 -- one column more
-pub column_step : (test : RosterColumn → Bool) (i : ℕ) (column : RosterColumn) (whole : Option RosterColumn) → i < length columns → column ≡ get_or columns i column → test column ≡ false
+pub column_step : (test : RosterColumn → Bool) (i : ℕ) (column : RosterColumn) (whole : Option RosterColumn) → i < length columns →
+    column ≡ get_or columns i column → test column ≡ false
     → find test (drop i columns) ≡ whole → find test (drop (i + 1) columns) ≡ whole
 column_step test i column whole within is passes so_far =
-    ap (λ b. if b then Some column else find test (drop (i + 1) columns)) (sym passes) ∙ ap (λ cs. find test cs) (sym (rest_at columns i column within is)) ∙ so_far
+    ap (λ b. if b then Some column else find test (drop (i + 1) columns)) (sym passes)
+    ∙ ap (λ cs. find test cs) (sym (rest_at columns i column within is)) ∙ so_far

@@ -60,7 +60,8 @@ has_duty_in monday duties = list_any (is_in_week monday) duties
 
 -- Article 6(2): at most 56 hours of driving in a week.
 abbrev pub weekly_at : ℕ → ℤ → List Turn → List Finding
-weekly_at driver monday duties = when (nat_lt 201600 (week_sum monday duties)) (finding driver 62 monday (monday +ℤ pos 6) (pos (week_sum monday duties)))
+weekly_at driver monday duties =
+    when (nat_lt 201600 (week_sum monday duties)) (finding driver 62 monday (monday +ℤ pos 6) (pos (week_sum monday duties)))
 
 abbrev pub two_weeks_sum : ℤ → List Turn → ℕ
 two_weeks_sum monday duties = week_sum monday duties + week_sum (monday +ℤ pos 7) duties
@@ -74,7 +75,8 @@ fortnight_at driver monday duties =
 -- a week is looked at once, at the first of its duties
 abbrev pub weeks_at : List Turn → List Turn → Turn → List Finding
 weeks_at duties earlier t =
-    if has_duty_in (week_of t.day) earlier then [] else weekly_at t.driver (week_of t.day) duties ++ fortnight_at t.driver (week_of t.day) duties
+    if has_duty_in (week_of t.day) earlier then [] else weekly_at t.driver (week_of t.day) duties
+    ++ fortnight_at t.driver (week_of t.day) duties
 
 abbrev pub weeks_from : List Turn → List Turn → List Turn → List Finding
 weeks_from duties earlier [] = []
@@ -89,7 +91,8 @@ abbrev pub is_past_reduced : List Rest → Rest → Bool
 is_past_reduced earlier r = is_reduced r && nat_le 3 (reduced_in earlier)
 
 abbrev pub reduced_of : ℕ → List Rest → Rest → List Finding
-reduced_of driver earlier r = when (is_past_reduced earlier r) (finding driver 84 (number_of r.day) (number_of r.next) (pos (reduced_in earlier + 1)))
+reduced_of driver earlier r =
+    when (is_past_reduced earlier r) (finding driver 84 (number_of r.day) (number_of r.next) (pos (reduced_in earlier + 1)))
 
 abbrev pub rests_at : ℕ → List Rest → Rest → List Finding
 rests_at driver earlier r = short_of driver r ++ reduced_of driver earlier r

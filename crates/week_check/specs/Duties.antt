@@ -36,7 +36,8 @@ rest_order a b = ordering_then (int_cmp a.end b.end) (ordering_then (nat_cmp a.d
 
 -- By driver; a driver's duties by their begin, then by their day. What is left decides nowhere in a roster, where driver and day are a key.
 abbrev pub turn_order : Turn → Turn → Ordering
-turn_order a b = ordering_then (nat_cmp a.driver b.driver) (ordering_then (int_cmp a.begin b.begin) (ordering_then (nat_cmp a.day b.day) (rest_order a b)))
+turn_order a b = ordering_then (nat_cmp a.driver b.driver)
+    (ordering_then (int_cmp a.begin b.begin) (ordering_then (nat_cmp a.day b.day) (rest_order a b)))
 
 -- whether a duty comes before another
 abbrev pub is_before : Turn → Turn → Bool

@@ -147,7 +147,8 @@ row_fault number before fields = value_faults number fields ++ key_fault number 
 -- row by row, counted from `number`
 abbrev pub row_faults : ℕ → List DriverDay → List RowFields → List TableFault
 row_faults number before [] = []
-row_faults number before (fields ∷ rows) = row_fault number before fields ++ row_faults (number + 1) (before ++ key_of (entry_of fields) ∷ []) rows
+row_faults number before (fields ∷ rows) =
+    row_fault number before fields ++ row_faults (number + 1) (before ++ key_of (entry_of fields) ∷ []) rows
 
 abbrev pub is_missing : List Head → RosterColumn → Bool
 is_missing heads column = is_none (place_of (name_of column) heads)
@@ -172,7 +173,8 @@ roster_of tables = find (has_name roster_name) tables
 
 -- all faults of the roster's table, in their order
 abbrev pub roster_faults : List Table → List TableFault
-roster_faults tables = when (nat_lt 1 (length (filter (has_name roster_name) tables))) (fault kinds.TableTwice roster_name [] 0) ++ faults_in (roster_of tables)
+roster_faults tables = when (nat_lt 1 (length (filter (has_name roster_name) tables))) (fault kinds.TableTwice roster_name [] 0)
+    ++ faults_in (roster_of tables)
 
 -- a moment of a day in seconds from the begin of 1970-01-01: 86,400 for each day, and the seconds of the day
 abbrev pub moment : ℕ → ℤ → ℤ

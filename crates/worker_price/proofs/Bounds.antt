@@ -28,21 +28,25 @@ rises_from : (x : ℕ) (xs : List ℕ) → Rises (x ∷ xs) → Rises xs × From
 rises_from x [] h = (tt, tt)
 rises_from x (y ∷ ys) h = (h.1, (let l = h.0 in omega arith))
 
-add_high : (a b : ℤ) (n x k : ℕ) → a ≤ℤ pos 10000000000000 → b ≤ℤ pos (10000000000000 * (n - (x + 1))) → k ≤ x → x < n → (a +ℤ b) ≤ℤ pos (10000000000000 * (n - k))
+add_high : (a b : ℤ) (n x k : ℕ) → a ≤ℤ pos 10000000000000 → b ≤ℤ pos (10000000000000 * (n - (x + 1))) → k ≤ x → x < n →
+    (a +ℤ b) ≤ℤ pos (10000000000000 * (n - k))
 add_high a b n x k h l low high = omega (arith, ints)
 
 -- a list that rises costs no more than all items from its first one on
-price_high : (prices : List Price) (n k : ℕ) (xs : List ℕ) → AllWithin 10000000000000 prices → Rises xs → AllBelow n xs → From k xs → price_of prices xs ≤ℤ pos (10000000000000 * (n - k))
+price_high : (prices : List Price) (n k : ℕ) (xs : List ℕ) → AllWithin 10000000000000 prices → Rises xs → AllBelow n xs → From k xs →
+    price_of prices xs ≤ℤ pos (10000000000000 * (n - k))
 price_high prices n k [] within rises below from = zero_low (10000000000000 * (n - k))
 price_high prices n k (x ∷ xs) within rises below from =
     let r = rises_from x xs rises in
-    add_high (price_at prices x) (price_of prices xs) n x k (price_at_high 10000000000000 prices x within) (price_high prices n (x + 1) xs within r.0 below.1 r.1) from below.0
+    add_high (price_at prices x) (price_of prices xs) n x k (price_at_high 10000000000000 prices x within)
+    (price_high prices n (x + 1) xs within r.0 below.1 r.1) from below.0
 
 from_none : (xs : List ℕ) → From 0 xs
 from_none [] = tt
 from_none (x ∷ xs) = omega arith
 
-low_where : (worth n : ℕ) (z : ℤ) → n ≤ 3000 → z ≤ℤ pos (10000000000000 * (n - 0)) → neg_ℤ (pos 30000000000000000) ≤ℤ (pos (1000 * worth) -ℤ z)
+low_where : (worth n : ℕ) (z : ℤ) → n ≤ 3000 → z ≤ℤ pos (10000000000000 * (n - 0)) →
+    neg_ℤ (pos 30000000000000000) ≤ℤ (pos (1000 * worth) -ℤ z)
 low_where worth n z few high = omega (arith, ints)
 
 below_zero : neg_ℤ (pos 30000000000000000) ≤ℤ pos 0
@@ -51,8 +55,10 @@ below_zero = omega (arith, ints)
 pub least_is_bounded : (p : Problem) → BestIsFirstLeast p → BestIsFitting p → LeastIsBounded p
 least_is_bounded p best fitting prices class few within low =
     ⊎_elim (λ (z : least_of p prices class ≡ pos 0). subst (λ (l : ℤ). neg_ℤ (pos 30000000000000000) ≤ℤ l) (sym z) below_zero)
-    (λ (r : (g : ℕ) × (c : Column) × (g < groups_of p.items) × (best_of p prices class g ≡ Some c) × (value prices c ≡ least_of p prices class)).
+    (λ (r : (g : ℕ) × (c : Column) × (g < groups_of p.items) × (best_of p prices class g ≡ Some c)
+    × (value prices c ≡ least_of p prices class)).
     let fit = fitting prices class r.0 r.1 ((best prices class r.0 low).is_first_least r.1 r.3) in
     subst (λ (l : ℤ). neg_ℤ (pos 30000000000000000) ≤ℤ l) r.4
-    (low_where r.1.worth p.items (price_of prices r.1.items) few (price_high prices p.items 0 r.1.items within fit.rises fit.items (from_none r.1.items))))
+    (low_where r.1.worth p.items (price_of prices r.1.items) few
+    (price_high prices p.items 0 r.1.items within fit.rises fit.items (from_none r.1.items))))
     (least_over prices (best_of p prices class) (groups_of p.items)).reached

@@ -24,14 +24,16 @@ module _ {A B : Type 0} (R : A → B → Type 0) where
   zip_at [] ys x h c = absurd (let l = c.1 in omega arith)
   zip_at (a ∷ xs) [] x h c = absurd h
   zip_at (a ∷ xs) (b ∷ ys) x h (zero, l, e) = (b, (0, omega arith, refl), subst (λ (z : A). R z b) e h.0)
-  zip_at (a ∷ xs) (b ∷ ys) x h (suc k, l, e) = let r = zip_at xs ys x h.1 (k, omega arith, e) in (r.0, (suc r.1.0, (let m = r.1.1 in omega arith), r.1.2), r.2)
+  zip_at (a ∷ xs) (b ∷ ys) x h (suc k, l, e) =
+      let r = zip_at xs ys x h.1 (k, omega arith, e) in (r.0, (suc r.1.0, (let m = r.1.1 in omega arith), r.1.2), r.2)
 
 -- a number that is counted stands there
 pub counted_there : (x : ℕ) (xs : List ℕ) → 0 < times x xs → Contains xs x
 counted_there x [] h = absurd (omega arith)
 counted_there x (y ∷ ys) h = elim (ℕ_discrete y x) [
   | yes same ↦ (0, omega arith, same)
-  | no apart ↦ let h' : 0 < times x ys = (let g = rw (ne_eqb y x apart) at h in omega arith) in let r = counted_there x ys h' in (suc r.0, (let l = r.1 in omega arith), r.2)
+  | no apart ↦ let h' : 0 < times x ys = (let g = rw (ne_eqb y x apart) at h in omega arith) in let r = counted_there x ys h' in
+      (suc r.0, (let l = r.1 in omega arith), r.2)
 ]
 
 task_there : (t : ℕ) (found : List Found) → Contains (map task_of found) t → (f : Found) × Contains found f × (f.task ≡ t)
@@ -42,7 +44,8 @@ task_there t (f ∷ fs) c =
     (head_cases f.task (map task_of fs) t c)
 
 module _ (prices : List Price) (groups : ℕ) where
-  entry_there : (found : List Found) (f : Found) (c : Column) → Contains found f → f.column ≡ Some c → Contains (lowerings prices groups found) (f.task / groups, value prices c)
+  entry_there : (found : List Found) (f : Found) (c : Column) → Contains found f → f.column ≡ Some c →
+      Contains (lowerings prices groups found) (f.task / groups, value prices c)
   entry_there [] f c h e = absurd (let l = h.1 in omega arith)
   entry_there (g ∷ gs) f c h e =
       ⊎_elim
@@ -51,10 +54,12 @@ module _ (prices : List Price) (groups : ℕ) where
       ap (λ (z : Found). lowering prices (z.task / groups) z.column) same ∙ ap (lowering prices (f.task / groups)) e in
       Contains-append_left (lowering prices (g.task / groups) g.column) (lowerings prices groups gs) (f.task / groups, value prices c)
       (subst (λ (l : List (ℕ × ℤ)). Contains l (f.task / groups, value prices c)) (sym mine) (0, omega arith, refl)))
-      (λ (rest : Contains gs f). Contains-append_right (lowering prices (g.task / groups) g.column) (lowerings prices groups gs) (f.task / groups, value prices c) (entry_there gs f c rest e))
+      (λ (rest : Contains gs f). Contains-append_right (lowering prices (g.task / groups) g.column) (lowerings prices groups gs)
+      (f.task / groups, value prices c) (entry_there gs f c rest e))
       (head_cases g gs f h)
 
-  entry_of : (k t : ℕ) (x : ℤ) (o : Option Column) → Contains (lowering prices t o) (k, x) → (c : Column) × (o ≡ Some c) × (t ≡ k) × (value prices c ≡ x)
+  entry_of : (k t : ℕ) (x : ℤ) (o : Option Column) → Contains (lowering prices t o) (k, x) →
+      (c : Column) × (o ≡ Some c) × (t ≡ k) × (value prices c ≡ x)
   entry_of k t x None h = absurd (let l = h.1 in omega arith)
   entry_of k t x (Some c) h =
       ⊎_elim (λ (e : (t, value prices c) ≡ (k, x)). (c, refl, ap (λ (p : ℕ × ℤ). p.0) e, ap (λ (p : ℕ × ℤ). p.1) e))
@@ -65,31 +70,37 @@ module _ (prices : List Price) (groups : ℕ) where
   entry_back [] k x h = absurd (let l = h.1 in omega arith)
   entry_back (g ∷ gs) k x h =
       ⊎_elim
-      (λ (c : Contains (lowering prices (g.task / groups) g.column) (k, x)). (g, (0, omega arith, refl), entry_of k (g.task / groups) x g.column c))
-      (λ (c : Contains (lowerings prices groups gs) (k, x)). let r = entry_back gs k x c in (r.0, (suc r.1.0, (let l = r.1.1 in omega arith), r.1.2), r.2))
+      (λ (c : Contains (lowering prices (g.task / groups) g.column) (k, x)).
+      (g, (0, omega arith, refl), entry_of k (g.task / groups) x g.column c))
+      (λ (c : Contains (lowerings prices groups gs) (k, x)). let r =
+      entry_back gs k x c in (r.0, (suc r.1.0, (let l = r.1.1 in omega arith), r.1.2), r.2))
       (Contains-append_cases (lowering prices (g.task / groups) g.column) (lowerings prices groups gs) (k, x) h)
 
-zip_append : {A B : Type 0} (R : A → B → Type 0) (xs zs : List A) (ys ws : List B) → AllZip R xs ys → AllZip R zs ws → AllZip R (xs ++ zs) (ys ++ ws)
+zip_append : {A B : Type 0} (R : A → B → Type 0) (xs zs : List A) (ys ws : List B) → AllZip R xs ys → AllZip R zs ws →
+    AllZip R (xs ++ zs) (ys ++ ws)
 zip_append R [] zs [] ws a b = b
 zip_append R [] zs (y ∷ ys) ws a b = absurd a
 zip_append R (x ∷ xs) zs [] ws a b = absurd a
 zip_append R (x ∷ xs) zs (y ∷ ys) ws a b = (a.0, zip_append R xs zs ys ws a.1 b)
 
-lowerings_both : (prices : List Price) (groups : ℕ) (fs gs : List Found) → lowerings prices groups (fs ++ gs) ≡ lowerings prices groups fs ++ lowerings prices groups gs
+lowerings_both : (prices : List Price) (groups : ℕ) (fs gs : List Found) →
+    lowerings prices groups (fs ++ gs) ≡ lowerings prices groups fs ++ lowerings prices groups gs
 lowerings_both prices groups [] gs = refl
 lowerings_both prices groups (f ∷ fs) gs =
     ap (λ l. lowering prices (f.task / groups) f.column ++ l) (lowerings_both prices groups fs gs)
     ∙ sym (append_assoc (lowering prices (f.task / groups) f.column) (lowerings prices groups fs) (lowerings prices groups gs))
 
 -- two desks joined have gathered what both had
-pub gathered_join : (best : Best) (prices : List Price) (groups : ℕ) (v w : Sheet) (fs gs : List Found) → Gathered best prices groups v fs → Gathered best prices groups w gs → Gathered best prices groups (joined v w) (fs ++ gs)
+pub gathered_join : (best : Best) (prices : List Price) (groups : ℕ) (v w : Sheet) (fs gs : List Found) → Gathered best prices groups v fs →
+    Gathered best prices groups w gs → Gathered best prices groups (joined v w) (fs ++ gs)
 gathered_join best prices groups v w fs gs a b = record {
   drawn = (λ i. a.drawn i ++ b.drawn i) ∙ sym (map-append task_of fs gs);
   looks = zip_append (FoundUnder best prices groups) fs gs v.looks w.looks a.looks b.looks;
   lowered = (λ i. a.lowered i ++ b.lowered i) ∙ sym (lowerings_both prices groups fs gs);
 }
 
-module _ (best : Best) (prices : List Price) (groups tasks : ℕ) (v : Sheet) (found : List Found) (g : Gathered best prices groups v found) (all : HasAll v) (enough : v.tasks ≡ tasks) (ended : 0 < v.over) (some : (f : Found) → Contains found f → 0 < groups) where
+module _ (best : Best) (prices : List Price) (groups tasks : ℕ) (v : Sheet) (found : List Found) (g : Gathered best prices groups v found)
+    (all : HasAll v) (enough : v.tasks ≡ tasks) (ended : 0 < v.over) (some : (f : Found) → Contains found f → 0 < groups) where
   -- each task was found
   pub each_found : (t : ℕ) → t < tasks → (f : Found) × Contains found f × (f.task ≡ t)
   each_found t h =
@@ -119,11 +130,15 @@ module _ (best : Best) (prices : List Price) (groups tasks : ℕ) (v : Sheet) (f
         let at : f.0.task / groups ≡ k = ap (λ (t : ℕ). t / groups) f.2 ∙ div-mul-add k groups i small in
         let rest : f.0.task % groups ≡ i = ap (λ (t : ℕ). t % groups) f.2 ∙ mod-mul-add k groups i small in
         let seen = above_least k l p.0 least (p.2.0 ∙ at) p.1 in
-        let column : f.0.column ≡ within (limit_of p.0.1) prices (Some c) = p.2.1 ∙ ap (λ (o : Option Column). within (limit_of p.0.1) prices o) (ap (λ n. best n (f.0.task % groups)) at ∙ (ap (best k) rest ∙ is)) in
+        let column : f.0.column ≡ within (limit_of p.0.1) prices (Some c) =
+        p.2.1 ∙ ap (λ (o : Option Column). within (limit_of p.0.1) prices o)
+        (ap (λ n. best n (f.0.task % groups)) at ∙ (ap (best k) rest ∙ is)) in
         found_low l (value prices c) p.0.1 least.most seen
         (λ low.
         let there = entry_there prices groups found f.0 c f.1 (column ∙ found_where prices c (limit_of p.0.1) low) in
-        least.below (value prices c) (subst (λ (n : ℕ). Contains v.lowered (n, value prices c)) at (subst (λ (e : List (ℕ × ℤ)). Contains e (f.0.task / groups, value prices c)) (sym g.lowered) there)));
+        least.below (value prices c)
+        (subst (λ (n : ℕ). Contains v.lowered (n, value prices c)) at (subst
+        (λ (e : List (ℕ × ℤ)). Contains e (f.0.task / groups, value prices c)) (sym g.lowered) there)));
     reached =
         ⊎_elim (λ (z : l ≡ pos 0). inl z)
         (λ (d : Contains v.lowered (k, l)).
@@ -131,13 +146,22 @@ module _ (best : Best) (prices : List Price) (groups tasks : ℕ) (v : Sheet) (f
         let f = e.0 in let c = e.2.0 in
         let p = look_of f e.1 in
         let positive = some f e.1 in
-        inr (f.task % groups, c, omega arith, ap (λ (n : ℕ). best n (f.task % groups)) (sym e.2.2) ∙ within_some prices (limit_of p.0.1) (best (f.task / groups) (f.task % groups)) c (sym p.2.1 ∙ e.2.1), e.2.3))
+        inr (
+          f.task % groups,
+          c,
+          omega arith,
+          ap (λ (n : ℕ). best n (f.task % groups)) (sym e.2.2)
+              ∙ within_some prices (limit_of p.0.1) (best (f.task / groups) (f.task % groups)) c (sym p.2.1 ∙ e.2.1),
+          e.2.3,
+        ))
         least.reached;
   }
 
   -- a task's column is kept exactly where its best column is
-  pub kept_is : (f : Found) (l : ℤ) → Contains found f → IsLeastIn v.lowered (f.task / groups) l → within (limit_of l) prices f.column ≡ within (limit_of l) prices (best (f.task / groups) (f.task % groups))
+  pub kept_is : (f : Found) (l : ℤ) → Contains found f → IsLeastIn v.lowered (f.task / groups) l →
+      within (limit_of l) prices f.column ≡ within (limit_of l) prices (best (f.task / groups) (f.task % groups))
   kept_is f l c least =
       let p = look_of f c in
       ap (within (limit_of l) prices) p.2.1
-      ∙ within_within prices (limit_of l) (limit_of p.0.1) (best (f.task / groups) (f.task % groups)) (limit_rises l p.0.1 (above_least (f.task / groups) l p.0 least p.2.0 p.1))
+      ∙ within_within prices (limit_of l) (limit_of p.0.1) (best (f.task / groups) (f.task % groups))
+      (limit_rises l p.0.1 (above_least (f.task / groups) l p.0 least p.2.0 p.1))

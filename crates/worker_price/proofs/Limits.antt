@@ -82,9 +82,12 @@ same_tests false false f g = refl
 pub kept_is_within : (v l : ℤ) → (lt_z v (pos 0) && le_z (v +ℤ v) l) ≡ le_z v (limit_of l)
 kept_is_within v l =
     same_tests (lt_z v (pos 0) && le_z (v +ℤ v) l) (le_z v (limit_of l))
-    (λ h. le_true v (limit_of l) (limit_above v l (lt_is v (pos 0) (and_left (lt_z v (pos 0)) (le_z (v +ℤ v) l) h)) (le_is (v +ℤ v) l (and_right (lt_z v (pos 0)) (le_z (v +ℤ v) l) h))))
+    (λ h. le_true v (limit_of l)
+    (limit_above v l (lt_is v (pos 0) (and_left (lt_z v (pos 0)) (le_z (v +ℤ v) l) h))
+    (le_is (v +ℤ v) l (and_right (lt_z v (pos 0)) (le_z (v +ℤ v) l) h))))
     (λ h. let low = le_is v (limit_of l) h in
-    and_both (lt_z v (pos 0)) (le_z (v +ℤ v) l) (lt_true v (pos 0) (limit_negative v l low)) (le_true (v +ℤ v) l (half_below v l (limit_half v l low))))
+    and_both (lt_z v (pos 0)) (le_z (v +ℤ v) l) (lt_true v (pos 0) (limit_negative v l low))
+    (le_true (v +ℤ v) l (half_below v l (limit_half v l low))))
 
 -- a column whose value is within a limit is found under it
 pub found_where : (prices : List Price) (c : Column) (limit : ℤ) → value prices c ≤ℤ limit → within limit prices (Some c) ≡ Some c
@@ -160,11 +163,13 @@ module _ (prices : List Price) where
   pub least_value_below : (cs : List Column) (c : Column) → Contains cs c → least_value prices cs ≤ℤ value prices c
   least_value_below [] c h = in_none _ c h
   least_value_below (d ∷ cs) c h =
-      ⊎_elim (λ (e : d ≡ c). subst (λ (x : Column). int_min (value prices d) (least_value prices cs) ≤ℤ value prices x) e (min_left (value prices d) (least_value prices cs)))
+      ⊎_elim (λ (e : d ≡ c). subst (λ (x : Column). int_min (value prices d) (least_value prices cs) ≤ℤ value prices x) e
+      (min_left (value prices d) (least_value prices cs)))
       (λ (r : Contains cs c). at_most_through _ _ _ (min_right (value prices d) (least_value prices cs)) (least_value_below cs c r))
       (head_cases d cs c h)
 
-  pub least_value_reached : (cs : List Column) → (least_value prices cs ≡ pos 0) ⊎ ((c : Column) × Contains cs c × (value prices c ≡ least_value prices cs))
+  pub least_value_reached : (cs : List Column) →
+      (least_value prices cs ≡ pos 0) ⊎ ((c : Column) × Contains cs c × (value prices c ≡ least_value prices cs))
   least_value_reached [] = inl refl
   least_value_reached (d ∷ cs) =
       ⊎_elim (λ (e : int_min (value prices d) (least_value prices cs) ≡ value prices d). inr (d, (0, omega arith, refl), sym e))
@@ -180,11 +185,13 @@ module _ (prices : List Price) where
       lower : (x y : ℤ) → IsLeastOver prices f n x → IsLeastOver prices f n y → x ≤ℤ y
       lower x y s t =
           ⊎_elim (λ (z : y ≡ pos 0). subst (λ (w : ℤ). x ≤ℤ w) (sym z) s.most)
-          (λ (r : (g : ℕ) × (c : Column) × (g < n) × (f g ≡ Some c) × (value prices c ≡ y)). subst (λ (w : ℤ). x ≤ℤ w) r.4 (s.below r.0 r.1 r.2 r.3))
+          (λ (r : (g : ℕ) × (c : Column) × (g < n) × (f g ≡ Some c) × (value prices c ≡ y)). subst (λ (w : ℤ). x ≤ℤ w)
+          r.4 (s.below r.0 r.1 r.2 r.3))
           t.reached
 
 -- what a function gives of a number stands in the list of what it gives
-pub in_given : {Y : Type 0} (f : ℕ → Option Y) (a n g : ℕ) (y : Y) → a ≤ g → g < a + n → f g ≡ Some y → Contains (filter_map f (range_with_len a n)) y
+pub in_given : {Y : Type 0} (f : ℕ → Option Y) (a n g : ℕ) (y : Y) → a ≤ g → g < a + n → f g ≡ Some y →
+    Contains (filter_map f (range_with_len a n)) y
 in_given f a zero g y low high is = absurd (omega arith)
 in_given {Y = Y} f a (suc n) g y low high is =
     elim (ℕ_discrete a g) [
@@ -198,7 +205,8 @@ in_given {Y = Y} f a (suc n) g y low high is =
     ]
 
 -- and what stands there was given
-pub from_given : {Y : Type 0} (f : ℕ → Option Y) (a n : ℕ) (y : Y) → Contains (filter_map f (range_with_len a n)) y → (g : ℕ) × (a ≤ g) × (g < a + n) × (f g ≡ Some y)
+pub from_given : {Y : Type 0} (f : ℕ → Option Y) (a n : ℕ) (y : Y) → Contains (filter_map f (range_with_len a n)) y →
+    (g : ℕ) × (a ≤ g) × (g < a + n) × (f g ≡ Some y)
 from_given f a zero y h = in_none _ y h
 from_given {Y = Y} f a (suc n) y h =
     let later = λ (r : Contains (filter_map f (range_with_len (a + 1) n)) y).
@@ -208,19 +216,23 @@ from_given {Y = Y} f a (suc n) y h =
     here : ((g : ℕ) × (a + 1 ≤ g) × (g < a + 1 + n) × (f g ≡ Some y)) → (g : ℕ) × (a ≤ g) × (g < a + suc n) × (f g ≡ Some y)
     here s = (s.0, (let x = s.1 in omega arith), (let x = s.2 in omega arith), s.3)
 
-    go : (o : Option Y) → f a ≡ o → (Contains (filter_map f (range_with_len (a + 1) n)) y → (g : ℕ) × (a ≤ g) × (g < a + suc n) × (f g ≡ Some y))
+    go : (o : Option Y) → f a ≡ o →
+        (Contains (filter_map f (range_with_len (a + 1) n)) y → (g : ℕ) × (a ≤ g) × (g < a + suc n) × (f g ≡ Some y))
         → Contains (filter_map f (range_with_len a (suc n))) y → (g : ℕ) × (a ≤ g) × (g < a + suc n) × (f g ≡ Some y)
     go None e later k = later (rw e at k)
     go (Some z) e later k =
-        ⊎_elim (λ (s : z ≡ y). (a, omega arith, omega arith, e ∙ ap Some s)) later (head_cases z (filter_map f (range_with_len (a + 1) n)) y (rw e at k))
+        ⊎_elim (λ (s : z ≡ y). (a, omega arith, omega arith, e ∙ ap Some s)) later
+        (head_cases z (filter_map f (range_with_len (a + 1) n)) y (rw e at k))
 
-pub least_over : (prices : List Price) (f : ℕ → Option Column) (n : ℕ) → IsLeastOver prices f n (least_value prices (filter_map f (range_with_len 0 n)))
+pub least_over : (prices : List Price) (f : ℕ → Option Column) (n : ℕ) →
+    IsLeastOver prices f n (least_value prices (filter_map f (range_with_len 0 n)))
 least_over prices f n = record {
   most = least_value_most prices (filter_map f (range_with_len 0 n));
   below = λ g c low is. least_value_below prices (filter_map f (range_with_len 0 n)) c (in_given f 0 n g c (omega arith) (omega arith) is);
   reached =
       ⊎_elim (λ (z : least_value prices (filter_map f (range_with_len 0 n)) ≡ pos 0). inl z)
-      (λ (r : (c : Column) × Contains (filter_map f (range_with_len 0 n)) c × (value prices c ≡ least_value prices (filter_map f (range_with_len 0 n)))).
+      (λ (r : (c : Column) × Contains (filter_map f (range_with_len 0 n)) c
+      × (value prices c ≡ least_value prices (filter_map f (range_with_len 0 n)))).
       let s = from_given f 0 n r.0 r.1 in inr (s.0, r.0, (let x = s.2 in omega arith), s.3, r.2))
       (least_value_reached prices (filter_map f (range_with_len 0 n)));
 }
@@ -232,11 +244,13 @@ eqb_is : (a b : ℕ) → (a == b) ≡ true → a ≡ b
 eqb_is a b h = grind (arith, nat_tests)
 
 -- the least lowered value, of one more entry
-least_more : (e : ℕ × ℤ) (es : List (ℕ × ℤ)) (k : ℕ) (b : Bool) → (e.0 == k) ≡ b → IsLeastIn es k (least_lowered es k) → IsLeastIn (e ∷ es) k (least_lowered (e ∷ es) k)
+least_more : (e : ℕ × ℤ) (es : List (ℕ × ℤ)) (k : ℕ) (b : Bool) → (e.0 == k) ≡ b → IsLeastIn es k (least_lowered es k) →
+    IsLeastIn (e ∷ es) k (least_lowered (e ∷ es) k)
 least_more e es k true t r = rw t (record {
   most = at_most_through _ _ _ (min_right e.1 (least_lowered es k)) r.most;
   below = λ x h.
-      ⊎_elim (λ (s : e ≡ (k, x)). subst (λ (y : ℤ). int_min e.1 (least_lowered es k) ≤ℤ y) (ap (λ (p : ℕ × ℤ). p.1) s) (min_left e.1 (least_lowered es k)))
+      ⊎_elim (λ (s : e ≡ (k, x)). subst (λ (y : ℤ). int_min e.1 (least_lowered es k) ≤ℤ y) (ap (λ (p : ℕ × ℤ). p.1) s)
+      (min_left e.1 (least_lowered es k)))
       (λ (c : Contains es (k, x)). at_most_through _ _ _ (min_right e.1 (least_lowered es k)) (r.below x c))
       (head_cases e es (k, x) h);
   reached =
@@ -245,14 +259,16 @@ least_more e es k true t r = rw t (record {
       inr (0, omega arith, here))
       (λ (s : int_min e.1 (least_lowered es k) ≡ least_lowered es k).
       ⊎_elim (λ (z : least_lowered es k ≡ pos 0). inl (s ∙ z))
-      (λ (c : Contains es (k, least_lowered es k)). inr (subst (λ (y : ℤ). Contains (e ∷ es) (k, y)) (sym s) (in_tail e es (k, least_lowered es k) c)))
+      (λ (c : Contains es (k, least_lowered es k)).
+      inr (subst (λ (y : ℤ). Contains (e ∷ es) (k, y)) (sym s) (in_tail e es (k, least_lowered es k) c)))
       r.reached)
       (min_cases e.1 (least_lowered es k));
 })
 least_more e es k false t r = rw t (record {
   most = r.most;
   below = λ x h.
-      ⊎_elim (λ (s : e ≡ (k, x)). let y = entry_same e k x s in absurd (cc)) (λ (c : Contains es (k, x)). r.below x c) (head_cases e es (k, x) h);
+      ⊎_elim (λ (s : e ≡ (k, x)). let y = entry_same e k x s in absurd (cc)) (λ (c : Contains es (k, x)). r.below x c)
+      (head_cases e es (k, x) h);
   reached =
       ⊎_elim (λ (z : least_lowered es k ≡ pos 0). inl z)
       (λ (c : Contains es (k, least_lowered es k)). inr (in_tail e es (k, least_lowered es k) c)) r.reached;
@@ -299,8 +315,10 @@ least_lowered-other xs k j x apart =
     let there : (j == k) ≡ false = ne_eqb j k apart in
     let one : least_lowered ((j, x) ∷ []) k ≡ pos 0 = rw there refl in
     least_lowered-append xs ((j, x) ∷ []) k
-    ∙ (ap (int_min (least_lowered xs k)) one ∙ (min_turn (least_lowered xs k) (pos 0) ∙ zero_first (least_lowered xs k) (least_lowered_is xs k).most))
+    ∙ (ap (int_min (least_lowered xs k)) one
+    ∙ (min_turn (least_lowered xs k) (pos 0) ∙ zero_first (least_lowered xs k) (least_lowered_is xs k).most))
 
 -- a value that is found under the limit of a value no less than the least, once it is low enough, is not below the least
 pub found_low : (l v seen : ℤ) → l ≤ℤ pos 0 → l ≤ℤ seen → (v ≤ℤ limit_of seen → l ≤ℤ v) → l ≤ℤ v
-found_low l v seen most above here = by_lt_z v l (λ (low : v <ℤ l). here (limit_above v seen (omega (arith, ints)) (omega (arith, ints)))) (λ h. h)
+found_low l v seen most above here =
+    by_lt_z v l (λ (low : v <ℤ l). here (limit_above v seen (omega (arith, ints)) (omega (arith, ints)))) (λ h. h)

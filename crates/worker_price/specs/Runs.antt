@@ -26,7 +26,8 @@ IsLimit looks class limit = (limit ≡ negsuc 0) ⊎ ((seen : ℤ) × Contains l
 -- the column that the task of a class and group gathered: its first least where the task was drawn and the value is within its limit
 abbrev pub gathered : Problem → List Price → (ℕ → ℤ) → List ℕ → ℕ → ℕ → Option Column
 gathered p prices limits drawn class group =
-    cond (nat_lt 0 (times (class * groups_of p.items + group) drawn)) (within (limits (class * groups_of p.items + group)) prices (best_of p prices class group)) None
+    cond (nat_lt 0 (times (class * groups_of p.items + group) drawn))
+    (within (limits (class * groups_of p.items + group)) prices (best_of p prices class group)) None
 
 -- the gathered columns of a class, in the order of the groups
 abbrev pub gathered_columns : Problem → List Price → (ℕ → ℤ) → List ℕ → ℕ → List Column

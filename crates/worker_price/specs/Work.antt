@@ -56,7 +56,8 @@ priced v look entries = record v { looks = v.looks ++ look ∷ []; lowered = v.l
 
 -- the task's class was looked at, and its column is the best one within the limit of that look
 abbrev pub FoundUnder : Best → List Price → ℕ → Found → ℕ × ℤ → Type 0
-FoundUnder best prices groups f look = (look.0 ≡ f.task / groups) × (f.column ≡ within (limit_of look.1) prices (best (f.task / groups) (f.task % groups)))
+FoundUnder best prices groups f look =
+    (look.0 ≡ f.task / groups) × (f.column ≡ within (limit_of look.1) prices (best (f.task / groups) (f.task % groups)))
 
 abbrev pub task_of : Found → ℕ
 task_of f = f.task
@@ -77,7 +78,8 @@ HasPriced p prices = HasWorked (best_of p prices) prices (groups_of p.items)
 abbrev pub HasStopped : Best → List Price → ℕ → Sheet → Sheet → Type 0
 HasStopped best prices groups before after =
     (found : List Found) × (HasWorked best prices groups before after found
-    ⊎ ((mid : Sheet) × (task : ℕ) × (seen : ℤ) × HasWorked best prices groups before mid found × (after ≡ looked (drew mid task) (task / groups) seen)))
+    ⊎ ((mid : Sheet) × (task : ℕ) × (seen : ℤ) × HasWorked best prices groups before mid found
+    × (after ≡ looked (drew mid task) (task / groups) seen)))
 
 -- the same, for the pricer's first leasts
 abbrev pub HasStoppedPricing : Problem → List Price → Sheet → Sheet → Type 0

@@ -10,7 +10,8 @@ use Rattle.class_lowering.proofs.lower_by.Goals as goal
 
 pub overflow_add-value : goal.overflow_add-value
 overflow_add-value c =
-    let few : length c.args.column.now.items ≤ 3000 = (let room = Rises-length _ c.args.column.now.items c.requires.rises c.requires.items in let all = c.requires.few in omega arith) in
+    let few : length c.args.column.now.items ≤ 3000 =
+    (let room = Rises-length _ c.args.column.now.items c.requires.rises c.requires.items in let all = c.requires.few in omega arith) in
     let within = price_of-within 10000000000000 c.args.prices.now.items c.args.column.now.items c.requires.moderate in
     let is = c.value.ensures in
     let cheap = c.requires.cheap in
@@ -20,7 +21,8 @@ overflow_add-value c =
 
 pub share-requires-clause-low : goal.share-requires-clause-low
 share-requires-clause-low c =
-    let few : length c.args.column.now.items ≤ 3000 = (let room = Rises-length _ c.args.column.now.items c.requires.rises c.requires.items in let all = c.requires.few in omega arith) in
+    let few : length c.args.column.now.items ≤ 3000 =
+    (let room = Rises-length _ c.args.column.now.items c.requires.rises c.requires.items in let all = c.requires.few in omega arith) in
     let within = price_of-within 10000000000000 c.args.prices.now.items c.args.column.now.items c.requires.moderate in
     let is = c.value.ensures in
     let cheap = c.requires.cheap in
@@ -40,7 +42,8 @@ returns-then-value-lt0-clause-lowered c =
     let prices = c.args.prices.now.items in
     let column = c.args.column.now in
     let items = c.as_slice-items.result.now in
-    let few : length c.args.column.now.items ≤ 3000 = (let room = Rises-length _ c.args.column.now.items c.requires.rises c.requires.items in let all = c.requires.few in omega arith) in
+    let few : length c.args.column.now.items ≤ 3000 =
+    (let room = Rises-length _ c.args.column.now.items c.requires.rises c.requires.items in let all = c.requires.few in omega arith) in
     let within = price_of-within 10000000000000 prices column.items c.requires.moderate in
     let is = c.value.ensures in
     let cheap = c.requires.cheap in
@@ -53,19 +56,23 @@ returns-then-value-lt0-clause-lowered c =
     let negative : value_with prices column c.args.asked <ℤ pos 0 = omega (arith, ints, shown) in
     let test : int_lt (value_with prices column c.args.asked) (pos 0) ≡ true = grind (arith, ints) in
     let shared : to_z w64 (of_z w64 c.share.result) ≡ pos (share_of (value_with prices column c.args.asked) (length column.items)) =
-    to_z-of_z share_fits ∙ c.share.ensures.value ∙ ap (λ z. pos (share_of z (length items))) shown ∙ ap (λ (l : List ℕ). pos (share_of (value_with prices column c.args.asked) (length l))) c.as_slice-items.ensures in
-    lowered_prices-loss prices c.lower_items.new.prices column c.args.asked items (to_z w64 (of_z w64 c.share.result)) test c.lower_items.ensures.len c.as_slice-items.ensures shared c.lower_items.ensures.lowered
+    to_z-of_z share_fits ∙ c.share.ensures.value ∙ ap (λ z. pos (share_of z (length items))) shown
+    ∙ ap (λ (l : List ℕ). pos (share_of (value_with prices column c.args.asked) (length l))) c.as_slice-items.ensures in
+    lowered_prices-loss prices c.lower_items.new.prices column c.args.asked items (to_z w64 (of_z w64 c.share.result)) test
+    c.lower_items.ensures.len c.as_slice-items.ensures shared c.lower_items.ensures.lowered
 
 pub returns-then-value-lt0-clause-moderate : goal.returns-then-value-lt0-clause-moderate
 returns-then-value-lt0-clause-moderate c =
     let P : List Price → Type 0 = λ l. AllWithin 10000000000000 l in
-    subst P (sym (returns-then-value-lt0-clause-lowered c)) (lowered_prices-within c.args.prices.now.items c.args.column.now c.args.asked c.requires.moderate)
+    subst P (sym (returns-then-value-lt0-clause-lowered c))
+    (lowered_prices-within c.args.prices.now.items c.args.column.now c.args.asked c.requires.moderate)
 
 pub returns-else-value-lt0-clause-lowered : goal.returns-else-value-lt0-clause-lowered
 returns-else-value-lt0-clause-lowered c =
     let prices = c.args.prices.now.items in
     let column = c.args.column.now in
-    let few : length c.args.column.now.items ≤ 3000 = (let room = Rises-length _ c.args.column.now.items c.requires.rises c.requires.items in let all = c.requires.few in omega arith) in
+    let few : length c.args.column.now.items ≤ 3000 =
+    (let room = Rises-length _ c.args.column.now.items c.requires.rises c.requires.items in let all = c.requires.few in omega arith) in
     let within = price_of-within 10000000000000 prices column.items c.requires.moderate in
     let is = c.value.ensures in
     let cheap = c.requires.cheap in

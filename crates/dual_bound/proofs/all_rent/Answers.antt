@@ -16,8 +16,11 @@ loop-class-preserved c =
     let here : c.loop-class.class < length c.args.caps.now = omega arith in
     let fits : FitsSigned w64 (get_or c.args.class_prices.now c.loop-class.class (pos 0)) = search rules in
     let value = c.class_rent-sum.ensures.value in
-    let rented : c.class_rent-sum.result ≡ pos (get_or c.args.caps.now c.loop-class.class 0) *ℤ number_at c.args.class_prices.now c.loop-class.class =
-    (rw (to_z-of_z w64 _ fits) at value) ∙ ap (λ z. pos (get_or c.args.caps.now c.loop-class.class 0) *ℤ z) (number_at-get c.args.class_prices.now c.loop-class.class (pos 0) below) in
+    let rented : c.class_rent-sum.result ≡ pos (get_or c.args.caps.now c.loop-class.class 0) *ℤ number_at
+    c.args.class_prices.now c.loop-class.class =
+    (rw (to_z-of_z w64 _ fits) at value)
+    ∙ ap (λ z. pos (get_or c.args.caps.now c.loop-class.class 0) *ℤ z)
+    (number_at-get c.args.class_prices.now c.loop-class.class (pos 0) below) in
     let low = c.class_rent-sum.ensures.low in
     let high = c.class_rent-sum.ensures.high in
     let few = c.requires.classes in

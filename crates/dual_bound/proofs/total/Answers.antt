@@ -11,7 +11,8 @@ loop-price-preserved c =
     let below : c.loop-price.price-index < length c.args.prices.now.items = rw (← items) c.loop-price-test.true in
     let low = AllWithin-low 3000000000000000 c.args.prices.now.items c.loop-price.price-index none below c.requires.moderate in
     let high = AllWithin-high 3000000000000000 c.args.prices.now.items c.loop-price.price-index none below c.requires.moderate in
-    let here : (get_or c.as_slice-price-items.result.now c.loop-price.price-index none).0 ≡ (get_or c.args.prices.now.items c.loop-price.price-index none).0 = ap (λ l. (get_or l c.loop-price.price-index none).0) items in
+    let here : (get_or c.as_slice-price-items.result.now c.loop-price.price-index none).0
+    ≡ (get_or c.args.prices.now.items c.loop-price.price-index none).0 = ap (λ l. (get_or l c.loop-price.price-index none).0) items in
     let fits : FitsSigned w64 (get_or c.as_slice-price-items.result.now c.loop-price.price-index none).0 = search rules in
     let few = c.requires.few in
     let so_far = c.loop-price.invariant.sum in

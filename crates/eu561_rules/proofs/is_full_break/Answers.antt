@@ -13,7 +13,8 @@ loop-drive-preserved c =
     let none : Drive = record { pause = 0; driving = 0 } in
     let inside : i < c.args.place = omega (arith, length-take-le c.args.place drives) in
     let below : i < length drives = omega arith in
-    let pause : (get_or (take c.args.place drives) i none).pause ≡ pause_before drives i = pause-within drives c.args.place i none inside below in
+    let pause : (get_or (take c.args.place drives) i none).pause ≡ pause_before drives i =
+    pause-within drives c.args.place i none inside below in
     let was : c.loop-drive.quarter ≡ quarter_at drives i = c.loop-drive.invariant.quarter_is in
     let break : is_full_break drives i ≡ completes_break (quarter_at drives i) (pause_before drives i) = break-at drives i below in
     let left : Bool = nat_le 900 (pause_before drives i) || quarter_at drives i in
@@ -32,8 +33,10 @@ returns c =
     let below : place < length drives = c.requires in
     let end : c.loop-drive.drive-index ≡ place = omega (arith, length-take-le place drives) in
     let was : c.loop-drive.quarter ≡ quarter_at drives place = c.loop-drive.invariant.quarter_is ∙ ap (quarter_at drives) end in
-    let pause : (get_or drives place (record { pause = 0; driving = 0 })).pause ≡ pause_before drives place = pause-is drives place _ below in
-    let same : c.completes.result ≡ is_full_break drives place = c.completes.ensures ∙ rw (was, pause) (sym (break-at drives place below)) in
+    let pause : (get_or drives place (record { pause = 0; driving = 0 })).pause ≡ pause_before drives place =
+    pause-is drives place _ below in
+    let same : c.completes.result ≡ is_full_break drives place =
+    c.completes.ensures ∙ rw (was, pause) (sym (break-at drives place below)) in
     record {
       recursion = same;
       words = (λ yes. words-from drives place below (sym same ∙ yes), λ w. same ∙ words-onto drives place below w);

@@ -22,7 +22,8 @@ pub loop-drive-preserved : goal.loop-drive-preserved
 loop-drive-preserved c = record {
   order = omega arith;
   limits_are = c.add.ensures.limits ∙ c.loop-drive.invariant.limits_are;
-  stands = rw (take_more c.args.drives.now c.loop-drive.drive-index (record { pause = 0; driving = 0 }) c.loop-drive-test.true) (c.add.ensures.drives _ c.loop-drive.invariant.stands);
+  stands = rw (take_more c.args.drives.now c.loop-drive.drive-index (record { pause = 0; driving = 0 }) c.loop-drive-test.true)
+      (c.add.ensures.drives _ c.loop-drive.invariant.stands);
 }
 
 pub returns : goal.returns

@@ -6,4 +6,5 @@ use Rattle.block_cover.proofs.laws.block_cover_is_paid.Goals as goal
 
 pub returns : goal.returns
 returns c = λ day counts prices.
-    cover-is-paid (block_marking day counts prices) (blocks_of day counts) prices (marks-ordered day counts prices) (marks-placed day counts prices) (marks-tied day counts prices)
+    cover-is-paid (block_marking day counts prices) (blocks_of day counts) prices (marks-ordered day counts prices)
+    (marks-placed day counts prices) (marks-tied day counts prices)

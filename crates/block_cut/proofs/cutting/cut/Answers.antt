@@ -21,7 +21,8 @@ returns-clause-order c =
 
 pub returns-clause-shifts : goal.returns-clause-shifts
 returns-clause-shifts c =
-    ok_made c.in_order.result (λ ps. All IsShift ps) (in_order moment c.in_ok-pieces.pieces) c.in_order.ensures (order_all moment IsShift c.in_ok-pieces.pieces c.in_ok-pieces.ensures.shifts)
+    ok_made c.in_order.result (λ ps. All IsShift ps) (in_order moment c.in_ok-pieces.pieces) c.in_order.ensures
+    (order_all moment IsShift c.in_ok-pieces.pieces c.in_ok-pieces.ensures.shifts)
 
 pub returns-clause-few : goal.returns-clause-few
 returns-clause-few c =
@@ -35,4 +36,10 @@ returns-clause-plan c = λ p listed plan.
     let columns = c.args.blocks.now.columns in
     let is : c.in_ok-pieces.pieces ≡ pieces_by_block c.args.day.now 1 columns = search rules in
     ok_made c.in_order.result (λ ps. length ps ≤ p.items) (in_order moment c.in_ok-pieces.pieces) c.in_order.ensures
-    (omega (arith, order_length moment c.in_ok-pieces.pieces, ap length is, all_few c.args.day.now 1 columns, plan_items p columns listed plan))
+    (omega (
+      arith,
+      order_length moment c.in_ok-pieces.pieces,
+      ap length is,
+      all_few c.args.day.now 1 columns,
+      plan_items p columns listed plan,
+    ))

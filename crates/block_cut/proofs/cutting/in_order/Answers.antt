@@ -8,5 +8,6 @@ use Rattle.block_cut.proofs.cutting.in_order.Goals as goal
 pub returns : goal.returns
 returns c =
     c.from_vec.ensures
-    ∙ sorted_items moment _ _ (IsNonDecreasingBy-from_sort_by_key moment _ c.in_ok-sort_by_key.ensures.sorted (λ a r q k. search rules)) (c.sort_by_key.ensures.stable moment (answers_always _ _ _ (λ f a r g h. search rules)))
+    ∙ sorted_items moment _ _ (IsNonDecreasingBy-from_sort_by_key moment _ c.in_ok-sort_by_key.ensures.sorted (λ a r q k. search rules))
+    (c.sort_by_key.ensures.stable moment (answers_always _ _ _ (λ f a r g h. search rules)))
     ∙ ap (in_order moment) c.into_vec-pieces.ensures

@@ -7,12 +7,16 @@ pub add_until_next-requires-clause-next : goal.add_until_next-requires-clause-ne
 add_until_next-requires-clause-next c = AllBelow-get _ c.args.rest.now c.loop-next.next-index c.requires.rest (search rules)
 
 pub add_until_next-requires-clause-there : goal.add_until_next-requires-clause-there
-add_until_next-requires-clause-there c = (splits_at c.args.day.now c.args.pool.now c.loop-next.last c.loop-next.next-index c.args.rest.now (search rules) c.loop-next.invariant.some).first
+add_until_next-requires-clause-there c =
+    (splits_at c.args.day.now c.args.pool.now c.loop-next.last c.loop-next.next-index c.args.rest.now (search rules)
+    c.loop-next.invariant.some).first
 
 pub loop-next-preserved : goal.loop-next-preserved
 loop-next-preserved c = record {
   there = AllBelow-get _ c.args.rest.now c.loop-next.next-index c.requires.rest (search rules);
-  some = (splits_at c.args.day.now c.args.pool.now c.loop-next.last c.loop-next.next-index c.args.rest.now (search rules) c.loop-next.invariant.some).rest;
-  made = legs_more c.args.day.now c.args.pool.now c.loop-next.last c.loop-next.next-index c.args.rest.now c.loop-next.legs c.add_until_next.new.legs _ (search rules) c.loop-next.invariant.some (search rules) c.loop-next.invariant.made;
+  some = (splits_at c.args.day.now c.args.pool.now c.loop-next.last c.loop-next.next-index c.args.rest.now (search rules)
+      c.loop-next.invariant.some).rest;
+  made = legs_more c.args.day.now c.args.pool.now c.loop-next.last c.loop-next.next-index c.args.rest.now c.loop-next.legs
+      c.add_until_next.new.legs _ (search rules) c.loop-next.invariant.some (search rules) c.loop-next.invariant.made;
   timed = search rules;
 }

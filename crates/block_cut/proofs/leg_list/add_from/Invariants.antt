@@ -8,6 +8,7 @@ abbrev pub invariant-loop-next : goal.invariant-loop-next
 invariant-loop-next l = record {
   there : l.last < length l.day.trips;
   some : is_some (legs_at l.day l.pool l.last (drop l.next-index l.rest)) ≡ true;
-  made : l.legs ++ shown (legs_or (legs_at l.day l.pool l.last (drop l.next-index l.rest))) ≡ l.fn.legs ++ shown (legs_or (legs_at l.day l.pool l.first l.rest));
+  made : l.legs ++ shown (legs_or (legs_at l.day l.pool l.last (drop l.next-index l.rest)))
+      ≡ l.fn.legs ++ shown (legs_or (legs_at l.day l.pool l.first l.rest));
   timed : AreTimed (pos 0) (begin_of l.day l.last) l.legs;
 }

@@ -12,4 +12,5 @@ returns-clause-timed c =
     let made : List Leg = c.args.legs.now ++ shown (legs_or (until_end day c.args.pool.now c.args.t)) in
     let is : OnOk c.add.result (c.add.new.legs ≡ made) = grind (arith, common_steps) in
     on_made c.add.result (λ legs. AreTimed (pos 0) (pos 345600) legs) c.add.new.legs made is
-    (timed_end day c.args.pool.now c.args.t c.trip-trip.result.now c.pull_in_of.result c.args.legs.now c.trip-trip.ensures.trip c.trip-trip.ensures.daily (search rules) c.pull_in_of.ensures.range c.requires.timed)
+    (timed_end day c.args.pool.now c.args.t c.trip-trip.result.now c.pull_in_of.result c.args.legs.now c.trip-trip.ensures.trip
+    c.trip-trip.ensures.daily (search rules) c.pull_in_of.ensures.range c.requires.timed)

@@ -12,4 +12,5 @@ returns-clause-timed c =
     let made : List Leg = c.args.legs.now ++ shown (legs_or (until_next day c.args.pool.now c.args.t c.args.u)) in
     let is : OnOk c.add_link.result (c.add_link.new.legs ≡ made) = grind (arith, common_steps) in
     on_made c.add_link.result (λ legs. AreTimed (pos 0) (begin_of day c.args.u) legs) c.add_link.new.legs made is
-    (timed_next day c.args.pool.now c.args.t c.args.u c.trip-trip.result.now c.trip-next.result.now c.args.legs.now c.trip-trip.ensures.trip c.trip-next.ensures.trip c.trip-trip.ensures.daily c.requires.there c.requires.timed)
+    (timed_next day c.args.pool.now c.args.t c.args.u c.trip-trip.result.now c.trip-next.result.now c.args.legs.now c.trip-trip.ensures.trip
+    c.trip-next.ensures.trip c.trip-trip.ensures.daily c.requires.there c.requires.timed)

@@ -13,5 +13,7 @@ add_from-requires-clause-there c =
 pub returns-clause-legs : goal.returns-clause-legs
 returns-clause-legs c =
     let pooled = pool_there c.args.day.now c.args.class c.args.first c.args.rest.now c.pools.result.now c.requires.worth (search rules) in
-    let there = runs_there c.args.day.now c.args.class c.args.first (pool_at c.pools.result.now c.args.class) c.args.rest.now c.requires.worth pooled in
-    legs_whole c.args.day.now c.args.class c.args.first (pool_at c.pools.result.now c.args.class) c.trip-trip.result.now c.args.rest.now c.pull_out_of.result c.add_from.new.legs pooled c.trip-trip.ensures.trip (search rules) there (search rules)
+    let there = runs_there c.args.day.now c.args.class c.args.first (pool_at c.pools.result.now c.args.class)
+    c.args.rest.now c.requires.worth pooled in
+    legs_whole c.args.day.now c.args.class c.args.first (pool_at c.pools.result.now c.args.class) c.trip-trip.result.now c.args.rest.now
+    c.pull_out_of.result c.add_from.new.legs pooled c.trip-trip.ensures.trip (search rules) there (search rules)

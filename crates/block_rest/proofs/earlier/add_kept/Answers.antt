@@ -9,12 +9,14 @@ ends_before-requires c = c.loop-next.invariant.there
 
 pub returns-then-not-ends_before-clause-trips : goal.returns-then-not-ends_before-clause-trips
 returns-then-not-ends_before-clause-trips c =
-    let stop = kept-stop c.args.day.now c.args.moment c.loop-next.last (drop c.loop-next.next-index c.args.rest.now) c.if-not-ends_before.ensures in
+    let stop = kept-stop c.args.day.now c.args.moment c.loop-next.last (drop c.loop-next.next-index c.args.rest.now)
+    c.if-not-ends_before.ensures in
     sym (no-more c.loop-next.trips) ∙ ap (λ l. c.loop-next.trips ++ l) (sym stop) ∙ c.loop-next.invariant.trips
 
 pub returns-then-not-ends_before-clause-last : goal.returns-then-not-ends_before-clause-last
 returns-then-not-ends_before-clause-last c =
-    let stop = kept-stop c.args.day.now c.args.moment c.loop-next.last (drop c.loop-next.next-index c.args.rest.now) c.if-not-ends_before.ensures in
+    let stop = kept-stop c.args.day.now c.args.moment c.loop-next.last (drop c.loop-next.next-index c.args.rest.now)
+    c.if-not-ends_before.ensures in
     ap (spec.last_trip c.loop-next.last) (sym stop) ∙ c.loop-next.invariant.ends
 
 pub returns-then-not-ends_before-clause-there : goal.returns-then-not-ends_before-clause-there

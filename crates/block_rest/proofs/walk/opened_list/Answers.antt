@@ -11,7 +11,8 @@ use Rattle.block_rest.proofs.walk.opened_list.Goals as goal
 pub opened-requires-clause-list : goal.opened-requires-clause-list
 opened-requires-clause-list c =
     let P : List ℕ → Type 0 = AllBelow (length c.args.net.now.day.trips) in
-    subst P (sym c.body.ensures) (body-below (length c.args.net.now.day.trips) c.args.bodies.now (slice_index_or c.args.list.now 0 0) c.requires.bodies.below)
+    subst P (sym c.body.ensures)
+    (body-below (length c.args.net.now.day.trips) c.args.bodies.now (slice_index_or c.args.list.now 0 0) c.requires.bodies.below)
 
 pub returns-in_err-first-in-len1-up-clause-value : goal.returns-in_err-first-in-len1-up-clause-value
 returns-in_err-first-in-len1-up-clause-value c =

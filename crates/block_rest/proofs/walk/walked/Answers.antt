@@ -16,6 +16,8 @@ loop-trip-preserved c =
     let P : List Trip → Type 0 = All IsDaily in
     let daily : All IsDaily net.day.trips = subst P (search rules) c.trips.ensures.daily in
     record {
-      fits = (opening_safe net.day net.counts [] c.args.pool.now daily c.requires.ranges tt).steps c.loop-trip.open c.in_ok-open.open _ c.loop-trip.invariant.fits (sym c.in_ok-open.ensures);
-      walked = c.loop-trip.invariant.walked ∙ after-more (opening net.day net.counts [] c.args.pool.now) c.loop-trip.open _ c.args.rest.now c.loop-trip.trip-index (search rules) c.in_ok-open.ensures;
+      fits = (opening_safe net.day net.counts [] c.args.pool.now daily c.requires.ranges tt).steps c.loop-trip.open
+          c.in_ok-open.open _ c.loop-trip.invariant.fits (sym c.in_ok-open.ensures);
+      walked = c.loop-trip.invariant.walked ∙ after-more (opening net.day net.counts [] c.args.pool.now) c.loop-trip.open _ c.args.rest.now
+          c.loop-trip.trip-index (search rules) c.in_ok-open.ensures;
     }

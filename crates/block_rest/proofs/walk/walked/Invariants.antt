@@ -7,5 +7,6 @@ use Rattle.block_rest.proofs.walk.walked.Given as goal
 abbrev pub invariant-loop-trip : goal.invariant-loop-trip
 invariant-loop-trip l = record {
   fits : OpenFits (length l.net.day.trips) l.open;
-  walked : label_after (opening l.net.day l.net.counts [] l.pool) (Some l.fn.first) l.rest ≡ label_after (opening l.net.day l.net.counts [] l.pool) (Some l.open) (drop l.trip-index l.rest);
+  walked : label_after (opening l.net.day l.net.counts [] l.pool) (Some l.fn.first) l.rest
+      ≡ label_after (opening l.net.day l.net.counts [] l.pool) (Some l.open) (drop l.trip-index l.rest);
 }

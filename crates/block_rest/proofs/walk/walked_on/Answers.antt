@@ -11,7 +11,8 @@ pub walked-requires-clause-rest : goal.walked-requires-clause-rest
 walked-requires-clause-rest c =
     let n : ℕ = length c.args.net.now.day.trips in
     let P : List ℕ → Type 0 = AllBelow n in
-    subst P (sym c.body.ensures) (body-below n c.args.bodies.now (slice_index_or c.args.rest.now c.loop-item.item-index 0) c.requires.bodies.below)
+    subst P (sym c.body.ensures)
+    (body-below n c.args.bodies.now (slice_index_or c.args.rest.now c.loop-item.item-index 0) c.requires.bodies.below)
 
 pub loop-item-preserved : goal.loop-item-preserved
 loop-item-preserved c =

@@ -28,8 +28,11 @@ returns-in_err-open-clause-value c =
     let pool = c.pool_of-pool.result.now in
     let list : List ℕ = written c.args.bodies.now c.args.list.now in
     let none : c.from_residual.result ≡ None = search rules in
-    none ∙ ap (λ (o : Option OpenBlock). option_and_then (λ (a : OpenBlock). option_map (λ (v : ℤ). unsigned_abs v / 1000) (closed_open net.day net.counts pool a)) o) c.in_err-open.ensures.value
-    ∙ sym (tied-worth (opening net.day net.counts [] pool) (closed_open net.day net.counts pool) (block_worth net.day net.counts c.args.class) list
+    none ∙ ap (λ (o : Option OpenBlock). option_and_then
+    (λ (a : OpenBlock). option_map (λ (v : ℤ). unsigned_abs v / 1000) (closed_open net.day net.counts pool a)) o)
+    c.in_err-open.ensures.value
+    ∙ sym (tied-worth (opening net.day net.counts [] pool) (closed_open net.day net.counts pool)
+    (block_worth net.day net.counts c.args.class) list
     (opening_tied net.day net.counts [] pool c.args.class (search rules)))
 
 pub returns-clause-value : goal.returns-clause-value
@@ -38,6 +41,8 @@ returns-clause-value c =
     let pool = c.pool_of-pool.result.now in
     let list : List ℕ = written c.args.bodies.now c.args.list.now in
     c.driven_in.ensures.value
-    ∙ ap (λ (o : Option OpenBlock). option_and_then (λ (a : OpenBlock). option_map (λ (v : ℤ). unsigned_abs v / 1000) (closed_open net.day net.counts pool a)) o) c.in_ok-open.ensures.value
-    ∙ sym (tied-worth (opening net.day net.counts [] pool) (closed_open net.day net.counts pool) (block_worth net.day net.counts c.args.class) list
+    ∙ ap (λ (o : Option OpenBlock). option_and_then
+    (λ (a : OpenBlock). option_map (λ (v : ℤ). unsigned_abs v / 1000) (closed_open net.day net.counts pool a)) o) c.in_ok-open.ensures.value
+    ∙ sym (tied-worth (opening net.day net.counts [] pool) (closed_open net.day net.counts pool)
+    (block_worth net.day net.counts c.args.class) list
     (opening_tied net.day net.counts [] pool c.args.class (search rules)))

@@ -21,10 +21,19 @@ returns-in-Ok-clause-cert c =
 pub returns-in-Err-Form-clause-stop : goal.returns-in-Err-Form-clause-stop
 returns-in-Err-Form-clause-stop c =
     let Said : Case → ℕ → Type 0 = λ k pieces. cert_in k pieces ≡ Err c.in-Err-Form.at in
-    let Told : CertFault → Type 0 = λ fault. Gives {A = Cert} (Err fault) (cert_in (record { day = c.case.inside.day.now; rec_frt = c.case.inside.rec_frt.now; plan = c.case.inside.plan.now; cert = c.case.inside.cert.now }) c.args.pieces) in (
+    let Told : CertFault → Type 0 =
+    λ fault. Gives {A = Cert} (Err fault)
+    (cert_in (record {
+      day = c.case.inside.day.now;
+      rec_frt = c.case.inside.rec_frt.now;
+      plan = c.case.inside.plan.now;
+      cert =
+          c.case.inside.cert.now;
+    }) c.args.pieces) in (
       c.args.text.now,
       c.args.blocks.now,
       c.args.duties.now,
       c.requires.has,
-      subst (Said c.args.case.now) c.requires.pieces (subst (λ k. Said k c.args.pieces) c.case.view_is (subst Told c.in-Err-Form.field-0-is c.in-Err-Form.ensures.read)),
+      subst (Said c.args.case.now) c.requires.pieces
+          (subst (λ k. Said k c.args.pieces) c.case.view_is (subst Told c.in-Err-Form.field-0-is c.in-Err-Form.ensures.read)),
     )

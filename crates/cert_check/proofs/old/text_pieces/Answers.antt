@@ -15,4 +15,5 @@ cut-requires-clause-worths c = old-worths c.args.day.now c.args.text.now.blocks.
 pub returns-clause-few : goal.returns-clause-few
 returns-clause-few c =
     let few = subst (λ (l : List Trip). length l ≤ 3000) c.trips.ensures.trips c.trips.ensures.few in
-    few-pieces c.cut.result _ (old-few c.args.day.now c.args.text.now.blocks.columns few c.requires.trips c.requires.blocks).1 c.cut.ensures.few
+    few-pieces c.cut.result _ (old-few c.args.day.now c.args.text.now.blocks.columns few c.requires.trips c.requires.blocks).1
+    c.cut.ensures.few

@@ -17,11 +17,13 @@ returns-in-Lawful-clause-yes c =
     let net : c.in_ok-net.net ≡ duties_over c.args.case.now c.args.pieces.now false =
     c.in_ok-net.ensures ∙ (ap with c.params.ensures.settings ∙ ap (λ (k : Case). duties_over k c.args.pieces.now false) c.case.view_is) in
     let judged : IsVerdict p cs c.in_ok-found.field-0 =
-    subst (λ (l : List Column). IsVerdict p l c.in_ok-found.field-0) c.as_slice.ensures (subst (λ (d : DutyFacts). IsVerdict (duties d) c.as_slice.result.now c.in_ok-found.field-0) net c.in_ok-found.ensures.verdict) in
+    subst (λ (l : List Column). IsVerdict p l c.in_ok-found.field-0) c.as_slice.ensures
+    (subst (λ (d : DutyFacts). IsVerdict (duties d) c.as_slice.result.now c.in_ok-found.field-0) net c.in_ok-found.ensures.verdict) in
     let found = c.in-Lawful.found in
     let lawful : IsVerdict p cs (Lawful found) = subst (λ (v : PlanVerdict). IsVerdict p cs v) c.in-Lawful.is judged in
     let worths : c.have_worths.result ≡ same_worths cs found.columns =
-    c.have_worths.ensures ∙ (ap (λ (l : List Column). same_worths l c.as_slice-in-Lawful-2.result.now) c.as_slice-in-Lawful.ensures ∙ ap (λ (l : List Column). same_worths cs l) c.as_slice-in-Lawful-2.ensures) in
+    c.have_worths.ensures ∙ (ap (λ (l : List Column). same_worths l c.as_slice-in-Lawful-2.result.now) c.as_slice-in-Lawful.ensures
+    ∙ ap (λ (l : List Column). same_worths cs l) c.as_slice-in-Lawful-2.ensures) in
     λ yes. plan-found p cs found lawful (sym worths ∙ yes)
 
 pub returns-in-Lawful-clause-no : goal.returns-in-Lawful-clause-no
@@ -32,11 +34,13 @@ returns-in-Lawful-clause-no c =
     let net : c.in_ok-net.net ≡ duties_over c.args.case.now c.args.pieces.now false =
     c.in_ok-net.ensures ∙ (ap with c.params.ensures.settings ∙ ap (λ (k : Case). duties_over k c.args.pieces.now false) c.case.view_is) in
     let judged : IsVerdict p cs c.in_ok-found.field-0 =
-    subst (λ (l : List Column). IsVerdict p l c.in_ok-found.field-0) c.as_slice.ensures (subst (λ (d : DutyFacts). IsVerdict (duties d) c.as_slice.result.now c.in_ok-found.field-0) net c.in_ok-found.ensures.verdict) in
+    subst (λ (l : List Column). IsVerdict p l c.in_ok-found.field-0) c.as_slice.ensures
+    (subst (λ (d : DutyFacts). IsVerdict (duties d) c.as_slice.result.now c.in_ok-found.field-0) net c.in_ok-found.ensures.verdict) in
     let found = c.in-Lawful.found in
     let lawful : IsVerdict p cs (Lawful found) = subst (λ (v : PlanVerdict). IsVerdict p cs v) c.in-Lawful.is judged in
     let worths : c.have_worths.result ≡ same_worths cs found.columns =
-    c.have_worths.ensures ∙ (ap (λ (l : List Column). same_worths l c.as_slice-in-Lawful-2.result.now) c.as_slice-in-Lawful.ensures ∙ ap (λ (l : List Column). same_worths cs l) c.as_slice-in-Lawful-2.ensures) in
+    c.have_worths.ensures ∙ (ap (λ (l : List Column). same_worths l c.as_slice-in-Lawful-2.result.now) c.as_slice-in-Lawful.ensures
+    ∙ ap (λ (l : List Column). same_worths cs l) c.as_slice-in-Lawful-2.ensures) in
     λ no plan. other-worths p cs found lawful (sym worths ∙ no) plan
 
 pub returns-clause-no : goal.returns-clause-no
@@ -47,5 +51,6 @@ returns-clause-no c =
     let net : c.in_ok-net.net ≡ duties_over c.args.case.now c.args.pieces.now false =
     c.in_ok-net.ensures ∙ (ap with c.params.ensures.settings ∙ ap (λ (k : Case). duties_over k c.args.pieces.now false) c.case.view_is) in
     let judged : IsVerdict p cs c.in_ok-found.field-0 =
-    subst (λ (l : List Column). IsVerdict p l c.in_ok-found.field-0) c.as_slice.ensures (subst (λ (d : DutyFacts). IsVerdict (duties d) c.as_slice.result.now c.in_ok-found.field-0) net c.in_ok-found.ensures.verdict) in
+    subst (λ (l : List Column). IsVerdict p l c.in_ok-found.field-0) c.as_slice.ensures
+    (subst (λ (d : DutyFacts). IsVerdict (duties d) c.as_slice.result.now c.in_ok-found.field-0) net c.in_ok-found.ensures.verdict) in
     λ no plan. c.in_default.not-Lawful (record { columns = cs }) (itself p cs c.in_ok-found.field-0 judged plan)

@@ -4,4 +4,6 @@ use Rattle.cert_check.proofs.printing.new_pieces.Given as goal
 
 -- the numbers so far stand before those of the other pieces
 abbrev pub invariant-loop-item : goal.invariant-loop-item
-invariant-loop-item l = map (new_piece_of l.blocks l.pieces l.anew) l.items ≡ l.numbers.items ++ map (new_piece_of l.blocks l.pieces l.anew) (drop l.item-index l.items)
+invariant-loop-item l =
+    map (new_piece_of l.blocks l.pieces l.anew) l.items ≡ l.numbers.items
+    ++ map (new_piece_of l.blocks l.pieces l.anew) (drop l.item-index l.items)

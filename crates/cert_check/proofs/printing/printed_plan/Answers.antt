@@ -21,13 +21,15 @@ same_tables-requires-clause-few_pieces c = subst (λ (pieces : List Piece). leng
 pub are_plan-requires-clause-lists : goal.are_plan-requires-clause-lists
 are_plan-requires-clause-lists c =
     let ranges = has_ranges c.args.case.now c.args.text.now c.args.blocks.now c.args.duties.now c.requires.has
-    c.requires.few_blocks (subst (λ (pieces : List Piece). length pieces ≤ 3000) c.requires.pieces c.requires.few) c.requires.cheap_blocks c.requires.cheap_duties in
+    c.requires.few_blocks (subst (λ (pieces : List Piece). length pieces ≤ 3000) c.requires.pieces c.requires.few) c.requires.cheap_blocks
+    c.requires.cheap_duties in
     let few = ranges.few_duties in
     subst (λ (a : Answer). length a.duties.columns < 2 ^ 32) (sym c.in_ok-answer.ensures.answer) (omega (arith, few))
 
 pub are_plan-requires-clause-items : goal.are_plan-requires-clause-items
 are_plan-requires-clause-items c =
     let ranges = has_ranges c.args.case.now c.args.text.now c.args.blocks.now c.args.duties.now c.requires.has
-    c.requires.few_blocks (subst (λ (pieces : List Piece). length pieces ≤ 3000) c.requires.pieces c.requires.few) c.requires.cheap_blocks c.requires.cheap_duties in
+    c.requires.few_blocks (subst (λ (pieces : List Piece). length pieces ≤ 3000) c.requires.pieces c.requires.few) c.requires.cheap_blocks
+    c.requires.cheap_duties in
     subst (λ (a : Answer). length (all_items a.duties.columns) < 2 ^ 32) (sym c.in_ok-answer.ensures.answer)
     (all_few (duties_again c.args.case.now c.args.blocks.now c.args.duties.now) ranges.few_duties ranges.parts)

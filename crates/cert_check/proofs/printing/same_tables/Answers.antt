@@ -32,7 +32,8 @@ plan_tables-requires-clause-pools c =
 
 pub plan_tables-requires-clause-trips : goal.plan_tables-requires-clause-trips
 plan_tables-requires-clause-trips c =
-    let P : Case → Answer → Type 0 = λ k answer. All (λ (block : Column). AllBelow (length k.day.trips) block.items) answer.blocks.columns in
+    let P : Case → Answer → Type 0 =
+    λ k answer. All (λ (block : Column). AllBelow (length k.day.trips) block.items) answer.blocks.columns in
     let ranges = has_ranges c.args.case.now c.args.text.now c.args.blocks.now c.args.duties.now c.requires.has
     c.requires.few_blocks c.requires.few_pieces c.requires.cheap_blocks c.requires.cheap_duties in
     subst (λ (k : Case). P k c.args.answer.now) (sym c.case.view_is) (subst (P c.args.case.now) (sym c.requires.answer) ranges.trips)
@@ -88,26 +89,44 @@ plan_tables-requires-clause-bounds c =
 
 pub returns-in-None-clause-same : goal.returns-in-None-clause-same
 returns-in-None-clause-same c =
-    let inside : Case = record { day = c.case.inside.day.now; rec_frt = c.case.inside.rec_frt.now; plan = c.case.inside.plan.now; cert = c.case.inside.cert.now } in
+    let inside : Case = record {
+      day = c.case.inside.day.now;
+      rec_frt = c.case.inside.rec_frt.now;
+      plan = c.case.inside.plan.now;
+      cert =
+          c.case.inside.cert.now;
+    } in
     let Made : Case → Type 0 = λ k. c.in_ok-made.made ≡ answer_tables k.day k.rec_frt c.args.answer.now in
     let tables = tables_in c.args.case.now c.args.text.now c.args.blocks.now c.args.duties.now in
     let made : c.in_ok-made.made ≡ tables =
-    tables_made c.args.case.now c.args.text.now c.args.blocks.now c.args.duties.now c.args.answer.now c.in_ok-made.made c.requires.answer (subst Made c.case.view_is c.in_ok-made.ensures.tables) in
+    tables_made c.args.case.now c.args.text.now c.args.blocks.now c.args.duties.now c.args.answer.now c.in_ok-made.made c.requires.answer
+    (subst Made c.case.view_is c.in_ok-made.ensures.tables) in
     let Diff : Case → List Table → Option Difference = λ k ts. first_difference (codes "X_SCHRANKE") (codes "SCHRANKE") k.plan ts in
-    let same : Diff inside c.as_slice.result.now ≡ Diff c.args.case.now tables = ap (λ (ts : List Table). Diff inside ts) (c.as_slice.ensures ∙ made) ∙ ap (λ (k : Case). Diff k tables) c.case.view_is in
+    let same : Diff inside c.as_slice.result.now ≡ Diff c.args.case.now tables =
+    ap (λ (ts : List Table). Diff inside ts) (c.as_slice.ensures ∙ made) ∙ ap (λ (k : Case). Diff k tables) c.case.view_is in
     sym (c.in-None.ensures.difference ∙ same)
 
 pub returns-clause-stop : goal.returns-clause-stop
 returns-clause-stop c =
-    let inside : Case = record { day = c.case.inside.day.now; rec_frt = c.case.inside.rec_frt.now; plan = c.case.inside.plan.now; cert = c.case.inside.cert.now } in
+    let inside : Case = record {
+      day = c.case.inside.day.now;
+      rec_frt = c.case.inside.rec_frt.now;
+      plan = c.case.inside.plan.now;
+      cert =
+          c.case.inside.cert.now;
+    } in
     let Made : Case → Type 0 = λ k. c.in_ok-made.made ≡ answer_tables k.day k.rec_frt c.args.answer.now in
     let tables = tables_in c.args.case.now c.args.text.now c.args.blocks.now c.args.duties.now in
     let made : c.in_ok-made.made ≡ tables =
-    tables_made c.args.case.now c.args.text.now c.args.blocks.now c.args.duties.now c.args.answer.now c.in_ok-made.made c.requires.answer (subst Made c.case.view_is c.in_ok-made.ensures.tables) in
+    tables_made c.args.case.now c.args.text.now c.args.blocks.now c.args.duties.now c.args.answer.now c.in_ok-made.made c.requires.answer
+    (subst Made c.case.view_is c.in_ok-made.ensures.tables) in
     let Diff : Case → List Table → Option Difference = λ k ts. first_difference (codes "X_SCHRANKE") (codes "SCHRANKE") k.plan ts in
-    let same : Diff inside c.as_slice.result.now ≡ Diff c.args.case.now tables = ap (λ (ts : List Table). Diff inside ts) (c.as_slice.ensures ∙ made) ∙ ap (λ (k : Case). Diff k tables) c.case.view_is in
+    let same : Diff inside c.as_slice.result.now ≡ Diff c.args.case.now tables =
+    ap (λ (ts : List Table). Diff inside ts) (c.as_slice.ensures ∙ made) ∙ ap (λ (k : Case). Diff k tables) c.case.view_is in
     let d = c.in-Some.difference in
     let found : Diff c.args.case.now tables ≡ Some d = sym (c.in-Some.ensures.difference ∙ same) in
     let (table, row, is, place) = c.in_ok-difference_reason-in-Some.ensures in
-    let here : IsPlaceOf tables d table row = subst (λ (ts : List Table). IsPlaceOf ts d table row) (c.as_slice-in-Some.ensures ∙ made) place in
-    subst (λ (r : Reason). IsReason c.args.case.now r) (sym is) (c.args.text.now, c.args.blocks.now, c.args.duties.now, c.requires.has, inl (d, found, here))
+    let here : IsPlaceOf tables d table row =
+    subst (λ (ts : List Table). IsPlaceOf ts d table row) (c.as_slice-in-Some.ensures ∙ made) place in
+    subst (λ (r : Reason). IsReason c.args.case.now r) (sym is)
+    (c.args.text.now, c.args.blocks.now, c.args.duties.now, c.requires.has, inl (d, found, here))

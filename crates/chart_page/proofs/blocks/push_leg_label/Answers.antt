@@ -5,4 +5,5 @@ pub returns-in_ok-push_label_open-in-Some : goal.returns-in_ok-push_label_open-i
 returns-in_ok-push_label_open-in-Some c =
     rw c.in-Some.is
     (then_ok c.push_trip_label.result _ _
-    (λ last. two_steps _ _ _ _ _ _ (rw c.lane_at-lane.ensures at c.in_ok-push_label_open-in-Some.ensures) (rw c.trip_at.ensures at last)) c.push_trip_label.ensures)
+    (λ last. two_steps _ _ _ _ _ _ (rw c.lane_at-lane.ensures at c.in_ok-push_label_open-in-Some.ensures) (rw c.trip_at.ensures at last))
+    c.push_trip_label.ensures)

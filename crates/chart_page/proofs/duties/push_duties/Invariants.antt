@@ -6,4 +6,5 @@ use Rattle.chart_page.proofs.duties.push_duties.Given as goal
 
 -- what is written so far and what is left to write are the whole
 abbrev pub invariant-loop-place : goal.invariant-loop-place
-invariant-loop-place l = l.out.items ++ flat_map (λ e. written l.table (duty_at l.lanes e)) (enumerate_from l.place (drop l.place l.duties)) ≡ l.initial.out.items ++ flat_map (λ e. written l.table (duty_at l.lanes e)) (enumerate_from 0 l.duties)
+invariant-loop-place l = l.out.items ++ flat_map (λ e. written l.table (duty_at l.lanes e)) (enumerate_from l.place (drop l.place l.duties))
+    ≡ l.initial.out.items ++ flat_map (λ e. written l.table (duty_at l.lanes e)) (enumerate_from 0 l.duties)

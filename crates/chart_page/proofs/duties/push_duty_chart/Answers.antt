@@ -4,4 +4,5 @@ use Rattle.chart_page.proofs.duties.push_duty_chart.Goals as goal
 pub returns : goal.returns
 returns c =
     then_ok c.push_parts.result _ _
-    (λ last. two_steps _ _ _ _ _ _ (rw c.len.ensures at c.in_ok-push_frame.ensures) (two_steps _ _ _ _ _ _ (rw (c.as_slice.ensures, c.in_ok-lanes.ensures) at c.in_ok-push_lanes.ensures) last)) c.push_parts.ensures
+    (λ last. two_steps _ _ _ _ _ _ (rw c.len.ensures at c.in_ok-push_frame.ensures)
+    (two_steps _ _ _ _ _ _ (rw (c.as_slice.ensures, c.in_ok-lanes.ensures) at c.in_ok-push_lanes.ensures) last)) c.push_parts.ensures

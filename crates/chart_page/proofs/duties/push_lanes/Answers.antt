@@ -8,4 +8,5 @@ returns c =
     then_ok c.push_lane_names.result _ _
     (λ last. two_steps _ _ _ _ _ _ c.in_ok-push_bars.ensures
     (two_steps _ _ _ _ _ _ (rw c.len.ensures at c.in_ok-push_scale.ensures)
-    (flat_step c.args.table.now (name_at c.args.lanes.now) (enumerate_from 0 c.args.sheet.now.duties) _ _ (rw c.as_slice.ensures at last)))) c.push_lane_names.ensures
+    (flat_step c.args.table.now (name_at c.args.lanes.now) (enumerate_from 0 c.args.sheet.now.duties) _ _ (rw c.as_slice.ensures at last))))
+    c.push_lane_names.ensures

@@ -6,4 +6,5 @@ use Rattle.chart_page.proofs.duties.push_pieces.Given as goal
 
 -- what is written so far and what is left to write are the whole
 abbrev pub invariant-loop-piece : goal.invariant-loop-piece
-invariant-loop-piece l = l.out.items ++ flat_map (λ piece. written l.table (piece_parts l.lanes piece)) (drop l.piece-index l.pieces) ≡ l.initial.out.items ++ flat_map (λ piece. written l.table (piece_parts l.lanes piece)) l.pieces
+invariant-loop-piece l = l.out.items ++ flat_map (λ piece. written l.table (piece_parts l.lanes piece)) (drop l.piece-index l.pieces)
+    ≡ l.initial.out.items ++ flat_map (λ piece. written l.table (piece_parts l.lanes piece)) l.pieces

@@ -6,4 +6,5 @@ use Rattle.chart_page.proofs.frame.push_grid.Given as goal
 
 -- what is written so far and what is left to write are the whole
 abbrev pub invariant-loop-hour : goal.invariant-loop-hour
-invariant-loop-hour l = l.out.items ++ flat_map (λ hour. written l.table (grid_line l.rows hour)) (drop l.hour-index l.hours) ≡ l.initial.out.items ++ flat_map (λ hour. written l.table (grid_line l.rows hour)) l.hours
+invariant-loop-hour l = l.out.items ++ flat_map (λ hour. written l.table (grid_line l.rows hour)) (drop l.hour-index l.hours)
+    ≡ l.initial.out.items ++ flat_map (λ hour. written l.table (grid_line l.rows hour)) l.hours

@@ -6,4 +6,5 @@ pub returns : goal.returns
 returns c =
     then_ok c.push_parts-2.result _ _
     (λ last. two_steps _ _ _ _ _ _ c.in_ok-push_parts.ensures
-    (two_steps _ _ _ _ _ _ (flat_step c.args.table.now bound_parts c.args.sheet.now.duties.bounds _ _ (rw c.as_slice.ensures at c.in_ok-push_bounds.ensures)) last)) c.push_parts-2.ensures
+    (two_steps _ _ _ _ _ _ (flat_step c.args.table.now bound_parts
+    c.args.sheet.now.duties.bounds _ _ (rw c.as_slice.ensures at c.in_ok-push_bounds.ensures)) last)) c.push_parts-2.ensures

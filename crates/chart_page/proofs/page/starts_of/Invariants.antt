@@ -4,4 +4,5 @@ use Rattle.chart_page.proofs.page.starts_of.Given as goal
 
 -- the hours so far and those that are left are all
 abbrev pub invariant-loop-hour : goal.invariant-loop-hour
-invariant-loop-hour l = l.starts.items ++ range_with_len l.hour (l.hour-end - l.hour) ≡ range_with_len l.fn.hours.first (l.fn.hours.count + 1)
+invariant-loop-hour l =
+    l.starts.items ++ range_with_len l.hour (l.hour-end - l.hour) ≡ range_with_len l.fn.hours.first (l.fn.hours.count + 1)

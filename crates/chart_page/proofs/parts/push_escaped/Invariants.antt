@@ -5,4 +5,5 @@ use Rattle.chart_page.proofs.parts.push_escaped.Given as goal
 
 -- what is written so far and what is left to write are the whole
 abbrev pub invariant-loop-byte : goal.invariant-loop-byte
-invariant-loop-byte l = l.out.items ++ flat_map escaped_byte (drop l.byte-index l.text) ≡ l.initial.out.items ++ flat_map escaped_byte l.text
+invariant-loop-byte l =
+    l.out.items ++ flat_map escaped_byte (drop l.byte-index l.text) ≡ l.initial.out.items ++ flat_map escaped_byte l.text

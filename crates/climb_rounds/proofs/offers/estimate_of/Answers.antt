@@ -8,4 +8,5 @@ best_guess-requires-clause-least g c =
     let p = g.C.Columns.problem c.args._problem.now in
     let P : List ℤ → Type 0 = λ l. AreLeasts l in
     subst P (sym c.requires.least)
-    (priced_leasts p c.args.prices.now.items (c.least_values.ensures.bound c.args._problem.now) (c.least_values.ensures.lists c.args._problem.now) c.requires.setting.ground.sized.items c.requires.prices.1)
+    (priced_leasts p c.args.prices.now.items (c.least_values.ensures.bound c.args._problem.now)
+    (c.least_values.ensures.lists c.args._problem.now) c.requires.setting.ground.sized.items c.requires.prices.1)

@@ -19,6 +19,7 @@ loop-item-preserved c =
     let P : List Price → Type 0 = λ l. AllWithin 10000000000000 l in
     record {
       order = omega arith;
-      len = ap (λ (l : List Price). length l) pushed ∙ (omega (arith, length-append c.loop-item.prices (x ∷ []), c.loop-item.invariant.len));
+      len = ap (λ (l : List Price). length l) pushed
+          ∙ (omega (arith, length-append c.loop-item.prices (x ∷ []), c.loop-item.invariant.len));
       moderate = subst P (sym pushed) (within_push 10000000000000 c.loop-item.prices x c.loop-item.invariant.moderate within);
     }

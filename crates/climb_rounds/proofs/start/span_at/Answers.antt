@@ -6,7 +6,9 @@ pub returns-clause-low : goal.returns-clause-low
 returns-clause-low c = (span_get c.args.spans.now c.args.item (record { low = pos 0; high = pos 0 }) c.requires.inside c.requires.spans).low
 
 pub returns-clause-ordered : goal.returns-clause-ordered
-returns-clause-ordered c = (span_get c.args.spans.now c.args.item (record { low = pos 0; high = pos 0 }) c.requires.inside c.requires.spans).ordered
+returns-clause-ordered c =
+    (span_get c.args.spans.now c.args.item (record { low = pos 0; high = pos 0 }) c.requires.inside c.requires.spans).ordered
 
 pub returns-clause-high : goal.returns-clause-high
-returns-clause-high c = (span_get c.args.spans.now c.args.item (record { low = pos 0; high = pos 0 }) c.requires.inside c.requires.spans).high
+returns-clause-high c =
+    (span_get c.args.spans.now c.args.item (record { low = pos 0; high = pos 0 }) c.requires.inside c.requires.spans).high

@@ -44,12 +44,15 @@ loop-place-preserved c =
     let in_bucket : next ≡ last_in (bucket_in column) (take at cs) = is ∙ ap (λ b. last_in b (take at cs)) here in
     let low = last_in-le (bucket_in (column_at cs at)) (take at cs) in
     let long = length-take-le at cs (omega arith) in
-    let shown : c.index-columns-at.result ≡ column_at cs at = c.index-columns-at.is ∙ column_at-any cs at c.index-columns-at.result inside in
-    let other : is_same column (column_at cs at) ≡ false = ap (λ (d : Column). is_same column d) (sym shown) ∙ sym c.is_same.ensures ∙ c.if-is_same.false in
+    let shown : c.index-columns-at.result ≡ column_at cs at =
+    c.index-columns-at.is ∙ column_at-any cs at c.index-columns-at.result inside in
+    let other : is_same column (column_at cs at) ≡ false =
+    ap (λ (d : Column). is_same column d) (sym shown) ∙ sym c.is_same.ensures ∙ c.if-is_same.false in
     record {
       bound = omega arith;
       here = λ k e.
           let below : k < at = omega arith in
           ap bucket_in (sym (column_at-take cs at k below)) ∙ last_in-bucket (bucket_in column) (take at cs) k (sym in_bucket ∙ e);
-      rest = c.loop-place.invariant.rest ∙ ap (λ n. is_known (take n cs) column) whole ∙ is_known-step column cs at next inside here other is;
+      rest = c.loop-place.invariant.rest ∙ ap (λ n. is_known (take n cs) column) whole
+          ∙ is_known-step column cs at next inside here other is;
     }

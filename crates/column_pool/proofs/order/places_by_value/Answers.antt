@@ -10,4 +10,5 @@ returns c =
     let pool = c.args.pool.now in
     let P : List Key → Type 0 = λ l. IsPermutation l c.sort.new.keys.items in
     let moved : IsPermutation (keys_of prices pool) c.sort.new.keys.items = subst P c.in_ok-keys.ensures c.in_ok-sort.ensures.permutation in
-    by_value_if prices pool c.sort.new.keys.items c.as_slice.result.now c.places.result moved c.in_ok-sort.ensures.sorted c.as_slice.ensures.value c.places.ensures
+    by_value_if prices pool c.sort.new.keys.items c.as_slice.result.now c.places.result moved c.in_ok-sort.ensures.sorted
+    c.as_slice.ensures.value c.places.ensures

@@ -6,4 +6,7 @@ use Rattle.column_pool.proofs.ByValue.{before_order}
 use Rattle.column_pool.proofs.order.sort.Goals as goal
 
 pub returns-in-Ok-clause-sorted : goal.returns-in-Ok-clause-sorted
-returns-in-Ok-clause-sorted c = c.in-Ok.ensures.sorted is_before before_order (answers_always _ (λ a r. is_lt r ≡ is_before a.0.now a.1.0.now) _ (λ f a r q k. let same : r ≡ key_cmp a.0.now a.1.0.now = search rules in ap is_lt same))
+returns-in-Ok-clause-sorted c =
+    c.in-Ok.ensures.sorted is_before before_order
+    (answers_always _ (λ a r. is_lt r ≡ is_before a.0.now a.1.0.now) _ (λ f a r q k. let same : r ≡ key_cmp a.0.now a.1.0.now =
+    search rules in ap is_lt same))

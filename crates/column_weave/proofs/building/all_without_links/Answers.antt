@@ -14,5 +14,6 @@ loop-class-preserved g c =
       len = ap (λ (l : List ClassLinks). length l) pushed ∙ (omega (arith, length-append old (one ∷ []), c.loop-class.invariant.len));
       links = λ k d h.
           (let P : List ClassLinks → Type 0 = λ l. AreLinks p k (get_or l k d) in
-          subst P (sym pushed) (classes-push p old one c.loop-class.class c.loop-class.invariant.len c.loop-class.invariant.links c.in_ok-no_links.ensures k d h));
+          subst P (sym pushed) (classes-push p old one c.loop-class.class c.loop-class.invariant.len c.loop-class.invariant.links
+          c.in_ok-no_links.ensures k d h));
     }

@@ -28,7 +28,8 @@ returns-in_ok-put-in-Some g c =
     let is : IsLinkInto p class item link = subst R same c.in-Some.ensures.rise in
     let reach : IsReach item link = record { from = c.requires.order; low = low; high = high } in
     let put : c.put.new.into ≡ set old.into.items item (get_or old.into.items item [] ++ link ∷ []) =
-    c.in_ok-put-in-Some.ensures.ok ∙ ap (λ (l : List (List Link)). set l item (get_or l item [] ++ link ∷ [])) c.as_mut_slice.ensures.value in
+    c.in_ok-put-in-Some.ensures.ok
+    ∙ ap (λ (l : List (List Link)). set l item (get_or l item [] ++ link ∷ [])) c.as_mut_slice.ensures.value in
     let one_list = c.requires.links.ranged.one_list in
     let ok = old.into.ok.0 in
     let set_long = length-set old.into.items item (get_or old.into.items item [] ++ link ∷ []) in
@@ -43,5 +44,6 @@ returns-in_err-put-in-Some g c =
     let new : ClassLinks = record { single = old.single; into = with_items old.into c.put.new.into } in
     let same : c.put.new.into ≡ old.into.items = c.in_err-put-in-Some.ensures.err ∙ c.as_mut_slice.ensures.value in
     let ok = old.into.ok.0 in
-    let filled : new.into.items ≡ c.put.new.into = refilled old.into.len old.into.items c.put.new.into (omega (arith, ok)) (ap (λ (l : List (List Link)). length l) same) in
+    let filled : new.into.items ≡ c.put.new.into =
+    refilled old.into.len old.into.items c.put.new.into (omega (arith, ok)) (ap (λ (l : List (List Link)). length l) same) in
     links-same p c.args.class old new c.requires.links refl (filled ∙ same)

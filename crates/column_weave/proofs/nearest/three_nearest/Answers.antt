@@ -18,5 +18,6 @@ loop-item-preserved g c =
           let test = c.loop-item-test.true in
           let all = c.items-items.ensures.value in
           let later : IsLater c.args.from p.items near = record { after = omega arith; there = omega arith } in
-          subst P (sym (w.nearest-is ∙ w.with_next-nearest.ensures)) (nearest-next c.args.from p.items c.loop-item.nearest near c.loop-item.invariant later)
+          subst P (sym (w.nearest-is ∙ w.with_next-nearest.ensures))
+          (nearest-next c.args.from p.items c.loop-item.nearest near c.loop-item.invariant later)
     ]

@@ -14,7 +14,8 @@ loop-item-preserved c =
     let here : IsSummed c.loop-item.item (get_or c.args.least.now c.loop-item.item d) = c.requires.summed c.loop-item.item d inside in
     let before = here.before in
     let next : (get_or c.args.least.now c.loop-item.item d).before - 1 < n = omega arith in
-    let pushed : c.push-in-loop-item.new.self.items ≡ c.loop-item.list.items ++ ((get_or c.args.least.now c.loop-item.item d).before - 1) ∷ [] = c.in_ok-push-2.ensures.items in
+    let pushed : c.push-in-loop-item.new.self.items ≡ c.loop-item.list.items ++ ((get_or c.args.least.now c.loop-item.item d).before - 1)
+    ∷ [] = c.in_ok-push-2.ensures.items in
     let P : List ℕ → Type 0 = λ l. AllBelow n l in
     record {
       inside = next;

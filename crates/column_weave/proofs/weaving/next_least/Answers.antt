@@ -19,7 +19,8 @@ least_at-requires-clause-links c =
     let next = c.requires.next in
     let long = c.requires.links.one_list in
     let inside : n < length into = omega arith in
-    let at_slice : list ≡ get_or into n list = c.index-into-item.is ∙ ap (λ (l : List (List Link)). get_or l n list) c.as_slice-into.ensures.value in
+    let at_slice : list ≡ get_or into n list =
+    c.index-into-item.is ∙ ap (λ (l : List (List Link)). get_or l n list) c.as_slice-into.ensures.value in
     let at : list ≡ get_or into n [] = at_slice ∙ any-default into n list [] inside in
     let P : List Link → Type 0 = λ l. All (IsReach n) l in
     subst P (sym (c.as_slice-2.ensures ∙ at)) (c.requires.links.reach n)

@@ -23,6 +23,8 @@ loop-group-preserved g c =
           let S : Option Column → Type 0 = λ o. IfSome o (IsWoven p prices class z) in
           let is : IsWoven p prices class z w.in-Some.column = subst S w.in-Some.is w.in_ok-woven_at.ensures in
           let pushed : w.push.new.self ≡ c.loop-group.woven ++ w.in-Some.column ∷ [] = w.in_ok-push-in-Some.ensures.ok in
-          subst P (sym w.woven-is) (woven-push p prices free asked class z c.loop-group.woven w.push.new.self w.in-Some.column c.requires.place asks is pushed c.loop-group.invariant)
+          subst P (sym w.woven-is)
+          (woven-push p prices free asked class z c.loop-group.woven w.push.new.self w.in-Some.column c.requires.place asks is
+          pushed c.loop-group.invariant)
       | else-is_gain w ↦ subst P (sym w.woven-is) c.loop-group.invariant
     ]

@@ -5,4 +5,6 @@ use Rattle.command_words.proofs.options.given_in.Given as goal
 
 -- the options so far, with those of the words that are left
 abbrev pub invariant-loop-word : goal.invariant-loop-word
-invariant-loop-word l = spec.given_after spec.none_given (spec.said l.words) ≡ spec.given_with l.reading.given (option_map (λ name. name.now) l.reading.waiting) (drop l.word-index l.words)
+invariant-loop-word l =
+    spec.given_after spec.none_given (spec.said l.words) ≡ spec.given_with l.reading.given (option_map (λ name. name.now) l.reading.waiting)
+    (drop l.word-index l.words)

@@ -21,7 +21,8 @@ set-requires c =
 pub lowered-requires-clause-price_low : goal.lowered-requires-clause-price_low
 lowered-requires-clause-price_low c =
     let item = get_or c.args.items.now c.loop-item.item-index 0 in
-    let within = lowered_by-within (take c.loop-item.item-index c.args.items.now) (to_z w64 (of_z w64 c.args.share)) c.args.prices.now item c.requires.moderate in
+    let within = lowered_by-within (take c.loop-item.item-index c.args.items.now) (to_z w64 (of_z w64 c.args.share)) c.args.prices.now
+    item c.requires.moderate in
     let is = c.price_in-price.ensures in
     let by = c.loop-item.invariant.lowered item in
     omega (arith, ints, within.low, within.high)
@@ -29,7 +30,8 @@ lowered-requires-clause-price_low c =
 pub lowered-requires-clause-price_high : goal.lowered-requires-clause-price_high
 lowered-requires-clause-price_high c =
     let item = get_or c.args.items.now c.loop-item.item-index 0 in
-    let within = lowered_by-within (take c.loop-item.item-index c.args.items.now) (to_z w64 (of_z w64 c.args.share)) c.args.prices.now item c.requires.moderate in
+    let within = lowered_by-within (take c.loop-item.item-index c.args.items.now) (to_z w64 (of_z w64 c.args.share)) c.args.prices.now
+    item c.requires.moderate in
     let is = c.price_in-price.ensures in
     let by = c.loop-item.invariant.lowered item in
     omega (arith, ints, within.low, within.high)
@@ -47,8 +49,11 @@ loop-item-preserved c =
     let price_fits : FitsSigned w64 c.price_in-price.result = search rules in
     let price : to_z w64 (of_z w64 c.price_in-price.result) ≡ price_at now item = to_z-of_z price_fits ∙ c.price_in-price.ensures in
     let x : Price = record { 0 = to_z w64 (of_z w64 c.lowered.result) } in
-    let is : x.0 ≡ clamped (price_at now item -ℤ share) = to_z-of_z lowered_fits ∙ c.lowered.ensures ∙ ap (λ z. clamped (z -ℤ share)) price in
+    let is : x.0 ≡ clamped (price_at now item -ℤ share) =
+    to_z-of_z lowered_fits ∙ c.lowered.ensures ∙ ap (λ z. clamped (z -ℤ share)) price in
     record {
       len = ap (λ (l : List Price). length l) c.set.ensures ∙ length-set now item x ∙ c.loop-item.invariant.len;
-      lowered = λ i. ap (λ (l : List Price). price_at l i) c.set.ensures ∙ lowered-more c.args.prices.now now items k share x c.loop-item-test.true c.requires.rises there is c.loop-item.invariant.lowered i;
+      lowered = λ i. ap (λ (l : List Price). price_at l i) c.set.ensures
+          ∙ lowered-more c.args.prices.now now items k share x c.loop-item-test.true c.requires.rises there is
+          c.loop-item.invariant.lowered i;
     }

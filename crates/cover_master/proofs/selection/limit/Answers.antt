@@ -12,8 +12,10 @@ returns c =
     let fits : FitsSigned w64 limit = search rules in
     let shown : values ≡ class_values c.args.class keys = c.as_mut_slice-values.ensures.value ∙ c.in_ok-values.ensures in
     let split = c.select_nth_unstable-value.ensures.partitioned in
-    let found = count-split values c.select_nth_unstable-value.result.0.now c.select_nth_unstable-value.result.2.now limit (c.args.cap - 1) c.select_nth_unstable-value.ensures.permutation c.select_nth_unstable-value.ensures.front_len split.0 in
-    let same : count_by (λ v. int_le v limit) values ≡ count_by (λ v. int_le v limit) (class_values c.args.class keys) = ap (λ (l : List ℤ). count_by (λ v. int_le v limit) l) shown in
+    let found = count-split values c.select_nth_unstable-value.result.0.now c.select_nth_unstable-value.result.2.now limit (c.args.cap - 1)
+    c.select_nth_unstable-value.ensures.permutation c.select_nth_unstable-value.ensures.front_len split.0 in
+    let same : count_by (λ v. int_le v limit) values ≡ count_by (λ v. int_le v limit) (class_values c.args.class keys) =
+    ap (λ (l : List ℤ). count_by (λ v. int_le v limit) l) shown in
     let counted = count-class c.args.class limit keys in
     let P : ℤ → Type 0 = λ l. IsLimit keys c.args.class c.args.cap l in
     subst P (sym (to_z-of_z fits)) (inr (omega arith))

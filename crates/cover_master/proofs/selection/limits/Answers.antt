@@ -16,8 +16,10 @@ loop-class-preserved c =
     let pushed : c.push.new.self.items ≡ c.loop-class.limits.items ++ limit ∷ [] = c.in-Ok.ensures.items in
     record {
       order = omega arith;
-      len = ap (λ (l : List ℤ). length l) pushed ∙ (omega (arith, length-append c.loop-class.limits.items (limit ∷ []), c.loop-class.invariant.len));
+      len = ap (λ (l : List ℤ). length l) pushed
+          ∙ (omega (arith, length-append c.loop-class.limits.items (limit ∷ []), c.loop-class.invariant.len));
       are = λ k below.
           let Q : List ℤ → Type 0 = λ l. IsLimit keys k (get_or caps k 0) (number_at l k) in
-          subst Q (sym pushed) (limits-more keys caps c.loop-class.limits.items limit class c.loop-class.invariant.len here c.loop-class.invariant.are k below);
+          subst Q (sym pushed) (limits-more keys caps c.loop-class.limits.items limit class c.loop-class.invariant.len here
+          c.loop-class.invariant.are k below);
     }

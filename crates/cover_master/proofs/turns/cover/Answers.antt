@@ -8,11 +8,13 @@ use Rattle.cover_master.proofs.turns.cover.Goals as goal
 
 pub walk-requires-clause-class : goal.walk-requires-clause-class
 walk-requires-clause-class c =
-    (key-there c.args.prices.now.items c.args.pool.now c.args.caps.now c.args.keys.now c.requires.all c.requires.sorted (length c.args.prices.now.items) c.loop-key.key-index c.loop-key-test.true c.requires.fit).class
+    (key-there c.args.prices.now.items c.args.pool.now c.args.caps.now c.args.keys.now c.requires.all c.requires.sorted
+    (length c.args.prices.now.items) c.loop-key.key-index c.loop-key-test.true c.requires.fit).class
 
 pub walk-requires-clause-place : goal.walk-requires-clause-place
 walk-requires-clause-place c =
-    (key-there c.args.prices.now.items c.args.pool.now c.args.caps.now c.args.keys.now c.requires.all c.requires.sorted (length c.args.prices.now.items) c.loop-key.key-index c.loop-key-test.true c.requires.fit).place
+    (key-there c.args.prices.now.items c.args.pool.now c.args.caps.now c.args.keys.now c.requires.all c.requires.sorted
+    (length c.args.prices.now.items) c.loop-key.key-index c.loop-key-test.true c.requires.fit).place
 
 pub walk-requires-clause-small : goal.walk-requires-clause-small
 walk-requires-clause-small c = λ i.
@@ -24,7 +26,8 @@ pub walk-requires-clause-low : goal.walk-requires-clause-low
 walk-requires-clause-low c = λ i.
     let few = few-keys c.args.prices.now.items c.args.pool.now c.args.caps.now c.args.keys.now c.requires.all c.requires.sorted in
     let pool = c.requires.pool in
-    let low = low-counts c.args.prices.now.items c.args.pool.now c.args.caps.now c.args.keys.now c.requires.all c.requires.sorted c.loop-key.counts c.loop-key.key-index c.loop-key.invariant.order c.loop-key.invariant.counted i in
+    let low = low-counts c.args.prices.now.items c.args.pool.now c.args.caps.now c.args.keys.now c.requires.all c.requires.sorted
+    c.loop-key.counts c.loop-key.key-index c.loop-key.invariant.order c.loop-key.invariant.counted i in
     omega (arith, c.loop-key.invariant.order)
 
 pub loop-key-preserved : goal.loop-key-preserved
@@ -41,20 +44,29 @@ loop-key-preserved c =
     let below : key.class < length counts = (let class = there.class in omega (arith, c.loop-key.invariant.classes)) in
     let new : List ℕ = set counts key.class (get_or counts key.class 0 + 1) in
     let long : length new ≡ length counts = length-set counts key.class (get_or counts key.class 0 + 1) in
-    let Counted : List ℕ → Type 0 = λ l. (class : ℕ) → class < length l → slice_index l class ≡ count_by (λ x. x.class == class) (take (t + 1) keys) in
+    let Counted : List ℕ → Type 0 =
+    λ l. (class : ℕ) → class < length l → slice_index l class ≡ count_by (λ x. x.class == class) (take (t + 1) keys) in
     record {
       order = omega arith;
       len = c.walk.ensures.len ∙ c.loop-key.invariant.len;
       classes = ap (λ (l : List ℕ). length l) c.walk.ensures.counted ∙ (long ∙ c.loop-key.invariant.classes);
-      counted = subst Counted (sym c.walk.ensures.counted) (λ class h. counted-more prices pool caps keys c.requires.all c.requires.sorted counts t inside below c.loop-key.invariant.counted class (omega arith));
-      covered = λ item. c.walk.ensures.covered item ∙ covered-more prices pool caps keys c.requires.all c.requires.sorted item t (get_or counts key.class 0) (slice_index c.loop-key.cover item) inside (c.loop-key.invariant.counted key.class below) (c.loop-key.invariant.covered item);
-      few = λ item. few-more prices pool caps keys c.requires.all c.requires.sorted (length prices) item t (slice_index c.loop-key.cover item) (slice_index c.walk.new.cover item) (nat_lt (get_or counts key.class 0) (slice_index caps key.class)) inside c.requires.fit (c.loop-key.invariant.few item) (c.walk.ensures.covered item);
+      counted = subst Counted (sym c.walk.ensures.counted)
+          (λ class h. counted-more prices pool caps keys c.requires.all c.requires.sorted counts t inside below
+          c.loop-key.invariant.counted class (omega arith));
+      covered = λ item. c.walk.ensures.covered item
+          ∙ covered-more prices pool caps keys c.requires.all c.requires.sorted item t (get_or counts key.class 0)
+          (slice_index c.loop-key.cover item) inside (c.loop-key.invariant.counted key.class below) (c.loop-key.invariant.covered item);
+      few = λ item. few-more prices pool caps keys c.requires.all c.requires.sorted (length prices) item t
+          (slice_index c.loop-key.cover item) (slice_index c.walk.new.cover item)
+          (nat_lt (get_or counts key.class 0) (slice_index caps key.class)) inside c.requires.fit (c.loop-key.invariant.few item)
+          (c.walk.ensures.covered item);
     }
 
 pub returns-clause-times : goal.returns-clause-times
 returns-clause-times c = λ i.
     let end : c.loop-key.key-index ≡ length c.args.keys.now = omega (arith, c.loop-key.invariant.order) in
-    covered-all c.args.prices.now.items c.args.pool.now c.args.caps.now c.args.keys.now c.requires.all c.requires.sorted i c.loop-key.key-index (slice_index c.loop-key.cover i) end (c.loop-key.invariant.covered i)
+    covered-all c.args.prices.now.items c.args.pool.now c.args.caps.now c.args.keys.now c.requires.all c.requires.sorted i
+    c.loop-key.key-index (slice_index c.loop-key.cover i) end (c.loop-key.invariant.covered i)
 
 pub returns-clause-few : goal.returns-clause-few
 returns-clause-few c = λ i.

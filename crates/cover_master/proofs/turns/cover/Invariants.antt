@@ -10,6 +10,7 @@ invariant-loop-key l = record {
   len : length l.cover ≡ length l.prices.items;
   classes : length l.counts ≡ length l.caps;
   counted : (class : ℕ) → class < length l.counts → slice_index l.counts class ≡ count_by (λ x. x.class == class) (take l.key-index l.keys);
-  covered : (item : ℕ) → slice_index l.cover item ≡ sum_by (chosen_times l.pool (keys_of l.prices.items l.pool) l.caps item) (take l.key-index l.keys);
+  covered : (item : ℕ) → slice_index l.cover item ≡ sum_by (chosen_times l.pool (keys_of l.prices.items l.pool) l.caps item)
+      (take l.key-index l.keys);
   few : (item : ℕ) → slice_index l.cover item ≤ l.key-index;
 }

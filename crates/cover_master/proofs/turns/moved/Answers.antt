@@ -17,5 +17,6 @@ returns c =
     let three : to_z w64 (of_z w64 c.args.size) ≡ c.args.size = to_z-of_z c.ranges.size in
     let sum : to_z w64 (of_z w64 (price +ℤ change)) ≡ price +ℤ change = to_z-of_z sum_fits in
     let value : change ≡ to_z w64 (of_z w64 c.args.size) *ℤ (pos 1 -ℤ pos c.args.times) = c.change.ensures.value in
-    let all : to_z w64 (of_z w64 (to_z w64 (of_z w64 price) +ℤ to_z w64 (of_z w64 change))) ≡ price +ℤ (c.args.size *ℤ (pos 1 -ℤ pos c.args.times)) = cc in
+    let all : to_z w64 (of_z w64 (to_z w64 (of_z w64 price) +ℤ to_z w64 (of_z w64 change)))
+    ≡ price +ℤ (c.args.size *ℤ (pos 1 -ℤ pos c.args.times)) = cc in
     to_z-of_z fits ∙ clamp-is c.clamp.result _ _ c.clamp.ensures all

@@ -11,9 +11,11 @@ pub moved-requires-clause-low : goal.moved-requires-clause-low
 moved-requires-clause-low c =
     let prices = c.args.prices.now.items in
     let same = c.as_slice-price-items.ensures in
-    let inside : c.loop-item.item < length prices = (let h = ap (λ (l : List Price). length l) same in let t = c.loop-item-test.true in omega arith) in
+    let inside : c.loop-item.item < length prices =
+    (let h = ap (λ (l : List Price). length l) same in let t = c.loop-item-test.true in omega arith) in
     let d : Price = record { 0 = pos 0 } in
-    let is : (get_or c.as_slice-price-items.result.now c.loop-item.item d).0 ≡ price_at prices c.loop-item.item = ap (λ (l : List Price). (get_or l c.loop-item.item d).0) same ∙ sym (price_at-get prices c.loop-item.item d inside) in
+    let is : (get_or c.as_slice-price-items.result.now c.loop-item.item d).0 ≡ price_at prices c.loop-item.item =
+    ap (λ (l : List Price). (get_or l c.loop-item.item d).0) same ∙ sym (price_at-get prices c.loop-item.item d inside) in
     let within = price_at-within 10000000000000 prices c.loop-item.item c.requires.moderate in
     omega (arith, ints, within.low, within.high)
 
@@ -21,9 +23,11 @@ pub moved-requires-clause-high : goal.moved-requires-clause-high
 moved-requires-clause-high c =
     let prices = c.args.prices.now.items in
     let same = c.as_slice-price-items.ensures in
-    let inside : c.loop-item.item < length prices = (let h = ap (λ (l : List Price). length l) same in let t = c.loop-item-test.true in omega arith) in
+    let inside : c.loop-item.item < length prices =
+    (let h = ap (λ (l : List Price). length l) same in let t = c.loop-item-test.true in omega arith) in
     let d : Price = record { 0 = pos 0 } in
-    let is : (get_or c.as_slice-price-items.result.now c.loop-item.item d).0 ≡ price_at prices c.loop-item.item = ap (λ (l : List Price). (get_or l c.loop-item.item d).0) same ∙ sym (price_at-get prices c.loop-item.item d inside) in
+    let is : (get_or c.as_slice-price-items.result.now c.loop-item.item d).0 ≡ price_at prices c.loop-item.item =
+    ap (λ (l : List Price). (get_or l c.loop-item.item d).0) same ∙ sym (price_at-get prices c.loop-item.item d inside) in
     let within = price_at-within 10000000000000 prices c.loop-item.item c.requires.moderate in
     omega (arith, ints, within.low, within.high)
 
@@ -35,17 +39,30 @@ loop-item-preserved c =
     let same = c.as_slice-price-items.ensures in
     let inside : item < length prices = (let h = ap (λ (l : List Price). length l) same in let t = c.loop-item-test.true in omega arith) in
     let d : Price = record { 0 = pos 0 } in
-    let is : (get_or c.as_slice-price-items.result.now item d).0 ≡ price_at prices item = ap (λ (l : List Price). (get_or l item d).0) same ∙ sym (price_at-get prices item d inside) in
+    let is : (get_or c.as_slice-price-items.result.now item d).0 ≡ price_at prices item =
+    ap (λ (l : List Price). (get_or l item d).0) same ∙ sym (price_at-get prices item d inside) in
     let within = price_at-within 10000000000000 prices item c.requires.moderate in
-    let price_fits : FitsSigned w64 (get_or c.as_slice-price-items.result.now item d).0 = omega (arith, ints, is, within.low, within.high) in
-    let price : to_z w64 (of_z w64 (get_or c.as_slice-price-items.result.now item d).0) ≡ price_at prices item = to_z-of_z price_fits ∙ is in
+    let price_fits : FitsSigned w64 (get_or c.as_slice-price-items.result.now item d).0 =
+    omega (arith, ints, is, within.low, within.high) in
+    let price : to_z w64 (of_z w64 (get_or c.as_slice-price-items.result.now item d).0) ≡ price_at prices item =
+    to_z-of_z price_fits ∙ is in
     let size : ℤ = to_z w64 (of_z w64 c.args.size) in
-    let moved : c.moved.result ≡ clamped (to_z w64 (of_z w64 (get_or c.as_slice-price-items.result.now item d).0) +ℤ (to_z w64 (of_z w64 c.args.size) *ℤ (pos 1 -ℤ pos (get_or cover item 0)))) = c.moved.ensures in
+    let moved : c.moved.result
+    ≡ clamped (to_z w64 (of_z w64 (get_or c.as_slice-price-items.result.now item d).0)
+    +ℤ (to_z w64 (of_z w64 c.args.size) *ℤ (pos 1 -ℤ pos (get_or cover item 0)))) = c.moved.ensures in
     let moved_fits : FitsSigned w64 c.moved.result = search rules in
-    let value : to_z w64 (of_z w64 c.moved.result) ≡ moved_price prices size cover item = to_z-of_z moved_fits ∙ moved-is prices size cover item c.moved.result _ moved price in
+    let value : to_z w64 (of_z w64 c.moved.result) ≡ moved_price prices size cover item =
+    to_z-of_z moved_fits ∙ moved-is prices size cover item c.moved.result _ moved price in
     let pushed : c.push.new.self ≡ c.loop-item.new ++ record { 0 = to_z w64 (of_z w64 c.moved.result) } ∷ [] = c.in_ok-push.ensures.ok in
     record {
       order = omega arith;
-      len = ap (λ (l : List Price). length l) pushed ∙ (omega (arith, length-append c.loop-item.new (record { 0 = to_z w64 (of_z w64 c.moved.result) } ∷ []), c.loop-item.invariant.len));
-      moved = λ k h. ap (λ (l : List Price). price_at l k) pushed ∙ pushed-more (moved_price prices size cover) c.loop-item.new item (record { 0 = to_z w64 (of_z w64 c.moved.result) }) c.loop-item.invariant.len value c.loop-item.invariant.moved k h;
+      len = ap (λ (l : List Price). length l) pushed
+          ∙ (omega (
+            arith,
+            length-append c.loop-item.new (record { 0 = to_z w64 (of_z w64 c.moved.result) } ∷ []),
+            c.loop-item.invariant.len,
+          ));
+      moved = λ k h. ap (λ (l : List Price). price_at l k) pushed
+          ∙ pushed-more (moved_price prices size cover) c.loop-item.new item (record { 0 = to_z w64 (of_z w64 c.moved.result) })
+          c.loop-item.invariant.len value c.loop-item.invariant.moved k h;
     }

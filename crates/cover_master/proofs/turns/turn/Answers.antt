@@ -12,7 +12,8 @@ use Rattle.cover_master.proofs.Rules.{prices_from-is, prices_from-within, clampe
 use Rattle.cover_master.proofs.turns.turn.Goals as goal
 
 pub gains-requires-clause-fit : goal.gains-requires-clause-fit
-gains-requires-clause-fit c = AreFit-wider (length c.args.prices.now.items) (length c.args.caps.now) 32 c.args.pool.now c.requires.classes c.requires.fit
+gains-requires-clause-fit c =
+    AreFit-wider (length c.args.prices.now.items) (length c.args.caps.now) 32 c.args.pool.now c.requires.classes c.requires.fit
 
 pub returns-clause-turned : goal.returns-clause-turned
 returns-clause-turned c =
@@ -32,7 +33,8 @@ pub returns-clause-moderate : goal.returns-clause-moderate
 returns-clause-moderate c =
     let prices = c.args.prices.now.items in
     let P : List Price → Type 0 = λ l. AllWithin 10000000000000 l in
-    subst P (sym (returns-clause-turned c)) (prices_from-within 10000000000000 (length prices) 0 (turned_price c.args.pool.now prices c.args.caps.now c.args.size)
+    subst P (sym (returns-clause-turned c))
+    (prices_from-within 10000000000000 (length prices) 0 (turned_price c.args.pool.now prices c.args.caps.now c.args.size)
     (λ i. clamped-within (price_at prices i +ℤ (c.args.size *ℤ (pos 1 -ℤ pos (times_chosen c.args.pool.now prices c.args.caps.now i))))))
 
 pub cover-requires-clause-all : goal.cover-requires-clause-all
@@ -50,6 +52,8 @@ cover-requires-clause-all c =
     let R : List Key → Type 0 = λ l. AreCandidates prices pool caps l in
     let are : AreLimits (gain_keys prices pool) caps limits = subst P shown c.in_ok-limits.ensures in
     let kept : c.in_ok-keys.keys.items ≡ filter (is_candidate limits) (gain_keys prices pool) =
-    c.in_ok-keys.ensures ∙ ap (λ (l : List ℤ). filter (is_candidate l) c.as_slice-2.result.now) shown_limits ∙ ap (λ (l : List Key). filter (is_candidate limits) l) shown_2 in
-    let all : IsPermutation (filter (is_candidate limits) (gain_keys prices pool)) c.sort.new.keys.items = subst Q kept c.in_ok-sort.ensures.permutation in
+    c.in_ok-keys.ensures ∙ ap (λ (l : List ℤ). filter (is_candidate l) c.as_slice-2.result.now) shown_limits
+    ∙ ap (λ (l : List Key). filter (is_candidate limits) l) shown_2 in
+    let all : IsPermutation (filter (is_candidate limits) (gain_keys prices pool)) c.sort.new.keys.items =
+    subst Q kept c.in_ok-sort.ensures.permutation in
     subst R (sym c.as_slice-4.ensures.value) (record { limits = limits; are = are; all = all })

@@ -14,9 +14,13 @@ returns-then-places-kept-clause-cause g c =
       bound_is = refl;
       places_are = c.places-places.ensures;
       above = c.if-places-kept.true;
-    } in
-    (none, has_none counted costed c.requires.counts (numbers_of c.args.effort.now) kept.bound c.places-places.result none (c.plan_sizes.ensures.none c.args.costed.now) c.in-Ok.ensures.paid)
+    } in (
+      none,
+      has_none counted costed c.requires.counts (numbers_of c.args.effort.now) kept.bound c.places-places.result none
+          (c.plan_sizes.ensures.none c.args.costed.now) c.in-Ok.ensures.paid,
+    )
 
 pub returns-else-places-kept-clause-bound : goal.returns-else-places-kept-clause-bound
 returns-else-places-kept-clause-bound g c =
-    count_is_bound (g.P.Columns.problem c.args.counted.now) (g.P.Columns.problem c.args.costed.now) c.requires.counts c.in-Ok.kept (c.plan_sizes.ensures.count c.args.costed.now) c.in-Ok.ensures.paid
+    count_is_bound (g.P.Columns.problem c.args.counted.now) (g.P.Columns.problem c.args.costed.now) c.requires.counts c.in-Ok.kept
+    (c.plan_sizes.ensures.count c.args.costed.now) c.in-Ok.ensures.paid

@@ -14,7 +14,8 @@ pub loop-class-preserved : goal.loop-class-preserved
 loop-class-preserved g c =
     let caps = (g.C.Columns.problem c.args.columns.now).caps in
     let below = c.loop-class-test.true in
-    let there : c.loop-class.class < length (g.C.Columns.problem c.args.columns.now).caps = (let len = c.classes-class-end.ensures.value in omega arith) in
+    let there : c.loop-class.class < length (g.C.Columns.problem c.args.columns.now).caps =
+    (let len = c.classes-class-end.ensures.value in omega arith) in
     let more = sum_by_more (λ (x : ℕ). x) (g.C.Columns.problem c.args.columns.now).caps c.loop-class.class 0 there in
     let so_far = c.loop-class.invariant.all in
     let small = c.loop-class.invariant.small in

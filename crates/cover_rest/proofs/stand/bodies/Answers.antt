@@ -15,5 +15,7 @@ add_free-requires c =
 pub returns : goal.returns
 returns c =
     let front = begun_lists c.args.heads.now in
-    c.in_ok-add_free.ensures ∙ ap (λ l. l ++ free_of 0 c.as_slice.result.now) (c.in_ok-add_heads.ensures ∙ ap (λ l. l ++ front) c.new-bodies.ensures)
-    ∙ ap (λ m. front ++ free_of 0 m) (c.as_slice.ensures.value ∙ c.in_ok-marks.ensures) ∙ ap (λ l. front ++ l) (free-is c.args.heads.now c.args.items)
+    c.in_ok-add_free.ensures
+    ∙ ap (λ l. l ++ free_of 0 c.as_slice.result.now) (c.in_ok-add_heads.ensures ∙ ap (λ l. l ++ front) c.new-bodies.ensures)
+    ∙ ap (λ m. front ++ free_of 0 m) (c.as_slice.ensures.value ∙ c.in_ok-marks.ensures)
+    ∙ ap (λ l. front ++ l) (free-is c.args.heads.now c.args.items)

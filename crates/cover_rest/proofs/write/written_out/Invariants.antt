@@ -4,4 +4,5 @@ use Rattle.cover_rest.proofs.write.written_out.Given as goal
 
 -- what is written and what is left are all
 abbrev pub invariant-loop-column : goal.invariant-loop-column
-invariant-loop-column l = l.columns ++ spec.written_plan l.bodies (drop l.column-index l.column-items) ≡ spec.written_plan l.bodies l.plan.columns
+invariant-loop-column l =
+    l.columns ++ spec.written_plan l.bodies (drop l.column-index l.column-items) ≡ spec.written_plan l.bodies l.plan.columns

@@ -8,5 +8,7 @@ returns c =
     let column = c.in_ok-column.column in
     let made = c.in_ok-column.ensures in
     let zero_below : 0 < 32 = search rules in
-    let fit : IsFit 3 32 column = IsFit-made 3 32 column 0 c.args.worth c.args.list.now made.class made.worth made.items zero_below c.requires.cheap c.requires.rises c.requires.items in
+    let fit : IsFit 3 32 column =
+    IsFit-made 3 32 column 0 c.args.worth c.args.list.now made.class made.worth made.items zero_below c.requires.cheap
+    c.requires.rises c.requires.items in
     fits_if 3 32 c.args.pool.now column c.add.new.self c.add.result c.requires.fit fit c.add.ensures.pool

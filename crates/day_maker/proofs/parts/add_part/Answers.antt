@@ -11,4 +11,5 @@ returns-in_ok-add_course-in-Courses c =
     let out : List (List Cell) = course_row n true 1 n ∷ course_row n true 2 (10 + n) ∷ course_row n true 3 (n + 1) ∷ [] in
     let back : List (List Cell) = course_row n false 1 (n + 1) ∷ course_row n false 2 (10 + n) ∷ course_row n false 3 n ∷ [] in
     let whole : out ++ back ≡ part_rows c.args.part n = ap (λ (part : Part). part_rows part n) (sym c.in-Courses.is) in
-    add_both c.add_course-in-Courses.result out back (part_rows c.args.part n) c.args.rows.now c.add_course.new.rows c.add_course-in-Courses.new.rows (search rules) c.add_course-in-Courses.ensures whole
+    add_both c.add_course-in-Courses.result out back (part_rows c.args.part n) c.args.rows.now c.add_course.new.rows
+    c.add_course-in-Courses.new.rows (search rules) c.add_course-in-Courses.ensures whole

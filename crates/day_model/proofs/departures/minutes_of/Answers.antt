@@ -12,7 +12,8 @@ loop-minute-preserved c =
     record {
       within = c.past-trip.ensures.within;
       first = first_later trips (pos (60 * minute)) (pos (60 * (minute + 1))) c.past-trip.result (omega (arith, ints)) first;
-      so_far = minutes_more trips c.loop-minute.minutes.items minute c.past-trip.result c.loop-minute-test.true c.past-trip.ensures.within first c.loop-minute.invariant.so_far;
+      so_far = minutes_more trips c.loop-minute.minutes.items minute c.past-trip.result c.loop-minute-test.true c.past-trip.ensures.within
+          first c.loop-minute.invariant.so_far;
     }
 
 pub returns : goal.returns

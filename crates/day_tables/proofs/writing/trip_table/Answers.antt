@@ -16,4 +16,5 @@ placed_rows-requires-clause-fids c =
     rw c.trips.ensures.trips (day_fids c.args.net.now day.kind day c.requires small)
 
 pub returns-clause-each : goal.returns-clause-each
-returns-clause-each c = each_row c.number_table.result c.args.net.now c.args.day.now (ap (λ rows. length rows) (sym c.rows.ensures.rows) ∙ c.rows.ensures.count)
+returns-clause-each c =
+    each_row c.number_table.result c.args.net.now c.args.day.now (ap (λ rows. length rows) (sym c.rows.ensures.rows) ∙ c.rows.ensures.count)

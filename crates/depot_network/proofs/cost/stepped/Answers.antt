@@ -17,5 +17,6 @@ loop-next-preserved c = record {
   there = AllBelow-get _ c.args.rest.now c.loop-next.next-index c.requires.rest (search rules);
   driving = c.in_ok-step.ensures.driving;
   cheap = c.in_ok-step.ensures.cheap c.loop-next.cost c.loop-next.invariant.cheap;
-  walked = c.loop-next.invariant.walked ∙ stepped_more c.args.day.now c.args.pool.now c.loop-next.cost c.loop-next.so_far c.loop-next.last c.in_ok-step.step c.args.rest.now c.loop-next.next-index (search rules) c.in_ok-step.ensures.value;
+  walked = c.loop-next.invariant.walked ∙ stepped_more c.args.day.now c.args.pool.now c.loop-next.cost c.loop-next.so_far c.loop-next.last
+      c.in_ok-step.step c.args.rest.now c.loop-next.next-index (search rules) c.in_ok-step.ensures.value;
 }

@@ -44,9 +44,11 @@ loop-next-init c =
       from = (omega arith);
       near_count = subst P (sym near_put) (count-replicate c.args.points.now.kinds (length c.args.pieces.now));
       far_count = subst P (sym far_put) (count-replicate c.args.points.now.kinds (length c.args.pieces.now));
-      near = none-behind (facts c.args.pieces.now c.args.params.now) c.args.points.now.numbers.items c.in_ok-near.near.items c.args.item c.direct_from-direct.result 0 c.args.points.now.kinds
+      near = none-behind (facts c.args.pieces.now c.args.params.now) c.args.points.now.numbers.items c.in_ok-near.near.items c.args.item
+          c.direct_from-direct.result 0 c.args.points.now.kinds
           (length c.args.pieces.now) near_put refl there;
-      far = none-behind (facts c.args.pieces.now c.args.params.now) c.args.points.now.numbers.items c.in_ok-far.far.items c.args.item c.direct_from-direct.result 10800 c.args.points.now.kinds
+      far = none-behind (facts c.args.pieces.now c.args.params.now) c.args.points.now.numbers.items c.in_ok-far.far.items c.args.item
+          c.direct_from-direct.result 10800 c.args.points.now.kinds
           (length c.args.pieces.now) far_put refl there;
     }
 
@@ -72,7 +74,8 @@ loop-next-preserved c =
     let near_new : c.note.new.list.items ≡ cond c.is_at_least.result (set near (entry_at numbers next) next) near =
     (let R : ℕ → Type 0 = λ n. c.note.new.list.items ≡ cond c.is_at_least.result (set near n next) near in subst R is c.note.ensures) in
     let far_new : c.note-in-loop-next.new.list.items ≡ cond c.is_at_least-in-loop-next.result (set far (entry_at numbers next) next) far =
-    (let R : ℕ → Type 0 = λ n. c.note-in-loop-next.new.list.items ≡ cond c.is_at_least-in-loop-next.result (set far n next) far in subst R is c.note-in-loop-next.ensures) in
+    (let R : ℕ → Type 0 = λ n. c.note-in-loop-next.new.list.items ≡ cond c.is_at_least-in-loop-next.result (set far n next) far in
+    subst R is c.note-in-loop-next.ensures) in
     let L : List ℕ → Type 0 = λ l. length l ≡ c.args.points.now.kinds in
     let A : List ℕ → Type 0 = λ l. AreFirstBehind d numbers c.args.item direct 0 next l in
     let B : List ℕ → Type 0 = λ l. AreFirstBehind d numbers c.args.item direct 10800 next l in
@@ -82,9 +85,12 @@ loop-next-preserved c =
       near_count = subst L (sym near_new) (noted-count c.is_at_least.result near (entry_at numbers next) next ∙ near_size);
       far_count = subst L (sym far_new) (noted-count c.is_at_least-in-loop-next.result far (entry_at numbers next) next ∙ far_size);
       near = subst A (sym near_new) (more-behind c.is_at_least.result d numbers near c.args.item direct 0 next (omega arith) (omega arith)
-          (λ time apart is_time enough. c.is_at_least.ensures time (c.pause_apart-time.ensures apart ∙ is_time) enough) (subst P one c.loop-next.invariant.near));
-      far = subst B (sym far_new) (more-behind c.is_at_least-in-loop-next.result d numbers far c.args.item direct 10800 next (omega arith) (omega arith)
-          (λ time apart is_time enough. c.is_at_least-in-loop-next.ensures time (c.pause_apart-time.ensures apart ∙ is_time) enough) (subst Q one c.loop-next.invariant.far));
+          (λ time apart is_time enough. c.is_at_least.ensures time (c.pause_apart-time.ensures apart ∙ is_time) enough)
+          (subst P one c.loop-next.invariant.near));
+      far = subst B (sym far_new)
+          (more-behind c.is_at_least-in-loop-next.result d numbers far c.args.item direct 10800 next (omega arith) (omega arith)
+          (λ time apart is_time enough. c.is_at_least-in-loop-next.ensures time (c.pause_apart-time.ensures apart ∙ is_time) enough)
+          (subst Q one c.loop-next.invariant.far));
     }
 
 pub returns : goal.returns

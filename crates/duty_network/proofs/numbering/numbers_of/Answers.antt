@@ -16,7 +16,8 @@ loop-item-preserved c =
     let most = c.kinds_with-kinds.ensures.most in
     let few = i.few in
     let long = entry-more xs v in
-    let last : entry_at (xs ++ v ∷ []) c.loop-item.item ≡ v = (let P : ℕ → Type 0 = λ n. entry_at (xs ++ v ∷ []) n ≡ v in subst P count (entry-last xs v)) in
+    let last : entry_at (xs ++ v ∷ []) c.loop-item.item ≡ v =
+    (let P : ℕ → Type 0 = λ n. entry_at (xs ++ v ∷ []) n ≡ v in subst P count (entry-last xs v)) in
     let P : List ℕ → Type 0 = λ l. length l ≡ c.loop-item.item + 1 in
     let Q : List ℕ → Type 0 = λ l. (k : ℕ) → k < c.loop-item.item + 1 → entry_at l k < kinds in
     record {

@@ -26,11 +26,15 @@ returns-clause-tail c =
     let count = c.requires.tail.count in
     let small : get_or numbers c.args.item 0 < length tail = rw (entry-get numbers c.args.item) (omega arith) in
     let read : c.index.result.now ≡ row_at tail (entry_at numbers c.args.item) =
-    c.index.ensures ∙ row-read tail (get_or numbers c.args.item 0) c.index.result.now small ∙ ap (row_at tail) (entry-get numbers c.args.item) in
-    let P : ℕ → Type 0 = λ n. IsTail d c.args.prices.now c.args.reach.now numbers c.args.rows.now c.args.item (set tail n c.lower_by_piece.new.row) in
-    let Q : List ℤ → Type 0 = λ l. IsLoweredBy d c.args.prices.now c.args.reach.now c.args.rows.now c.args.item l c.lower_by_piece.new.row in
+    c.index.ensures ∙ row-read tail (get_or numbers c.args.item 0) c.index.result.now small
+    ∙ ap (row_at tail) (entry-get numbers c.args.item) in
+    let P : ℕ → Type 0 = λ n. IsTail d c.args.prices.now c.args.reach.now numbers c.args.rows.now c.args.item
+    (set tail n c.lower_by_piece.new.row) in
+    let Q : List ℤ → Type 0 =
+    λ l. IsLoweredBy d c.args.prices.now c.args.reach.now c.args.rows.now c.args.item l c.lower_by_piece.new.row in
     subst P (sym (entry-get numbers c.args.item))
-    (tailed d c.args.prices.now c.args.reach.now numbers c.args.rows.now tail c.args.item c.lower_by_piece.new.row c.requires.item c.requires.numbers c.requires.tail
+    (tailed d c.args.prices.now c.args.reach.now numbers c.args.rows.now tail c.args.item c.lower_by_piece.new.row c.requires.item
+    c.requires.numbers c.requires.tail
     (subst Q read c.lower_by_piece.ensures))
 
 pub returns-clause-row : goal.returns-clause-row

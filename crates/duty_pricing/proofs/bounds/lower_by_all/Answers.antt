@@ -15,7 +15,8 @@ lower_by_one-requires-clause-order c =
 pub loop-number-preserved : goal.loop-number-preserved
 loop-number-preserved c =
     let P : ℕ → Type 0 = λ n. IsLoweredByOne c.args.reach.now c.args.chain.now c.args.item n c.loop-number.row c.lower_by_one.new.row in
-    all-more c.args.reach.now c.args.chain.now c.args.firsts.now c.args.item c.loop-number.number c.args.row.now c.loop-number.row c.lower_by_one.new.row c.loop-number.invariant
+    all-more c.args.reach.now c.args.chain.now c.args.firsts.now c.args.item c.loop-number.number c.args.row.now c.loop-number.row
+    c.lower_by_one.new.row c.loop-number.invariant
     (subst P (entry-get c.args.firsts.now c.loop-number.number) c.lower_by_one.ensures)
 
 pub returns : goal.returns
@@ -23,5 +24,6 @@ returns c =
     let past = c.loop-number-test.false in
     let most = c.loop-number.auto.number-end in
     let ended : c.loop-number.number ≡ length c.args.firsts.now = omega arith in
-    let P : ℕ → Type 0 = λ n. IsLoweredByAll c.args.reach.now c.args.chain.now c.args.firsts.now c.args.item n c.args.row.now c.loop-number.row in
+    let P : ℕ → Type 0 = λ n. IsLoweredByAll c.args.reach.now c.args.chain.now c.args.firsts.now c.args.item n
+    c.args.row.now c.loop-number.row in
     subst P ended c.loop-number.invariant

@@ -17,7 +17,8 @@ lower_row-requires-clause-high c = λ x.
 pub returns-then-place-chain : goal.returns-then-place-chain
 returns-then-place-chain c =
     let lowered = rw (row-get c.args.chain.now c.args.place) at c.lower_row.ensures in
-    one-lowered c.args.reach.now c.args.chain.now c.args.item c.args.place c.args.row.now c.lower_row.new.row c.requires.reach c.requires.chain c.requires.order c.if-place-chain.true lowered
+    one-lowered c.args.reach.now c.args.chain.now c.args.item c.args.place c.args.row.now c.lower_row.new.row c.requires.reach
+    c.requires.chain c.requires.order c.if-place-chain.true lowered
 
 pub returns-else-place-chain : goal.returns-else-place-chain
 returns-else-place-chain c =

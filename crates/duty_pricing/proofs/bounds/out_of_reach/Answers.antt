@@ -4,7 +4,8 @@ use Rattle.duty_pricing.proofs.Bounding.{more-out, none-out}
 use Rattle.duty_pricing.proofs.bounds.out_of_reach.Goals as goal
 
 pub loop-init : goal.loop-init
-loop-init c = (let P : List (List ℤ) → Type 0 = λ l. AreOut 0 l in subst P (sym (c.reserve.ensures.items ∙ c.new-rows.ensures.items)) none-out)
+loop-init c = (let P : List (List ℤ) → Type 0 =
+    λ l. AreOut 0 l in subst P (sym (c.reserve.ensures.items ∙ c.new-rows.ensures.items)) none-out)
 
 pub loop-preserved : goal.loop-preserved
 loop-preserved c =

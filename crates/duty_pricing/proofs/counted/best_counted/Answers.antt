@@ -16,15 +16,18 @@ returns-in-None-clause-best c =
     let labels = c.in_ok-labels.labels in
     let own = c.in_ok-labels.ensures in
     let fits : FitsSigned w64 c.args.limit = search rules in
-    let P : ℤ → Type 0 = λ z. IfOk c.best_column.result (λ answer. answer ≡ within z c.args.prices.now (best_of (duties d) c.args.prices.now c.args.class c.args.group)) in
+    let P : ℤ → Type 0 = λ z. IfOk c.best_column.result
+    (λ answer. answer ≡ within z c.args.prices.now (best_of (duties d) c.args.prices.now c.args.class c.args.group)) in
     subst P (to_z-of_z w64 c.args.limit fits) (c.best_column.ensures.best c.args.prices.now c.args.group
-    (made-tied d labels.net.now c.args.prices.now labels.prices.now c.args.class labels.class labels.crew c.args.group labels.first labels.end own.net own.prices own.class own.first own.end own.crew
+    (made-tied d labels.net.now c.args.prices.now labels.prices.now c.args.class labels.class labels.crew c.args.group labels.first
+    labels.end own.net own.prices own.class own.first own.end own.crew
     c.fits.ensures))
 
 pub new-requires-in-Some-clause-moderate : goal.new-requires-in-Some-clause-moderate
 new-requires-in-Some-clause-moderate c =
     let P : List Price → Type 0 = λ l. AllWithin 10000000000000 l in
-    subst P (sym (c.as_slice.ensures.value ∙ c.in_ok-before-in-Some.ensures)) (before-within c.min-end.result c.args.prices.now c.requires.moderate)
+    subst P (sym (c.as_slice.ensures.value ∙ c.in_ok-before-in-Some.ensures))
+    (before-within c.min-end.result c.args.prices.now c.requires.moderate)
 
 pub best_column_by_value-requires-clause-same : goal.best_column_by_value-requires-clause-same
 best_column_by_value-requires-clause-same c =
@@ -37,8 +40,11 @@ best_column_by_value-requires-clause-same c =
     let first = 16 * c.args.group in
     let end = c.min-end.result in
     let there : end ≤ length prices = search rules in
-    made-same d labels.net.now early.net.now prices labels.prices.now (priced_before end prices) early.prices.now c.args.class labels.class early.class labels.crew early.crew first labels.first early.first (first + 16)
-    labels.end early.end own.net other.net own.crew other.crew end own.prices (other.prices ∙ (c.as_slice.ensures.value ∙ c.in_ok-before-in-Some.ensures)) own.class other.class own.first other.first own.end other.end
+    made-same d labels.net.now early.net.now prices labels.prices.now (priced_before end prices) early.prices.now c.args.class labels.class
+    early.class labels.crew early.crew first labels.first early.first (first + 16)
+    labels.end early.end own.net other.net own.crew other.crew end own.prices
+    (other.prices ∙ (c.as_slice.ensures.value ∙ c.in_ok-before-in-Some.ensures)) own.class other.class own.first
+    other.first own.end other.end
     (before-price end prices there)
 
 pub returns-clause-best : goal.returns-clause-best
@@ -47,7 +53,9 @@ returns-clause-best c =
     let labels = c.in_ok-labels.labels in
     let own = c.in_ok-labels.ensures in
     let fits : FitsSigned w64 c.args.limit = search rules in
-    let P : ℤ → Type 0 = λ z. IfOk c.best_column_by_value.result (λ answer. answer ≡ within z c.args.prices.now (best_of (duties d) c.args.prices.now c.args.class c.args.group)) in
+    let P : ℤ → Type 0 = λ z. IfOk c.best_column_by_value.result
+    (λ answer. answer ≡ within z c.args.prices.now (best_of (duties d) c.args.prices.now c.args.class c.args.group)) in
     subst P (to_z-of_z w64 c.args.limit fits) (c.best_column_by_value.ensures.best c.args.prices.now c.args.group
-    (made-tied d labels.net.now c.args.prices.now labels.prices.now c.args.class labels.class labels.crew c.args.group labels.first labels.end own.net own.prices own.class own.first own.end own.crew
+    (made-tied d labels.net.now c.args.prices.now labels.prices.now c.args.class labels.class labels.crew c.args.group labels.first
+    labels.end own.net own.prices own.class own.first own.end own.crew
     c.fits.ensures))

@@ -19,7 +19,8 @@ returns-in-Some-clause-high c =
     let fits : FitsSigned w64 c.greater.result = search rules in
     let start_fits : FitsSigned w64 c.in-Some.mark.start.0 = search rules in
     let latest_fits : FitsSigned w64 c.args.latest = search rules in
-    let safe = marking-safe c.args.net.now c.args.prices.now c.args.class c.args.crew.now c.fits.ensures c.requires.ranges c.requires.moderate in
+    let safe = marking-safe c.args.net.now c.args.prices.now c.args.class c.args.crew.now c.fits.ensures
+    c.requires.ranges c.requires.moderate in
     let mark = safe.starts c.args.item c.in-Some.mark (sym c.first.ensures ∙ c.in-Some.is) in
     rw (to_z-of_z w64 _ fits)
     ((rw (to_z-of_z w64 _ latest_fits, to_z-of_z w64 _ start_fits) at c.greater.ensures.least) (pos 345600) c.requires.high mark.late)

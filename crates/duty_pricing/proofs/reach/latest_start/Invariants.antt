@@ -8,5 +8,6 @@ abbrev pub invariant-loop-item : goal.invariant-loop-item
 invariant-loop-item l = record {
   low : neg_ℤ (pos 345600) ≤ℤ l.latest;
   high : l.latest ≤ℤ pos 345600;
-  so_far : (item : ℕ) (m : Mark) → item < l.item → l.first ≤ item → item < l.end → first_mark l.net l.prices l.class l.crew item ≡ Some m → m.start.0 ≤ℤ l.latest;
+  so_far : (item : ℕ) (m : Mark) → item < l.item → l.first ≤ item → item < l.end → first_mark l.net l.prices l.class l.crew item ≡ Some m →
+      m.start.0 ≤ℤ l.latest;
 }

@@ -9,4 +9,5 @@ pub returns : goal.returns
 returns c =
     let rows = c.args.rows.now in
     let fits : FitsSigned w64 (get_or (get_or rows c.args.item []) c.args.left (pos 0)) = search rules in
-    rw (to_z-of_z w64 _ fits) (number-get (get_or rows c.args.item []) c.args.left ∙ ap (λ row. number_at row c.args.left) (row-get rows c.args.item))
+    rw (to_z-of_z w64 _ fits) (number-get (get_or rows c.args.item []) c.args.left
+    ∙ ap (λ row. number_at row c.args.left) (row-get rows c.args.item))

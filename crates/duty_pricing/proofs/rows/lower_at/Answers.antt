@@ -13,6 +13,7 @@ returns c =
     let here_fits : FitsSigned w64 (get_or old c.args.place (pos 0)) = search rules in
     let hz = to_z-of_z w64 (get_or old c.args.place (pos 0)) here_fits in
     rw (to_z-of_z w64 _ least_fits)
-    (lowered-of old c.args.place c.args.value c.lower-least.result (get_or old c.args.place (pos 0)) (let long = c.told-row in omega arith) (number-get old c.args.place)
+    (lowered-of old c.args.place c.args.value c.lower-least.result (get_or old c.args.place (pos 0)) (let long =
+    c.told-row in omega arith) (number-get old c.args.place)
     (rw hz at c.lower-least.ensures.first) (rw vz at c.lower-least.ensures.second)
     (rw (hz, vz) at c.lower-least.ensures.least))

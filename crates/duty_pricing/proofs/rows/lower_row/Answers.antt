@@ -36,17 +36,20 @@ loop-place-preserved c =
     let value : c.less-value.result ≡ number_at next at -ℤ c.args.price =
     (rw (to_z-of_z w64 _ fits, number-get next at, to_z-of_z w64 _ price_fits) at c.less-value.ensures) in
     let P : ℤ → Type 0 = λ z. IsLowered c.loop-place.row c.lower_at.new.row c.loop-place.place z in
-    let lowered : IsLowered c.loop-place.row c.lower_at.new.row c.loop-place.place c.less-value.result = rw (to_z-of_z w64 _ value_fits) at c.lower_at.ensures in
+    let lowered : IsLowered c.loop-place.row c.lower_at.new.row c.loop-place.place c.less-value.result =
+    rw (to_z-of_z w64 _ value_fits) at c.lower_at.ensures in
     rw (to_z-of_z w64 _ price_fits)
     (record {
       from = (let from = c.loop-place.invariant.from in omega arith);
-      so_far = row-more c.args.row.now c.loop-place.row c.lower_at.new.row next c.args.shift c.loop-place.place c.args.price c.loop-place.invariant.from
+      so_far = row-more c.args.row.now c.loop-place.row c.lower_at.new.row next c.args.shift c.loop-place.place c.args.price
+          c.loop-place.invariant.from
           (rw (to_z-of_z w64 _ price_fits) at c.loop-place.invariant.so_far) (subst P value lowered);
     })
 
 pub returns : goal.returns
 returns c =
     let price_fits : FitsSigned w64 c.args.price = search rules in
-    let ended : c.loop-place.place ≡ c.args.width = (let end = c.loop-place-test.false in let most = c.loop-place.auto.place-end c.requires.order in omega arith) in
+    let ended : c.loop-place.place ≡ c.args.width =
+    (let end = c.loop-place-test.false in let most = c.loop-place.auto.place-end c.requires.order in omega arith) in
     let P : ℕ → Type 0 = λ n. IsRowLowered c.args.row.now c.loop-place.row c.args.next.now c.args.shift n c.args.price in
     subst P ended (rw (to_z-of_z w64 _ price_fits) at c.loop-place.invariant.so_far)

@@ -13,6 +13,7 @@ returns c =
     let here_fits : FitsSigned w64 (get_or old c.args.place (pos 0)) = search rules in
     let hz = to_z-of_z w64 (get_or old c.args.place (pos 0)) here_fits in
     rw (to_z-of_z w64 _ most_fits)
-    (lifted-of old c.args.place c.args.value c.greater-most.result (get_or old c.args.place (pos 0)) (let long = c.told-row in omega arith) (number-get old c.args.place)
+    (lifted-of old c.args.place c.args.value c.greater-most.result (get_or old c.args.place (pos 0)) (let long =
+    c.told-row in omega arith) (number-get old c.args.place)
     (rw hz at c.greater-most.ensures.first) (rw vz at c.greater-most.ensures.second)
     (rw (hz, vz) at c.greater-most.ensures.least))

@@ -17,6 +17,7 @@ loop-place-preserved c =
     let P : ℤ → Type 0 = λ z. IsLowered row c.lower_at.new.row c.loop-place.place z in
     record {
       from = (let from = c.loop-place.invariant.from in omega arith);
-      so_far = settle-more c.args.row.now row c.lower_at.new.row c.loop-place.place c.loop-place.invariant.from small c.loop-place.invariant.so_far
+      so_far = settle-more c.args.row.now row c.lower_at.new.row c.loop-place.place c.loop-place.invariant.from small
+          c.loop-place.invariant.so_far
           (subst P (number-get row at) (rw (to_z-of_z w64 _ fits) at c.lower_at.ensures));
     }

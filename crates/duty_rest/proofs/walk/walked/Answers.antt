@@ -13,6 +13,9 @@ loop-piece-preserved c =
     let net = c.args.net.now in
     let group = c.args.group.now in
     record {
-      fits = (marking-safe net [] 0 group c.fits.ensures c.requires.ranges tt).steps c.loop-piece.open c.in_ok-open.open _ c.loop-piece.invariant.fits (sym c.in_ok-open.ensures);
-      walked = λ class. c.loop-piece.invariant.walked class ∙ after-more (marking net [] class group) c.loop-piece.open _ c.args.rest.now c.loop-piece.piece-index (search rules) c.in_ok-open.ensures;
+      fits = (marking-safe net [] 0 group c.fits.ensures c.requires.ranges tt).steps c.loop-piece.open
+          c.in_ok-open.open _ c.loop-piece.invariant.fits (sym c.in_ok-open.ensures);
+      walked = λ class. c.loop-piece.invariant.walked class
+          ∙ after-more (marking net [] class group) c.loop-piece.open _ c.args.rest.now c.loop-piece.piece-index
+          (search rules) c.in_ok-open.ensures;
     }

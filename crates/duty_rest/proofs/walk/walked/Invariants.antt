@@ -8,5 +8,6 @@ use Rattle.duty_rest.proofs.walk.walked.Given as goal
 abbrev pub invariant-loop-piece : goal.invariant-loop-piece
 invariant-loop-piece l = record {
   fits : MarkFits (length l.net.pieces) l.open;
-  walked : (class : ℕ) → label_after (marking l.net [] class l.group) (Some l.fn.first) l.rest ≡ label_after (marking l.net [] class l.group) (Some l.open) (drop l.piece-index l.rest);
+  walked : (class : ℕ) → label_after (marking l.net [] class l.group) (Some l.fn.first) l.rest
+      ≡ label_after (marking l.net [] class l.group) (Some l.open) (drop l.piece-index l.rest);
 }

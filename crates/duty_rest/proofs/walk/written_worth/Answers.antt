@@ -18,7 +18,8 @@ returns-in_err-mark-clause-value c =
     let group = c.group-group.result.now in
     let list : List ℕ = written c.args.bodies.now c.args.list.now in
     let none : c.from_residual.result ≡ None = search rules in
-    none ∙ ap (λ (o : Option Mark). option_and_then (λ (a : Mark). option_map (λ (v : ℤ). unsigned_abs v / 1000) (closed_value net group a)) o) c.in_err-mark.ensures.value
+    none ∙ ap (λ (o : Option Mark). option_and_then (λ (a : Mark). option_map (λ (v : ℤ). unsigned_abs v / 1000) (closed_value net group a))
+    o) c.in_err-mark.ensures.value
     ∙ sym (tied-worth (marking net [] c.args.class group) (closed_value net group) (duty_worth net c.args.class) list
     (marking-tied net [] c.args.class group (search rules) (timed-from net.pieces c.fits.ensures.shifts)))
 
@@ -28,7 +29,8 @@ returns-clause-value c =
     let group = c.group-group.result.now in
     let list : List ℕ = written c.args.bodies.now c.args.list.now in
     c.closed_worth.ensures
-    ∙ ap (λ (o : Option Mark). option_and_then (λ (a : Mark). option_map (λ (v : ℤ). unsigned_abs v / 1000) (closed_value net group a)) o) c.in_ok-mark.ensures.value
+    ∙ ap (λ (o : Option Mark). option_and_then (λ (a : Mark). option_map (λ (v : ℤ). unsigned_abs v / 1000) (closed_value net group a)) o)
+    c.in_ok-mark.ensures.value
     ∙ sym (tied-worth (marking net [] c.args.class group) (closed_value net group) (duty_worth net c.args.class) list
     (marking-tied net [] c.args.class group (search rules) (timed-from net.pieces c.fits.ensures.shifts)))
 

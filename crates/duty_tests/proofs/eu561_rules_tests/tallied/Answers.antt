@@ -14,5 +14,6 @@ add-requires c = record {
 pub loop-drive-preserved : goal.loop-drive-preserved
 loop-drive-preserved c = record {
   order = omega arith;
-  stands = rw (take_more c.args.drives.now c.loop-drive.drive-index (record { pause = 0; driving = 0 }) c.loop-drive-test.true) (c.add.ensures.drives _ c.loop-drive.invariant.stands);
+  stands = rw (take_more c.args.drives.now c.loop-drive.drive-index (record { pause = 0; driving = 0 }) c.loop-drive-test.true)
+      (c.add.ensures.drives _ c.loop-drive.invariant.stands);
 }

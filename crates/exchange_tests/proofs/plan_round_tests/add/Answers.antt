@@ -11,7 +11,8 @@ returns-in_ok-items-in-Some-clause-pool c =
     let class = c.args.class in
     let column : Column = record { class = class; worth = c.in-Some.worth; items = c.in_ok-items-in-Some.items } in
     let there : class < 2 = c.requires.class in
-    let has : p.worth class c.in_ok-items-in-Some.items ≡ Some c.in-Some.worth = ap (λ (l : List ℕ). p.worth class l) c.in_ok-items-in-Some.ensures ∙ sym c.in-Some.ensures.value in
+    let has : p.worth class c.in_ok-items-in-Some.items ≡ Some c.in-Some.worth =
+    ap (λ (l : List ℕ). p.worth class l) c.in_ok-items-in-Some.ensures ∙ sym c.in-Some.ensures.value in
     columns_if p c.args.pool.now column c.add.new.self c.add.result c.requires.pool (there, has) c.add.ensures.pool
 
 pub returns-in_ok-items-in-Some-clause-cheap : goal.returns-in_ok-items-in-Some-clause-cheap

@@ -19,7 +19,8 @@ pub returns-then-count-eq0-clause-bytes : goal.returns-then-count-eq0-clause-byt
 returns-then-count-eq0-clause-bytes g c =
     let reads = rw c.len-at.ensures at c.in-Ok.ensures.bytes in
     let room : 0 < length c.read.new.buf = omega (arith, c.loop-count.invariant.buffer, c.read.auto.buf) in
-    all_read _ _ c.loop-count.bytes.items c.read.new.buf _ _ (c.loop-count.invariant.same c.args.name.now) c.loop-count.invariant.front reads
+    all_read _ _ c.loop-count.bytes.items c.read.new.buf _ _ (c.loop-count.invariant.same c.args.name.now)
+    c.loop-count.invariant.front reads
     c.if-count-eq0.true room
 
 pub returns-then-count-eq0-clause-same : goal.returns-then-count-eq0-clause-same

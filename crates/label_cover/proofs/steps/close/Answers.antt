@@ -8,4 +8,5 @@ returns c =
     let d = c.args.net.now in
     let (p, is) = there d.pieces c.args.mark.now.piece c.requires.last in
     c.closed_some.ensures
-    ∙ close-parts d c.args.group.now c.args.mark.now p c.sign_off-off.result c.closing-more.result is (c.sign_off-off.ensures p is) (c.closing-more.ensures.value p is)
+    ∙ close-parts d c.args.group.now c.args.mark.now p c.sign_off-off.result c.closing-more.result is (c.sign_off-off.ensures p is)
+    (c.closing-more.ensures.value p is)

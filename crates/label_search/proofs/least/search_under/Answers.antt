@@ -23,7 +23,8 @@ returns-then-found-limit-clause-found g c =
     let limit_fits : FitsSigned w64 c.args.limit = search rules in
     let z = to_z-of_z w64 c.args.limit limit_fits in
     let raw = rw z at (rw c.in-Some.is at c.in_ok-least_closed.ensures.found) in
-    least-within (w.labelling s) (w.good s) (w.close_of s) (w.sound s) (w.may_close s) c.args.limit (m.safe s) (m.hides_none s) c.in-Some.found.list c.in-Some.found.value raw (search rules)
+    least-within (w.labelling s) (w.good s) (w.close_of s) (w.sound s) (w.may_close s) c.args.limit (m.safe s) (m.hides_none s)
+    c.in-Some.found.list c.in-Some.found.value raw (search rules)
 
 pub returns-else-found-limit-clause-none : goal.returns-else-found-limit-clause-none
 returns-else-found-limit-clause-none g c =
@@ -33,7 +34,8 @@ returns-else-found-limit-clause-none g c =
     let limit_fits : FitsSigned w64 c.args.limit = search rules in
     let z = to_z-of_z w64 c.args.limit limit_fits in
     let raw = rw z at (rw c.in-Some.is at c.in_ok-least_closed.ensures.found) in
-    above-least (w.labelling s) (w.good s) (w.close_of s) (w.sound s) (w.may_close s) c.args.limit (m.safe s) (m.hides_none s) c.in-Some.found.list c.in-Some.found.value raw (search rules)
+    above-least (w.labelling s) (w.good s) (w.close_of s) (w.sound s) (w.may_close s) c.args.limit (m.safe s) (m.hides_none s)
+    c.in-Some.found.list c.in-Some.found.value raw (search rules)
 
 pub returns-then-found-limit-clause-rises : goal.returns-then-found-limit-clause-rises
 returns-then-found-limit-clause-rises g c =
@@ -43,7 +45,8 @@ returns-then-found-limit-clause-rises g c =
     let limit_fits : FitsSigned w64 c.args.limit = search rules in
     let z = to_z-of_z w64 c.args.limit limit_fits in
     let raw = rw z at (rw c.in-Some.is at c.in_ok-least_closed.ensures.found) in
-    (least-rises (w.labelling s) (w.close_of s) (w.count s) (w.last s) (w.may_close s c.args.limit) (m.stepwise s) c.in-Some.found.list c.in-Some.found.value raw).0
+    (least-rises (w.labelling s) (w.close_of s) (w.count s) (w.last s) (w.may_close s c.args.limit) (m.stepwise s) c.in-Some.found.list
+    c.in-Some.found.value raw).0
 
 pub returns-then-found-limit-clause-items : goal.returns-then-found-limit-clause-items
 returns-then-found-limit-clause-items g c =
@@ -53,4 +56,5 @@ returns-then-found-limit-clause-items g c =
     let limit_fits : FitsSigned w64 c.args.limit = search rules in
     let z = to_z-of_z w64 c.args.limit limit_fits in
     let raw = rw z at (rw c.in-Some.is at c.in_ok-least_closed.ensures.found) in
-    (least-rises (w.labelling s) (w.close_of s) (w.count s) (w.last s) (w.may_close s c.args.limit) (m.stepwise s) c.in-Some.found.list c.in-Some.found.value raw).1
+    (least-rises (w.labelling s) (w.close_of s) (w.count s) (w.last s) (w.may_close s c.args.limit) (m.stepwise s) c.in-Some.found.list
+    c.in-Some.found.value raw).1

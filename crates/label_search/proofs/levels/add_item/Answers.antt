@@ -15,7 +15,8 @@ make_item-requires-clause-sound g c =
     let s = c.args.labels.now in
     let w = g.W.Labels in
     let test = w.may_close s c.args.limit in
-    AllSound-is (limited (w.labelling s) test) (w.good s) (w.value_at s) (w.sound s) (limited-safe (w.labelling s) (w.sound s) test (g.met.W.Labels.safe s)) c.args.item
+    AllSound-is (limited (w.labelling s) test) (w.good s) (w.value_at s) (w.sound s)
+    (limited-safe (w.labelling s) (w.sound s) test (g.met.W.Labels.safe s)) c.args.item
     c.args.nodes.now.stock.kept c.requires.nodes
 
 pub keep_level-requires-clause-made : goal.keep_level-requires-clause-made

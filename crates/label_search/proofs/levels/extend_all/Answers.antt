@@ -16,8 +16,11 @@ extend_one-requires-clause-above g c =
     let kept = c.args.stock.now.kept in
     let level = c.args.level.now in
     let part = take (level.end - c.args.from) (drop c.args.from kept) in
-    let below : c.loop-place.place < c.args.from + (level.end - c.args.from) = (let inside = c.loop-place-test.true in let order = c.requires.order in omega arith) in
+    let below : c.loop-place.place < c.args.from + (level.end - c.args.from) =
+    (let inside = c.loop-place-test.true in let order = c.requires.order in omega arith) in
     rw (to_z-of_z w64 c.args.limit limit_fits, to_z-of_z w64 c.args.most most_fits, c.loop-place.invariant.kept)
-    (part-one (λ a. IsAbove c.args.most (w.value_at s a) → passed test ((w.labelling s).extend a c.args.item) ≡ None) kept c.args.from (level.end - c.args.from) c.loop-place.place
+    (part-one (λ a. IsAbove c.args.most (w.value_at s a) → passed test ((w.labelling s).extend a c.args.item) ≡ None) kept c.args.from
+    (level.end - c.args.from) c.loop-place.place
     c.loop-place.invariant.after below
-    (level-most (w.labelling s) test (w.value_at s) (w.sound s) (w.last s) c.args.item c.args.most level part c.requires.level c.requires.most))
+    (level-most (w.labelling s) test (w.value_at s) (w.sound s) (w.last s) c.args.item c.args.most level part
+    c.requires.level c.requires.most))

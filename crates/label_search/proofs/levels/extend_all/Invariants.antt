@@ -10,5 +10,6 @@ invariant-loop-place g l =
       after : l.fn.from ≤ l.place;
       order : l.place ≤ l.level.end;
       kept : l.stock.kept ≡ l.fn.stock.kept;
-      made : l.stock.made ≡ level_so_far (limited (w.labelling l.labels) (w.may_close l.labels l.fn.limit)) (w.good l.labels) (w.value_at l.labels) l.fn.stock.kept l.item l.place;
+      made : l.stock.made ≡ level_so_far (limited (w.labelling l.labels) (w.may_close l.labels l.fn.limit)) (w.good l.labels)
+          (w.value_at l.labels) l.fn.stock.kept l.item l.place;
     }

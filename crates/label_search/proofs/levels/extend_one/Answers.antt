@@ -19,7 +19,8 @@ at-requires g c =
 
 pub extend-label-requires-clause-sound : goal.extend-label-requires-clause-sound
 extend-label-requires-clause-sound g c =
-    AllSound-get (g.W.Labels.sound c.args.labels.now) c.args.stock.now.kept c.args.place c.kept_at.result.now c.requires.sound c.requires.there c.kept_at.ensures
+    AllSound-get (g.W.Labels.sound c.args.labels.now) c.args.stock.now.kept c.args.place c.kept_at.result.now c.requires.sound
+    c.requires.there c.kept_at.ensures
 
 -- a node of a value above the most does not go on
 pub returns-then-at-most-clause-made : goal.returns-then-at-most-clause-made
@@ -29,10 +30,12 @@ returns-then-at-most-clause-made g c =
     let test = w.may_close s c.args.limit in
     let fits : FitsSigned w64 c.at.result = search rules in
     let value : c.at.result ≡ number_at c.args.values.now c.args.place = search rules in
-    let high : c.args.most <ℤ number_at c.args.values.now c.args.place = (let above : c.args.most <ℤ c.at.result = search rules in omega (arith, ints)) in
+    let high : c.args.most <ℤ number_at c.args.values.now c.args.place =
+    (let above : c.args.most <ℤ c.at.result = search rules in omega (arith, ints)) in
     let held : number_at c.args.values.now c.args.place ≤ℤ pos 9223372036854775807 = omega (arith, ints, fits, value) in
     c.requires.so_far ∙ one-skipped (w.labelling s) test (w.good s) (w.value_at s) c.args.stock.now.kept c.args.item c.args.place
-    (value-ended (w.labelling s) test (w.value_at s) c.args.item c.args.most c.args.values.now c.args.stock.now.kept c.args.place c.requires.values c.requires.above (high, held))
+    (value-ended (w.labelling s) test (w.value_at s) c.args.item c.args.most c.args.values.now c.args.stock.now.kept c.args.place
+    c.requires.values c.requires.above (high, held))
 
 pub returns-clause-made : goal.returns-clause-made
 returns-clause-made g c =
@@ -43,8 +46,10 @@ returns-clause-made g c =
     let v = limited (w.labelling s) (w.may_close s c.args.limit) in
     let ins = insert_node (w.good s) (w.value_at s) in
     let label = rw z at c.extend-label.ensures in
-    on-ok c.insert_some.result (c.insert_some.new.stock.made ≡ fold ins c.args.stock.now.made (node_of c.args.item (c.args.place + 1) c.extend-label.result))
+    on-ok c.insert_some.result
+    (c.insert_some.new.stock.made ≡ fold ins c.args.stock.now.made (node_of c.args.item (c.args.place + 1) c.extend-label.result))
     (c.insert_some.new.stock.made ≡ level_so_far v (w.good s) (w.value_at s) c.args.stock.now.kept c.args.item (c.args.place + 1))
     (λ e. e ∙ level-step ins v c.args.item c.args.place c.args.place c.args.stock.now.kept c.kept_at.result.now
-    (node_of c.args.item 0 (v.start c.args.item)) c.args.stock.now.made c.extend-label.result c.requires.there c.kept_at.ensures refl label c.requires.so_far)
+    (node_of c.args.item 0 (v.start c.args.item)) c.args.stock.now.made c.extend-label.result c.requires.there c.kept_at.ensures
+    refl label c.requires.so_far)
     c.insert_some.ensures.made

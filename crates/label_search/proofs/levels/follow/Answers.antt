@@ -12,8 +12,10 @@ returns-then-level-reach-clause-made g c =
     let level = c.args.level.now in
     let part = take (level.end - c.args.from) (drop c.args.from c.args.stock.now.kept) in
     let high : c.args.reach <ℤ level.least = search rules in
-    c.requires.so_far ∙ level-skipped (w.labelling s) test (w.good s) (w.value_at s) c.args.stock.now.kept c.args.item c.args.from level.end c.requires.order
-    (ended-reach (w.labelling s) test (w.value_at s) (w.sound s) (w.last s) c.args.item c.args.reach level part c.requires.level high c.requires.reach)
+    c.requires.so_far ∙ level-skipped (w.labelling s) test (w.good s) (w.value_at s) c.args.stock.now.kept c.args.item
+    c.args.from level.end c.requires.order
+    (ended-reach (w.labelling s) test (w.value_at s) (w.sound s) (w.last s) c.args.item c.args.reach level part
+    c.requires.level high c.requires.reach)
 
 pub returns-in-None-clause-made : goal.returns-in-None-clause-made
 returns-in-None-clause-made g c =
@@ -24,7 +26,8 @@ returns-in-None-clause-made g c =
     let level = c.args.level.now in
     let part = take (level.end - c.args.from) (drop c.args.from c.args.stock.now.kept) in
     let none = rw (to_z-of_z w64 c.args.limit limit_fits) at c.in-None.ensures.none in
-    c.requires.so_far ∙ level-skipped (w.labelling s) test (w.good s) (w.value_at s) c.args.stock.now.kept c.args.item c.args.from level.end c.requires.order
+    c.requires.so_far ∙ level-skipped (w.labelling s) test (w.good s) (w.value_at s) c.args.stock.now.kept c.args.item
+    c.args.from level.end c.requires.order
     (ended-follows (w.labelling s) test (w.value_at s) (w.sound s) (w.last s) c.args.item level part c.requires.level none)
 
 pub returns-else-level-most-clause-made : goal.returns-else-level-most-clause-made
@@ -37,5 +40,7 @@ returns-else-level-most-clause-made g c =
     let part = take (level.end - c.args.from) (drop c.args.from c.args.stock.now.kept) in
     let none = rw (to_z-of_z w64 c.args.limit limit_fits) at c.in-Some.ensures.most in
     let high : c.in-Some.most <ℤ level.least = search rules in
-    c.requires.so_far ∙ level-skipped (w.labelling s) test (w.good s) (w.value_at s) c.args.stock.now.kept c.args.item c.args.from level.end c.requires.order
-    (ended-above (w.labelling s) test (w.value_at s) (w.sound s) (w.last s) c.args.item c.in-Some.most level part c.requires.level high none)
+    c.requires.so_far ∙ level-skipped (w.labelling s) test (w.good s) (w.value_at s) c.args.stock.now.kept c.args.item
+    c.args.from level.end c.requires.order
+    (ended-above (w.labelling s) test (w.value_at s) (w.sound s) (w.last s) c.args.item c.in-Some.most level
+    part c.requires.level high none)

@@ -7,5 +7,6 @@ use Rattle.label_search.proofs.levels.is_beaten.Given as goal
 abbrev pub invariant-loop-place : goal.invariant-loop-place
 invariant-loop-place g l = record {
   order : l.place ≤ length l.stock.made;
-  so_far : list_any (is_beaten_node (g.W.Labels.good l.labels) l.label) l.stock.made ≡ list_any (is_beaten_node (g.W.Labels.good l.labels) l.label) (drop l.place l.stock.made);
+  so_far : list_any (is_beaten_node (g.W.Labels.good l.labels) l.label) l.stock.made
+      ≡ list_any (is_beaten_node (g.W.Labels.good l.labels) l.label) (drop l.place l.stock.made);
 }

@@ -17,8 +17,11 @@ loop-place-preserved g c =
     let below : c.loop-place.place < length c.args.stock.now.made = (let inside = c.loop-place-test.true in omega arith) in
     record {
       order = (omega arith);
-      values = values-step value_at c.args.values.now.items c.loop-place.values.items c.push_value.new.values.items c.loop-place.place c.args.stock.now.made c.made_at.result.now c.value-value.result
+      values = values-step value_at c.args.values.now.items c.loop-place.values.items c.push_value.new.values.items c.loop-place.place
+          c.args.stock.now.made c.made_at.result.now c.value-value.result
           below c.made_at.ensures c.loop-place.invariant.values value (rw (to_z-of_z w64 _ value_fits) at c.in_ok-push_value.ensures);
-      least = rw (to_z-of_z w64 _ fits) (least-step value_at c.loop-place.place c.args.stock.now.made c.made_at.result.now (to_z w64 c.loop-place.least-bits) c.lower-least.result
+      least = rw (to_z-of_z w64 _ fits)
+          (least-step value_at c.loop-place.place c.args.stock.now.made c.made_at.result.now
+          (to_z w64 c.loop-place.least-bits) c.lower-least.result
           below c.made_at.ensures c.loop-place.invariant.least first (second, held));
     }

@@ -16,8 +16,10 @@ returns-in-None-clause-made g c =
     let z = to_z-of_z w64 c.args.limit limit_fits in
     let none = rw z at c.in-None.ensures.none in
     let start = rw z at c.start.ensures in
-    c.in_ok-insert_some.ensures.made ∙ ap (λ l. fold ins l (node_of c.args.item 0 c.start.result)) c.requires.empty ∙ ap (λ o. fold ins [] (node_of c.args.item 0 o)) start ∙
-    level-unreached (w.labelling s) test (w.good s) (w.value_at s) c.args.stock.now.kept c.args.item (ended-all (w.labelling s) test (w.sound s) c.args.item c.args.stock.now.kept c.requires.sound none)
+    c.in_ok-insert_some.ensures.made ∙ ap (λ l. fold ins l (node_of c.args.item 0 c.start.result)) c.requires.empty
+    ∙ ap (λ o. fold ins [] (node_of c.args.item 0 o)) start ∙
+    level-unreached (w.labelling s) test (w.good s) (w.value_at s) c.args.stock.now.kept c.args.item
+    (ended-all (w.labelling s) test (w.sound s) c.args.item c.args.stock.now.kept c.requires.sound none)
 
 -- or none of those that there are
 pub returns-else-least-reach-clause-made : goal.returns-else-least-reach-clause-made
@@ -31,6 +33,8 @@ returns-else-least-reach-clause-made g c =
     let none = rw z at c.in-Some.ensures.most in
     let start = rw z at c.start.ensures in
     let high : c.in-Some.reach <ℤ c.args.least = search rules in
-    c.in_ok-insert_some.ensures.made ∙ ap (λ l. fold ins l (node_of c.args.item 0 c.start.result)) c.requires.empty ∙ ap (λ o. fold ins [] (node_of c.args.item 0 o)) start ∙
+    c.in_ok-insert_some.ensures.made ∙ ap (λ l. fold ins l (node_of c.args.item 0 c.start.result)) c.requires.empty
+    ∙ ap (λ o. fold ins [] (node_of c.args.item 0 o)) start ∙
     level-unreached (w.labelling s) test (w.good s) (w.value_at s) c.args.stock.now.kept c.args.item
-    (ended-least (w.labelling s) test (w.value_at s) (w.sound s) c.args.item c.args.least c.in-Some.reach c.args.stock.now.kept c.requires.sound c.requires.least high none)
+    (ended-least (w.labelling s) test (w.value_at s) (w.sound s) c.args.item c.args.least c.in-Some.reach c.args.stock.now.kept
+    c.requires.sound c.requires.least high none)

@@ -16,7 +16,8 @@ loop-place-preserved g c =
     let below : c.loop-place.place - 1 < length xs = omega arith in
     let same : c.loop-place.place ≡ (c.loop-place.place - 1) + 1 = omega arith in
     let P : ℕ → Type 0 = λ n. made ≡ take n xs ++ filter p (drop n xs) in
-    let so_far : made ≡ take ((c.loop-place.place - 1) + 1) xs ++ filter p (drop ((c.loop-place.place - 1) + 1) xs) = subst P same c.loop-place.invariant.made in
+    let so_far : made ≡ take ((c.loop-place.place - 1) + 1) xs ++ filter p (drop ((c.loop-place.place - 1) + 1) xs) =
+    subst P same c.loop-place.invariant.made in
     record {
       within = omega arith;
       kept = c.take_beaten.ensures.kept ∙ c.loop-place.invariant.kept;
@@ -34,5 +35,6 @@ take_beaten-requires g c =
     let below : c.loop-place.place - 1 < length xs = omega arith in
     let same : c.loop-place.place ≡ (c.loop-place.place - 1) + 1 = omega arith in
     let P : ℕ → Type 0 = λ n. made ≡ take n xs ++ filter p (drop n xs) in
-    let so_far : made ≡ take ((c.loop-place.place - 1) + 1) xs ++ filter p (drop ((c.loop-place.place - 1) + 1) xs) = subst P same c.loop-place.invariant.made in
+    let so_far : made ≡ take ((c.loop-place.place - 1) + 1) xs ++ filter p (drop ((c.loop-place.place - 1) + 1) xs) =
+    subst P same c.loop-place.invariant.made in
     out-within p xs made (c.loop-place.place - 1) below so_far

@@ -8,7 +8,8 @@ abbrev pub invariant-loop-place : goal.invariant-loop-place
 invariant-loop-place g l = record {
   within : l.place ≤ length l.fn.stock.made;
   kept : l.stock.kept ≡ l.fn.stock.kept;
-  made : l.stock.made ≡ take l.place l.fn.stock.made ++ filter (stays_beside (g.W.Labels.good l.labels) (g.W.Labels.value_at l.labels) l.label) (drop l.place l.fn.stock.made);
+  made : l.stock.made ≡ take l.place l.fn.stock.made
+      ++ filter (stays_beside (g.W.Labels.good l.labels) (g.W.Labels.value_at l.labels) l.label) (drop l.place l.fn.stock.made);
 }
 
 abbrev pub decreases-loop-place : goal.decreases-loop-place

@@ -18,22 +18,26 @@ abbrev key_of : Column → ℤ → ℕ → Key
 key_of c v place = record { class = c.class; value = v; place = place }
 
 pub bounds-pool-place : goal.bounds-pool-place
-bounds-pool-place c = AllBelow-get (length c.args.pool.now) c.args.places.now c.loop-place.place-index c.requires.places c.loop-place-test.true
+bounds-pool-place c = AllBelow-get (length c.args.pool.now) c.args.places.now c.loop-place.place-index
+    c.requires.places c.loop-place-test.true
 
 pub value-value-requires-clause-rises : goal.value-value-requires-clause-rises
 value-value-requires-clause-rises c =
     let there = AllBelow-get (length c.args.pool.now) c.args.places.now c.loop-place.place-index c.requires.places c.loop-place-test.true in
-    (fit-at (length c.args.prices.now.items) 32 c.args.pool.now (get_or c.args.places.now c.loop-place.place-index 0) c.index-pool-place.result there c.index-pool-place.is c.requires.fit).rises
+    (fit-at (length c.args.prices.now.items) 32 c.args.pool.now (get_or c.args.places.now c.loop-place.place-index 0)
+    c.index-pool-place.result there c.index-pool-place.is c.requires.fit).rises
 
 pub value-value-requires-clause-items : goal.value-value-requires-clause-items
 value-value-requires-clause-items c =
     let there = AllBelow-get (length c.args.pool.now) c.args.places.now c.loop-place.place-index c.requires.places c.loop-place-test.true in
-    (fit-at (length c.args.prices.now.items) 32 c.args.pool.now (get_or c.args.places.now c.loop-place.place-index 0) c.index-pool-place.result there c.index-pool-place.is c.requires.fit).items
+    (fit-at (length c.args.prices.now.items) 32 c.args.pool.now (get_or c.args.places.now c.loop-place.place-index 0)
+    c.index-pool-place.result there c.index-pool-place.is c.requires.fit).items
 
 pub value-value-requires-clause-cheap : goal.value-value-requires-clause-cheap
 value-value-requires-clause-cheap c =
     let there = AllBelow-get (length c.args.pool.now) c.args.places.now c.loop-place.place-index c.requires.places c.loop-place-test.true in
-    (fit-at (length c.args.prices.now.items) 32 c.args.pool.now (get_or c.args.places.now c.loop-place.place-index 0) c.index-pool-place.result there c.index-pool-place.is c.requires.fit).cheap
+    (fit-at (length c.args.prices.now.items) 32 c.args.pool.now (get_or c.args.places.now c.loop-place.place-index 0)
+    c.index-pool-place.result there c.index-pool-place.is c.requires.fit).cheap
 
 pub loop-place-preserved : goal.loop-place-preserved
 loop-place-preserved c =
@@ -52,13 +56,18 @@ loop-place-preserved c =
           let below : value prices column <ℤ pos 0 = subst (λ v. v <ℤ pos 0) c.value-value.ensures negative in
           let fits : FitsSigned w64 c.value-value.result = search rules in
           let pushed : w.push.new.self.items ≡ c.loop-place.keys.items ++ key_of column (value prices column) (get_or places i 0) ∷ [] =
-          subst (λ v. w.push.new.self.items ≡ c.loop-place.keys.items ++ key_of column v (get_or places i 0) ∷ []) (to_z-of_z w64 c.value-value.result fits ∙ c.value-value.ensures) w.in-Ok.ensures.items in
+          subst (λ v. w.push.new.self.items ≡ c.loop-place.keys.items ++ key_of column v (get_or places i 0) ∷ [])
+          (to_z-of_z w64 c.value-value.result fits ∙ c.value-value.ensures) w.in-Ok.ensures.items in
           subst (λ (v : Keys). gains_at prices pool places ≡ v.items ++ gains_at prices pool (drop (i + 1) places)) (sym w.keys-is)
-          (gains-taken prices pool places i column (gains_at prices pool places) c.loop-place.keys.items w.push.new.self.items c.loop-place-test.true at below pushed c.loop-place.invariant)
+          (gains-taken prices pool places i column (gains_at prices pool places) c.loop-place.keys.items w.push.new.self.items
+          c.loop-place-test.true at below pushed c.loop-place.invariant)
       | else-value-lt0 w ↦
           let test = w.if-value-lt0.false in
           let size = c.value-value.type_inv in
-          let above : value prices column <ℤ pos 0 → ⊥ = λ b. (let negative : c.value-value.result <ℤ pos 0 = subst (λ v. v <ℤ pos 0) (sym c.value-value.ensures) b in absurd (omega (arith, ints))) in
+          let above : value prices column <ℤ pos 0 → ⊥ =
+          λ b. (let negative : c.value-value.result <ℤ pos 0 = subst (λ v. v <ℤ pos 0) (sym c.value-value.ensures) b in
+          absurd (omega (arith, ints))) in
           subst (λ (v : Keys). gains_at prices pool places ≡ v.items ++ gains_at prices pool (drop (i + 1) places)) (sym w.keys-is)
-          (gains-left prices pool places i column (gains_at prices pool places) c.loop-place.keys.items c.loop-place-test.true at above c.loop-place.invariant)
+          (gains-left prices pool places i column (gains_at prices pool places) c.loop-place.keys.items c.loop-place-test.true at above
+          c.loop-place.invariant)
     ]

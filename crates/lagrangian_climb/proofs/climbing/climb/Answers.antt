@@ -7,9 +7,11 @@ pub turn-requires-clause-playing : goal.turn-requires-clause-playing
 turn-requires-clause-playing c =
     let pool = c.args.pool.now in
     let start : 0 + length pool ≤ length pool = omega arith in
-    subst (AllBelow (length pool)) (sym (c.as_slice-places.ensures ∙ c.in_ok-playing.ensures)) (playing-below c.as_slice.result.now c.as_slice-2.result.now (length pool) 0 pool start)
+    subst (AllBelow (length pool)) (sym (c.as_slice-places.ensures ∙ c.in_ok-playing.ensures))
+    (playing-below c.as_slice.result.now c.as_slice-2.result.now (length pool) 0 pool start)
 
 pub turn-requires-clause-count : goal.turn-requires-clause-count
 turn-requires-clause-count c =
     let pool = c.args.pool.now in
-    subst (λ (l : List ℕ). length l ≤ length pool) (sym (c.as_slice-places.ensures ∙ c.in_ok-playing.ensures)) (playing-few c.as_slice.result.now c.as_slice-2.result.now 0 pool)
+    subst (λ (l : List ℕ). length l ≤ length pool) (sym (c.as_slice-places.ensures ∙ c.in_ok-playing.ensures))
+    (playing-few c.as_slice.result.now c.as_slice-2.result.now 0 pool)

@@ -7,7 +7,8 @@ use Rattle.lagrangian_climb.proofs.covers.add_items.Goals as goal
 pub bounds-as_slice-item : goal.bounds-as_slice-item
 bounds-as_slice-item c =
     let item = get_or c.args.list.now c.loop-item.item-index 0 in
-    let below : item < length c.args.cover.now = AllBelow-get _ c.args.list.now c.loop-item.item-index c.requires.items c.loop-item-test.true in
+    let below : item < length c.args.cover.now =
+    AllBelow-get _ c.args.list.now c.loop-item.item-index c.requires.items c.loop-item-test.true in
     let same = ap (λ (l : List ℕ). length l) c.as_slice.ensures in
     omega (arith, c.loop-item.invariant.len)
 
@@ -22,7 +23,8 @@ overflow_add-count c =
 pub set-requires : goal.set-requires
 set-requires c =
     let item = get_or c.args.list.now c.loop-item.item-index 0 in
-    let below : item < length c.args.cover.now = AllBelow-get _ c.args.list.now c.loop-item.item-index c.requires.items c.loop-item-test.true in
+    let below : item < length c.args.cover.now =
+    AllBelow-get _ c.args.list.now c.loop-item.item-index c.requires.items c.loop-item-test.true in
     omega (arith, c.loop-item.invariant.len)
 
 pub loop-item-preserved : goal.loop-item-preserved
@@ -36,5 +38,7 @@ loop-item-preserved c =
     let is : v ≡ get_or cover item 0 = ap (λ (l : List ℕ). get_or l item 0) c.as_slice.ensures in
     record {
       len = ap (λ (l : List ℕ). length l) c.set.ensures ∙ (length-set cover item (v + 1) ∙ c.loop-item.invariant.len);
-      added = λ i. ap (λ (l : List ℕ). get_or l i 0) c.set.ensures ∙ added-more c.args.cover.now cover list c.loop-item.item-index v i c.loop-item-test.true inside is (c.loop-item.invariant.added i);
+      added = λ i. ap (λ (l : List ℕ). get_or l i 0) c.set.ensures
+          ∙ added-more c.args.cover.now cover list c.loop-item.item-index v i c.loop-item-test.true inside is
+          (c.loop-item.invariant.added i);
     }

@@ -13,8 +13,11 @@ returns-clause-value c =
     let direction : to_z w64 (of_z w64 c.args.direction) ≡ c.args.direction = to_z-of_z c.ranges.direction in
     let step_low = c.step.ensures.low in
     let step_high = c.step.ensures.high in
-    let sum : to_z w64 (of_z w64 (to_z w64 (of_z w64 c.args.price) +ℤ to_z w64 (of_z w64 c.step.result))) ≡ c.args.price +ℤ c.step.result = omega (arith, ints) in
+    let sum : to_z w64 (of_z w64 (to_z w64 (of_z w64 c.args.price) +ℤ to_z w64 (of_z w64 c.step.result))) ≡ c.args.price +ℤ c.step.result =
+    omega (arith, ints) in
     let step : c.step.result ≡ int_div (c.args.unit *ℤ c.args.direction) (pos 1024) =
-    c.step.ensures.value ∙ (ap (λ (z : ℤ). int_div (z *ℤ to_z w64 (of_z w64 c.args.direction)) (pos 1024)) unit ∙ ap (λ (z : ℤ). int_div (c.args.unit *ℤ z) (pos 1024)) direction) in
-    let all : to_z w64 (of_z w64 (to_z w64 (of_z w64 c.args.price) +ℤ to_z w64 (of_z w64 c.step.result))) ≡ c.args.price +ℤ int_div (c.args.unit *ℤ c.args.direction) (pos 1024) = sum ∙ ap (λ (z : ℤ). c.args.price +ℤ z) step in
+    c.step.ensures.value ∙ (ap (λ (z : ℤ). int_div (z *ℤ to_z w64 (of_z w64 c.args.direction)) (pos 1024)) unit
+    ∙ ap (λ (z : ℤ). int_div (c.args.unit *ℤ z) (pos 1024)) direction) in
+    let all : to_z w64 (of_z w64 (to_z w64 (of_z w64 c.args.price) +ℤ to_z w64 (of_z w64 c.step.result))) ≡ c.args.price
+    +ℤ int_div (c.args.unit *ℤ c.args.direction) (pos 1024) = sum ∙ ap (λ (z : ℤ). c.args.price +ℤ z) step in
     to_z-of_z fits ∙ (c.keep.ensures.value ∙ kept-same _ _ _ _ _ _ low high all)

@@ -18,7 +18,8 @@ loop-item-preserved c =
     let square = c.square-sum.ensures.high in
     record {
       order = omega arith;
-      len = ap (λ (l : List ℤ). length l) pushed ∙ (omega (arith, length-append c.loop-item.directions (z ∷ []), c.loop-item.invariant.len));
+      len = ap (λ (l : List ℤ). length l) pushed
+          ∙ (omega (arith, length-append c.loop-item.directions (z ∷ []), c.loop-item.invariant.len));
       near = subst P (sym pushed) (near-push 1600000 c.loop-item.directions z c.loop-item.invariant.near within);
       square = omega (arith, c.loop-item.invariant.square);
     }

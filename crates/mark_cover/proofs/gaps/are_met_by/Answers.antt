@@ -9,14 +9,16 @@ pub next-requires-clause-class : goal.next-requires-clause-class
 next-requires-clause-class g c =
     let below = c.loop-place-test.true in
     let within = c.place_of-end.ensures.within in
-    let at = slice_get_read c.args.marks.now (length c.args.marks.now) c.loop-place.place c.index-marks-place.result refl (omega arith) c.index-marks-place.is in
+    let at = slice_get_read c.args.marks.now (length c.args.marks.now) c.loop-place.place c.index-marks-place.result refl
+    (omega arith) c.index-marks-place.is in
     (c.requires.there c.loop-place.place c.index-marks-place.result at).0
 
 pub next-requires-clause-last : goal.next-requires-clause-last
 next-requires-clause-last g c =
     let below = c.loop-place-test.true in
     let within = c.place_of-end.ensures.within in
-    let at = slice_get_read c.args.marks.now (length c.args.marks.now) c.loop-place.place c.index-marks-place.result refl (omega arith) c.index-marks-place.is in
+    let at = slice_get_read c.args.marks.now (length c.args.marks.now) c.loop-place.place c.index-marks-place.result refl
+    (omega arith) c.index-marks-place.is in
     (c.requires.there c.loop-place.place c.index-marks-place.result at).1
 
 pub loop-place-init : goal.loop-place-init
@@ -32,7 +34,8 @@ loop-place-preserved g c =
     let a = c.index-marks-place.result in
     let at = slice_get_read c.args.marks.now (length c.args.marks.now) c.loop-place.place a refl (omega arith) c.index-marks-place.is in
     let P : ℕ → Type 0 = λ n. AreEarly m c.args.marks.now c.args.class n c.place_of-end.result in
-    let class = between-class m c.args.marks.now c.args.class c.args.item c.place_of-from.result c.place_of-end.result c.place_of-from.ensures.late (subst P c.from-key.ensures c.place_of-end.ensures.early) c.loop-place.place a at (omega arith) below in
+    let class = between-class m c.args.marks.now c.args.class c.args.item c.place_of-from.result c.place_of-end.result
+    c.place_of-from.ensures.late (subst P c.from-key.ensures c.place_of-end.ensures.early) c.loop-place.place a at (omega arith) below in
     let passes = rw c.next.ensures at c.in-Some.ensures in
     let here = cell-passes m c.group-cell.result.now c.args.marks.now c.args.class c.args.item (m.extend a c.args.item)
     (λ b is. let step = (laws.placed c.args.m.now).steps a b c.args.item is in (step.2 ∙ class, step.3)) c.group-cell.ensures passes in
@@ -44,6 +47,7 @@ returns g c = λ is.
     let m = g.M.Marks.marking c.args.m.now in
     let past = c.loop-place-test.false in
     let Q : ℕ → Type 0 = λ n. AreLate m c.args.marks.now c.args.class n c.place_of-end.result in
-    let sources = sources-between m c.args.marks.now c.args.class c.args.item c.place_of-from.result c.place_of-end.result c.place_of-from.ensures.early (subst Q c.from-key.ensures c.place_of-end.ensures.late) in
+    let sources = sources-between m c.args.marks.now c.args.class c.args.item c.place_of-from.result c.place_of-end.result
+    c.place_of-from.ensures.early (subst Q c.from-key.ensures c.place_of-end.ensures.late) in
     met-by m c.args.marks.now c.args.class c.args.item c.place_of-from.result c.place_of-end.result (laws.placed c.args.m.now) sources
     (λ k a low below at. c.loop-place.invariant k a low (omega (arith, below, past)) at)

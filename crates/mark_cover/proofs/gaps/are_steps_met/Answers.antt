@@ -4,7 +4,8 @@ use Rattle.mark_cover.proofs.gaps.are_steps_met.Goals as goal
 
 pub loop-class-preserved : goal.loop-class-preserved
 loop-class-preserved g c =
-    classes-more (g.M.Marks.marking c.args.m.now) c.args.marks.now c.loop-class.class (c.are_met_in_class.ensures c.if-not-are_met_in_class.false) c.loop-class.invariant
+    classes-more (g.M.Marks.marking c.args.m.now) c.args.marks.now c.loop-class.class
+    (c.are_met_in_class.ensures c.if-not-are_met_in_class.false) c.loop-class.invariant
 
 pub returns : goal.returns
 returns g c = λ is k a at j below.

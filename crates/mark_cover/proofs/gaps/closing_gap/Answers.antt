@@ -7,20 +7,23 @@ use Rattle.mark_cover.proofs.gaps.closing_gap.Goals as goal
 pub closes_low-requires-clause-last : goal.closes_low-requires-clause-last
 closes_low-requires-clause-last g c =
     let below = c.loop-place-test.true in
-    let at = slice_get_read c.args.marks.now (length c.args.marks.now) c.loop-place.place c.index-marks-place.result refl (omega arith) c.index-marks-place.is in
+    let at = slice_get_read c.args.marks.now (length c.args.marks.now) c.loop-place.place c.index-marks-place.result refl
+    (omega arith) c.index-marks-place.is in
     (c.requires.there c.loop-place.place c.index-marks-place.result at).1
 
 pub returns-then-closes_low : goal.returns-then-closes_low
 returns-then-closes_low g c =
     let below = c.loop-place-test.true in
-    let at = slice_get_read c.args.marks.now (length c.args.marks.now) c.loop-place.place c.index-marks-place.result refl (omega arith) c.index-marks-place.is in
+    let at = slice_get_read c.args.marks.now (length c.args.marks.now) c.loop-place.place c.index-marks-place.result refl
+    (omega arith) c.index-marks-place.is in
     ((c.index-marks-place.result, at, sym c.closes_low.ensures ∙ c.if-closes_low.true), c.loop-place.invariant)
 
 pub loop-place-preserved : goal.loop-place-preserved
 loop-place-preserved g c =
     let below = c.loop-place-test.true in
     let m = g.M.Marks.marking c.args.m.now in
-    let at = slice_get_read c.args.marks.now (length c.args.marks.now) c.loop-place.place c.index-marks-place.result refl (omega arith) c.index-marks-place.is in
+    let at = slice_get_read c.args.marks.now (length c.args.marks.now) c.loop-place.place c.index-marks-place.result refl
+    (omega arith) c.index-marks-place.is in
     more (λ a. is_low m c.args.class_prices.now a ≡ false) c.args.marks.now c.loop-place.place c.index-marks-place.result at
     (sym c.closes_low.ensures ∙ c.if-closes_low.false) c.loop-place.invariant
 

@@ -7,13 +7,15 @@ use Rattle.mark_cover.proofs.gaps.first_step_gap.Goals as goal
 pub mark_gap-requires-clause-last : goal.mark_gap-requires-clause-last
 mark_gap-requires-clause-last g c =
     let below = c.loop-place-test.true in
-    let at = slice_get_read c.args.marks.now (length c.args.marks.now) c.loop-place.place c.index-marks-place.result refl (omega arith) c.index-marks-place.is in
+    let at = slice_get_read c.args.marks.now (length c.args.marks.now) c.loop-place.place c.index-marks-place.result refl
+    (omega arith) c.index-marks-place.is in
     (c.requires.there c.loop-place.place c.index-marks-place.result at).1
 
 pub returns-in-Some : goal.returns-in-Some
 returns-in-Some g c =
     let below = c.loop-place-test.true in
-    let at = slice_get_read c.args.marks.now (length c.args.marks.now) c.loop-place.place c.index-marks-place.result refl (omega arith) c.index-marks-place.is in
+    let at = slice_get_read c.args.marks.now (length c.args.marks.now) c.loop-place.place c.index-marks-place.result refl
+    (omega arith) c.index-marks-place.is in
     let found = c.in-Some.ensures in
     ((c.index-marks-place.result, at, found.1, found.2), c.loop-place.invariant)
 
@@ -21,8 +23,10 @@ pub loop-place-preserved : goal.loop-place-preserved
 loop-place-preserved g c =
     let below = c.loop-place-test.true in
     let m = g.M.Marks.marking c.args.m.now in
-    let at = slice_get_read c.args.marks.now (length c.args.marks.now) c.loop-place.place c.index-marks-place.result refl (omega arith) c.index-marks-place.is in
-    more (λ a. (j : ℕ) → j < m.items → is_unmet m c.args.marks.now (m.extend a j) ≡ false) c.args.marks.now c.loop-place.place c.index-marks-place.result at
+    let at = slice_get_read c.args.marks.now (length c.args.marks.now) c.loop-place.place c.index-marks-place.result refl
+    (omega arith) c.index-marks-place.is in
+    more (λ a. (j : ℕ) → j < m.items → is_unmet m c.args.marks.now (m.extend a j) ≡ false) c.args.marks.now c.loop-place.place
+    c.index-marks-place.result at
     c.in_default.ensures c.loop-place.invariant
 
 pub returns : goal.returns

@@ -8,7 +8,8 @@ make_level-requires-clause-given g c =
     let below = c.loop-item-test.true in
     let count = c.items-item-end.ensures in
     rw c.as_slice.ensures.value
-    (class-given m (g.M.OpenLists.sound c.args.m.now) c.args.class c.loop-item.item c.loop-item.kept.items (g.met.M.OpenLists.safe c.args.m.now) c.requires (omega arith) c.loop-item.invariant.kept)
+    (class-given m (g.M.OpenLists.sound c.args.m.now) c.args.class c.loop-item.item c.loop-item.kept.items
+    (g.met.M.OpenLists.safe c.args.m.now) c.requires (omega arith) c.loop-item.invariant.kept)
 
 pub loop-item-preserved : goal.loop-item-preserved
 loop-item-preserved g c =
@@ -21,6 +22,7 @@ loop-item-preserved g c =
     let inserted = rw c.as_slice.ensures.value at c.in_ok-make_level.ensures in
     let level = level-is m c.args.class c.loop-item.item old new placed c.requires c.loop-item.invariant.kept inserted in
     record {
-      kept = rw c.in_ok-keep.ensures.kept (class-step m c.args.class c.loop-item.item old new ordered placed c.loop-item.invariant.kept level);
+      kept = rw c.in_ok-keep.ensures.kept
+          (class-step m c.args.class c.loop-item.item old new ordered placed c.loop-item.invariant.kept level);
       empty = c.in_ok-keep.ensures.empty;
     }

@@ -7,7 +7,9 @@ pub loop-class-preserved : goal.loop-class-preserved
 loop-class-preserved g c =
     let laws = g.met.M.Marks in
     let m = g.M.Marks.marking c.args.m.now in
-    rw c.in_ok-keep.ensures.kept (below-step m c.loop-class.class c.loop-class.all.items c.in_ok-marks.marks.items (laws.ordered c.args.m.now) (laws.placed c.args.m.now) c.loop-class.invariant c.in_ok-marks.ensures)
+    rw c.in_ok-keep.ensures.kept
+    (below-step m c.loop-class.class c.loop-class.all.items c.in_ok-marks.marks.items (laws.ordered c.args.m.now) (laws.placed c.args.m.now)
+    c.loop-class.invariant c.in_ok-marks.ensures)
 
 pub returns : goal.returns
 returns g c =

@@ -33,7 +33,8 @@ loop-class-preserved c =
     let old : Estimate = c.loop-class.best in
     let before : List Estimate = guesses sum least worths caps k in
     let least_fits : FitsSigned w64 c.least_at-value.result = search rules in
-    let least_is : to_z w64 (of_z w64 c.least_at-value.result) ≡ number_at least k = to_z-of_z least_fits ∙ c.least_at-value.ensures.value in
+    let least_is : to_z w64 (of_z w64 c.least_at-value.result) ≡ number_at least k =
+    to_z-of_z least_fits ∙ c.least_at-value.ensures.value in
     let S : Estimate → Type 0 = λ e. IsScale e.scale in
     elim c.if-value-lt0.branch [
       | then-value-lt0 w ↦
@@ -41,7 +42,8 @@ loop-class-preserved c =
           let worth_fits : FitsSigned w64 w.worth_at.result = search rules in
           let worth_is : to_z w64 (of_z w64 w.worth_at.result) ≡ number_at worths k = to_z-of_z worth_fits ∙ w.worth_at.ensures.value in
           let scale : w.proposal-scale.result ≡ proposed (number_at least k) (number_at worths k) =
-          w.proposal-scale.ensures.value ∙ ap (λ (z : ℤ). proposed z (to_z w64 (of_z w64 w.worth_at.result))) least_is ∙ ap (λ (z : ℤ). proposed (number_at least k) z) worth_is in
+          w.proposal-scale.ensures.value ∙ ap (λ (z : ℤ). proposed z (to_z w64 (of_z w64 w.worth_at.result))) least_is
+          ∙ ap (λ (z : ℤ). proposed (number_at least k) z) worth_is in
           let some = w.proposal-scale.ensures.scale.some in
           let ordered = w.proposal-scale.ensures.scale.ordered in
           let part_high = w.proposal-scale.ensures.scale.part in
@@ -49,14 +51,18 @@ loop-class-preserved c =
           let part_is : to_z w64 (of_z w64 w.proposal-scale.result.part) ≡ w.proposal-scale.result.part = omega (arith, ints) in
           let whole_is : to_z w64 (of_z w64 w.proposal-scale.result.whole) ≡ w.proposal-scale.result.whole = omega (arith, ints) in
           let guess_fits : FitsSigned w128 w.guess-bound.result = search rules in
-          let guess_is : to_z w128 (of_z w128 w.guess-bound.result) ≡ estimate_of sum least worths caps w.proposal-scale.result.part w.proposal-scale.result.whole =
-          to_z-of_z guess_fits ∙ w.guess-bound.ensures.value ∙ ap (λ (z : ℤ). estimate_of sum least worths caps z (to_z w64 (of_z w64 w.proposal-scale.result.whole))) part_is ∙
+          let guess_is : to_z w128 (of_z w128 w.guess-bound.result) ≡ estimate_of sum least worths caps w.proposal-scale.result.part
+          w.proposal-scale.result.whole =
+          to_z-of_z guess_fits ∙ w.guess-bound.ensures.value
+          ∙ ap (λ (z : ℤ). estimate_of sum least worths caps z (to_z w64 (of_z w64 w.proposal-scale.result.whole))) part_is ∙
           ap (λ (z : ℤ). estimate_of sum least worths caps w.proposal-scale.result.part z) whole_is in
           let new : Estimate = record { scale = w.proposal-scale.result; bound = to_z w128 (of_z w128 w.guess-bound.result) } in
           let mk : ℤ → Estimate = λ z. record { scale = w.proposal-scale.result; bound = z } in
           let new_is : new ≡ guess_at sum least worths caps (proposed (number_at least k) (number_at worths k)) =
           ap mk guess_is ∙ ap (λ (s : Scale). guess_at sum least worths caps s) scale in
-          let best : IsFirstGreatest (before ++ new ∷ []) w.better-best.result = first-better before old new w.better-best.result w.better-best.ensures.greater w.better-best.ensures.no_greater c.loop-class.invariant.best in
+          let best : IsFirstGreatest (before ++ new ∷ []) w.better-best.result =
+          first-better before old new w.better-best.result w.better-best.ensures.greater w.better-best.ensures.no_greater
+          c.loop-class.invariant.best in
           let all : before ++ new ∷ [] ≡ guesses sum least worths caps (k + 1) =
           ap (λ (e : Estimate). before ++ e ∷ []) new_is ∙ sym (guesses-some sum least worths caps k test) in
           let P : List Estimate → Type 0 = λ l. IsFirstGreatest l w.better-best.result in

@@ -53,9 +53,13 @@ loop-class-preserved c =
     let least_is : to_z w64 (of_z w64 c.least_at.result) ≡ number_at least k = to_z-of_z least_fits ∙ c.least_at.ensures.value in
     let worth_is : to_z w64 (of_z w64 c.worth_at.result) ≡ number_at worths k = to_z-of_z worth_fits ∙ c.worth_at.ensures.value in
     let value_is : value ≡ scaled_least part whole (number_at least k) (number_at worths k) =
-    to_z-of_z value_fits ∙ c.scaled_value-value.ensures.value ∙ ap (λ (z : ℤ). scaled_least part whole z (to_z w64 (of_z w64 c.worth_at.result))) least_is ∙ ap (λ (z : ℤ). scaled_least part whole (number_at least k) z) worth_is in
-    let loss_is : to_z w128 (of_z w128 c.loss-guess.result) ≡ pos (slice_index caps k) *ℤ scaled_least part whole (number_at least k) (number_at worths k) =
-    to_z-of_z loss_fits ∙ c.loss-guess.ensures.value ∙ ap (λ (n : ℕ). pos n *ℤ value) c.cap_at.ensures.value ∙ ap (λ (z : ℤ). pos (slice_index caps k) *ℤ z) value_is in
+    to_z-of_z value_fits ∙ c.scaled_value-value.ensures.value
+    ∙ ap (λ (z : ℤ). scaled_least part whole z (to_z w64 (of_z w64 c.worth_at.result))) least_is
+    ∙ ap (λ (z : ℤ). scaled_least part whole (number_at least k) z) worth_is in
+    let loss_is : to_z w128 (of_z w128 c.loss-guess.result)
+    ≡ pos (slice_index caps k) *ℤ scaled_least part whole (number_at least k) (number_at worths k) =
+    to_z-of_z loss_fits ∙ c.loss-guess.ensures.value ∙ ap (λ (n : ℕ). pos n *ℤ value) c.cap_at.ensures.value
+    ∙ ap (λ (z : ℤ). pos (slice_index caps k) *ℤ z) value_is in
     let same = c.loop-class.guess-is in
     let low = c.loop-class.invariant.low in
     let high = c.loop-class.invariant.high in
@@ -64,10 +68,13 @@ loop-class-preserved c =
     let few = c.requires.classes in
     let test = c.loop-class-test.true in
     let more = leasts-more part whole least worths caps k in
-    let new : to_z w128 (of_z w128 (to_z w128 c.loop-class.guess-bits +ℤ to_z w128 (of_z w128 c.loss-guess.result))) ≡ to_z w128 c.loop-class.guess-bits +ℤ to_z w128 (of_z w128 c.loss-guess.result) = omega (arith, ints) in
+    let new : to_z w128 (of_z w128 (to_z w128 c.loop-class.guess-bits +ℤ to_z w128 (of_z w128 c.loss-guess.result)))
+    ≡ to_z w128 c.loop-class.guess-bits +ℤ to_z w128 (of_z w128 c.loss-guess.result) = omega (arith, ints) in
     record {
       order = omega arith;
-      is = sum-more (to_z w128 c.loop-class.guess-bits) (to_z w128 (of_z w128 c.loss-guess.result)) _ (int_div (sum *ℤ part) whole) (scaled_leasts part whole least worths caps k) (scaled_leasts part whole least worths caps (k + 1)) _ c.loop-class.invariant.is more loss_is new;
+      is = sum-more (to_z w128 c.loop-class.guess-bits) (to_z w128 (of_z w128 c.loss-guess.result)) _ (int_div (sum *ℤ part) whole)
+          (scaled_leasts part whole least worths caps k) (scaled_leasts part whole least worths caps (k + 1)) _ c.loop-class.invariant.is
+          more loss_is new;
       low = omega (arith, ints);
       high = omega (arith, ints);
     }

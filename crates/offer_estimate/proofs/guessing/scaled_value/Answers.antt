@@ -54,14 +54,19 @@ returns-then-value-lt0-clause-value c =
     let fits : FitsSigned w128 c.divided-value.result = search rules in
     let rest : to_z w128 (of_z w128 c.rest_of.result) ≡ whole -ℤ part = omega (arith, ints) in
     let left : c.left-rest.result ≡ (whole -ℤ part) *ℤ worth =
-    c.left-rest.ensures.value ∙ ap (λ (z : ℤ). z *ℤ to_z w64 (of_z w64 worth)) rest ∙ ap (λ (z : ℤ). (whole -ℤ part) *ℤ z) (to_z-of_z c.ranges.worth) in
+    c.left-rest.ensures.value ∙ ap (λ (z : ℤ). z *ℤ to_z w64 (of_z w64 worth)) rest
+    ∙ ap (λ (z : ℤ). (whole -ℤ part) *ℤ z) (to_z-of_z c.ranges.worth) in
     let paid : c.paid.result ≡ part *ℤ least =
-    c.paid.ensures.value ∙ ap (λ (z : ℤ). z *ℤ to_z w64 (of_z w64 least)) (to_z-of_z c.ranges.part) ∙ ap (λ (z : ℤ). part *ℤ z) (to_z-of_z c.ranges.least) in
-    let sum : to_z w128 (of_z w128 (to_z w128 (of_z w128 c.paid.result) +ℤ to_z w128 (of_z w128 c.left-rest.result))) ≡ c.paid.result +ℤ c.left-rest.result = omega (arith, ints) in
-    let both : to_z w128 (of_z w128 (to_z w128 (of_z w128 c.paid.result) +ℤ to_z w128 (of_z w128 c.left-rest.result))) ≡ (part *ℤ least) +ℤ ((whole -ℤ part) *ℤ worth) =
+    c.paid.ensures.value ∙ ap (λ (z : ℤ). z *ℤ to_z w64 (of_z w64 least)) (to_z-of_z c.ranges.part)
+    ∙ ap (λ (z : ℤ). part *ℤ z) (to_z-of_z c.ranges.least) in
+    let sum : to_z w128 (of_z w128 (to_z w128 (of_z w128 c.paid.result) +ℤ to_z w128 (of_z w128 c.left-rest.result))) ≡ c.paid.result
+    +ℤ c.left-rest.result = omega (arith, ints) in
+    let both : to_z w128 (of_z w128 (to_z w128 (of_z w128 c.paid.result) +ℤ to_z w128 (of_z w128 c.left-rest.result))) ≡ (part *ℤ least)
+    +ℤ ((whole -ℤ part) *ℤ worth) =
     sum ∙ ap (λ (z : ℤ). z +ℤ c.left-rest.result) paid ∙ ap (λ (z : ℤ). (part *ℤ least) +ℤ z) left in
     let shown : to_z w128 (of_z w128 c.divided-value.result) ≡ int_div ((part *ℤ least) +ℤ ((whole -ℤ part) *ℤ worth)) whole =
-    to_z-of_z fits ∙ c.divided-value.ensures.value ∙ ap (λ (z : ℤ). int_div z (to_z w64 (of_z w64 whole))) both ∙ ap (λ (z : ℤ). int_div ((part *ℤ least) +ℤ ((whole -ℤ part) *ℤ worth)) z) (to_z-of_z c.ranges.whole) in
+    to_z-of_z fits ∙ c.divided-value.ensures.value ∙ ap (λ (z : ℤ). int_div z (to_z w64 (of_z w64 whole))) both
+    ∙ ap (λ (z : ℤ). int_div ((part *ℤ least) +ℤ ((whole -ℤ part) *ℤ worth)) z) (to_z-of_z c.ranges.whole) in
     let test = c.if-value-lt0.true in
     let below : to_z w128 (of_z w128 c.divided-value.result) <ℤ pos 0 = omega (arith, ints) in
     kept-low _ _ shown below
@@ -85,14 +90,19 @@ returns-else-value-lt0-clause-value c =
     let fits : FitsSigned w128 c.divided-value.result = search rules in
     let rest : to_z w128 (of_z w128 c.rest_of.result) ≡ whole -ℤ part = omega (arith, ints) in
     let left : c.left-rest.result ≡ (whole -ℤ part) *ℤ worth =
-    c.left-rest.ensures.value ∙ ap (λ (z : ℤ). z *ℤ to_z w64 (of_z w64 worth)) rest ∙ ap (λ (z : ℤ). (whole -ℤ part) *ℤ z) (to_z-of_z c.ranges.worth) in
+    c.left-rest.ensures.value ∙ ap (λ (z : ℤ). z *ℤ to_z w64 (of_z w64 worth)) rest
+    ∙ ap (λ (z : ℤ). (whole -ℤ part) *ℤ z) (to_z-of_z c.ranges.worth) in
     let paid : c.paid.result ≡ part *ℤ least =
-    c.paid.ensures.value ∙ ap (λ (z : ℤ). z *ℤ to_z w64 (of_z w64 least)) (to_z-of_z c.ranges.part) ∙ ap (λ (z : ℤ). part *ℤ z) (to_z-of_z c.ranges.least) in
-    let sum : to_z w128 (of_z w128 (to_z w128 (of_z w128 c.paid.result) +ℤ to_z w128 (of_z w128 c.left-rest.result))) ≡ c.paid.result +ℤ c.left-rest.result = omega (arith, ints) in
-    let both : to_z w128 (of_z w128 (to_z w128 (of_z w128 c.paid.result) +ℤ to_z w128 (of_z w128 c.left-rest.result))) ≡ (part *ℤ least) +ℤ ((whole -ℤ part) *ℤ worth) =
+    c.paid.ensures.value ∙ ap (λ (z : ℤ). z *ℤ to_z w64 (of_z w64 least)) (to_z-of_z c.ranges.part)
+    ∙ ap (λ (z : ℤ). part *ℤ z) (to_z-of_z c.ranges.least) in
+    let sum : to_z w128 (of_z w128 (to_z w128 (of_z w128 c.paid.result) +ℤ to_z w128 (of_z w128 c.left-rest.result))) ≡ c.paid.result
+    +ℤ c.left-rest.result = omega (arith, ints) in
+    let both : to_z w128 (of_z w128 (to_z w128 (of_z w128 c.paid.result) +ℤ to_z w128 (of_z w128 c.left-rest.result))) ≡ (part *ℤ least)
+    +ℤ ((whole -ℤ part) *ℤ worth) =
     sum ∙ ap (λ (z : ℤ). z +ℤ c.left-rest.result) paid ∙ ap (λ (z : ℤ). (part *ℤ least) +ℤ z) left in
     let shown : to_z w128 (of_z w128 c.divided-value.result) ≡ int_div ((part *ℤ least) +ℤ ((whole -ℤ part) *ℤ worth)) whole =
-    to_z-of_z fits ∙ c.divided-value.ensures.value ∙ ap (λ (z : ℤ). int_div z (to_z w64 (of_z w64 whole))) both ∙ ap (λ (z : ℤ). int_div ((part *ℤ least) +ℤ ((whole -ℤ part) *ℤ worth)) z) (to_z-of_z c.ranges.whole) in
+    to_z-of_z fits ∙ c.divided-value.ensures.value ∙ ap (λ (z : ℤ). int_div z (to_z w64 (of_z w64 whole))) both
+    ∙ ap (λ (z : ℤ). int_div ((part *ℤ least) +ℤ ((whole -ℤ part) *ℤ worth)) z) (to_z-of_z c.ranges.whole) in
     let test = c.if-value-lt0.false in
     let above : pos 0 ≤ℤ to_z w128 (of_z w128 c.divided-value.result) = omega (arith, ints) in
     kept-zero _ _ shown above

@@ -3,7 +3,9 @@ use Rattle.path_cover.specs.Augmenting.{IsFramed, IsWalkOf}
 use Rattle.path_cover.proofs.augment.augment.Given as goal
 
 abbrev pub invariant-loop-row : goal.invariant-loop-row
-invariant-loop-row g l = (l.row ≡ slice_index l.growth.via.items l.hole) × (l.n ≡ (g.A.Arcs.net l.arcs).nodes) × IsWalkOf (g.A.Arcs.net l.arcs) l.falls l.target l.growth l.placing l.hole × IsFramed (g.A.Arcs.net l.arcs).nodes l.target l.fn.placing.to.items l.placing.to.items
+invariant-loop-row g l = (l.row ≡ slice_index l.growth.via.items l.hole) × (l.n ≡ (g.A.Arcs.net l.arcs).nodes)
+    × IsWalkOf (g.A.Arcs.net l.arcs) l.falls l.target l.growth l.placing l.hole
+    × IsFramed (g.A.Arcs.net l.arcs).nodes l.target l.fn.placing.to.items l.placing.to.items
 
 -- the walk comes nearer to the root
 abbrev pub decreases-loop-row : goal.decreases-loop-row

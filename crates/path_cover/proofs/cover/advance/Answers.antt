@@ -28,7 +28,8 @@ place-requires-clause-seated g c =
     let t_in = c.requires.row in
     let v_is : v ≡ get_or old.to.items t 0 = c.index-v.ensures ∙ default_same old.to.items t v 0 (omega arith) in
     let there = c.requires.placed t t_in in
-    let out : IsTaken c.nodes-n.result 4294967295 t v old mid = (c.take_out.ensures.to, c.take_out.ensures.from, c.take_out.ensures.room, c.take_out.ensures.spare) in
+    let out : IsTaken c.nodes-n.result 4294967295 t v old mid =
+    (c.take_out.ensures.to, c.take_out.ensures.from, c.take_out.ensures.room, c.take_out.ensures.spare) in
     let out_net : IsTaken net.nodes 4294967295 t v old mid = subst (λ (k : ℕ). IsTaken k 4294967295 t v old mid) n_is out in
     (taken net.nodes 4294967295 t v m, freed net c.args.falls.now old mid 4294967295 t v m is (omega arith) t_in v_is (omega arith) out_net)
 
@@ -51,14 +52,18 @@ returns-clause-seated g c =
     let t_in = c.requires.row in
     let v_is : v ≡ get_or old.to.items t 0 = c.index-v.ensures ∙ default_same old.to.items t v 0 (omega arith) in
     let there = c.requires.placed t t_in in
-    let out : IsTaken c.nodes-n.result 4294967295 t v old mid = (c.take_out.ensures.to, c.take_out.ensures.from, c.take_out.ensures.room, c.take_out.ensures.spare) in
+    let out : IsTaken c.nodes-n.result 4294967295 t v old mid =
+    (c.take_out.ensures.to, c.take_out.ensures.from, c.take_out.ensures.room, c.take_out.ensures.spare) in
     let out_net : IsTaken net.nodes 4294967295 t v old mid = subst (λ (k : ℕ). IsTaken k 4294967295 t v old mid) n_is out in
-    let back : IsPlaced c.nodes-n.result t v c.place.new.placing new = (c.put_in.ensures.to, c.put_in.ensures.from, c.put_in.ensures.room, c.put_in.ensures.spare) in
-    let back_mid : IsPlaced c.nodes-n.result t v mid new = subst (λ (p : Placing). IsPlaced c.nodes-n.result t v p new) (c.place.ensures.kept c.if-place.false) back in
+    let back : IsPlaced c.nodes-n.result t v c.place.new.placing new =
+    (c.put_in.ensures.to, c.put_in.ensures.from, c.put_in.ensures.room, c.put_in.ensures.spare) in
+    let back_mid : IsPlaced c.nodes-n.result t v mid new =
+    subst (λ (p : Placing). IsPlaced c.nodes-n.result t v p new) (c.place.ensures.kept c.if-place.false) back in
     let back_net : IsPlaced net.nodes t v mid new = subst (λ (k : ℕ). IsPlaced k t v mid new) n_is back_mid in
     let same : c.place.new.falls ≡ c.args.falls.now = c.place.ensures.same (omega arith) in
     subst (λ (f : Falls). IsSeated net f new) (sym same)
-    (restored net (g.met.A.Arcs.rising c.args.arcs.now) c.args.falls.now old mid new 4294967295 t v m is (omega arith) t_in v_is (omega arith) out_net back_net)
+    (restored net (g.met.A.Arcs.rising c.args.arcs.now) c.args.falls.now old mid new 4294967295 t v m is (omega arith) t_in v_is
+    (omega arith) out_net back_net)
 
 pub returns-clause-first : goal.returns-clause-first
 returns-clause-first g c e lists cover slack agree =
@@ -73,15 +78,21 @@ returns-clause-first g c e lists cover slack agree =
     let count = is.kept.to_count in
     let t_in = c.requires.row in
     let v_is : v ≡ get_or old.to.items t 0 = c.index-v.ensures ∙ default_same old.to.items t v 0 (omega arith) in
-    let out : IsTaken c.nodes-n.result 4294967295 t v old mid = (c.take_out.ensures.to, c.take_out.ensures.from, c.take_out.ensures.room, c.take_out.ensures.spare) in
+    let out : IsTaken c.nodes-n.result 4294967295 t v old mid =
+    (c.take_out.ensures.to, c.take_out.ensures.from, c.take_out.ensures.room, c.take_out.ensures.spare) in
     let out_net : IsTaken net.nodes 4294967295 t v old mid = subst (λ (k : ℕ). IsTaken k 4294967295 t v old mid) n_is out in
-    let back : IsPlaced c.nodes-n.result t v c.place.new.placing new = (c.put_in.ensures.to, c.put_in.ensures.from, c.put_in.ensures.room, c.put_in.ensures.spare) in
+    let back : IsPlaced c.nodes-n.result t v c.place.new.placing new =
+    (c.put_in.ensures.to, c.put_in.ensures.from, c.put_in.ensures.room, c.put_in.ensures.spare) in
     let kept : c.place.new.placing ≡ mid = c.place.ensures.kept c.if-place.false in
     let back_mid : IsPlaced c.nodes-n.result t v mid new = subst (λ (p : Placing). IsPlaced c.nodes-n.result t v p new) kept back in
     let back_net : IsPlaced net.nodes t v mid new = subst (λ (k : ℕ). IsPlaced k t v mid new) n_is back_mid in
     let rows = restored_rows net old mid new 4294967295 t v count t_in v_is out_net back_net in
     let target : Target = record { root = t; limit = v; fixed = t + 1; level = 5000000000000000 } in
-    let later : v ≤ successor net.nodes lists t = stuck_first net (g.met.A.Arcs.rising c.args.arcs.now) c.place.new.falls c.place.new.placing target (c.place.ensures.stuck c.if-place.false) (omega arith) lists cover slack
-    (λ s below. agree s below ∙ (rows s ∙ (sym (freed_other net old mid 4294967295 t v s t_in (λ same. omega (arith, below)) out_net) ∙ sym (ap (λ (p : Placing). get_or p.to.items s 0) kept)))) in
+    let later : v ≤ successor net.nodes lists t =
+    stuck_first net (g.met.A.Arcs.rising c.args.arcs.now) c.place.new.falls c.place.new.placing target
+    (c.place.ensures.stuck c.if-place.false) (omega arith) lists cover slack
+    (λ s below. agree s below
+    ∙ (rows s ∙ (sym (freed_other net old mid 4294967295 t v s t_in (λ same. omega (arith, below)) out_net)
+    ∙ sym (ap (λ (p : Placing). get_or p.to.items s 0) kept)))) in
     let at = rows t in
     omega arith

@@ -6,8 +6,14 @@ pub loop-last-preserved : goal.loop-last-preserved
 loop-last-preserved c =
     let inv = c.loop-last.invariant.1 in
     let next = get_or c.args.to.now c.loop-last.last 0 in
-    let within : next < c.args.n = c.loop-last-test.true in
-    (within, (inv.0 ++ next ∷ [], c.in_ok-push-2.ensures.ok ∙ ap (λ (l : List ℕ). l ++ next ∷ []) inv.1, comes_on c.args.n (slice_index c.args.to.now) c.args.start inv.0 c.loop-last.last next inv.2 refl within))
+    let within : next < c.args.n = c.loop-last-test.true in (
+      within,
+      (
+        inv.0 ++ next ∷ [],
+        c.in_ok-push-2.ensures.ok ∙ ap (λ (l : List ℕ). l ++ next ∷ []) inv.1,
+        comes_on c.args.n (slice_index c.args.to.now) c.args.start inv.0 c.loop-last.last next inv.2 refl within,
+      ),
+    )
 
 pub returns : goal.returns
 returns c =

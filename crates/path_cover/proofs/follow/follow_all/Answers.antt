@@ -19,8 +19,10 @@ loop-u-preserved c =
       | then-from-u+in_ok-follow+in_ok-push w ↦
           let path = w.in_ok-follow.ensures in
           let is : from u ≡ n = w.if-from-u.true in
-          let lists : c.if-from-u.lists ≡ before ++ (u ∷ path.0) ∷ [] = w.lists-is ∙ (w.in_ok-push.ensures.ok ∙ ap (λ (l : List ℕ). before ++ l ∷ []) path.1) in
-          let firsts : first_nodes (before ++ (u ∷ path.0) ∷ []) ≡ starts n from (u + 1) = firsts_more before u path.0 ∙ (ap (λ (l : List ℕ). l ++ u ∷ []) inv.1 ∙ sym (starts_yes n from u is)) in
+          let lists : c.if-from-u.lists ≡ before ++ (u ∷ path.0) ∷ [] =
+          w.lists-is ∙ (w.in_ok-push.ensures.ok ∙ ap (λ (l : List ℕ). before ++ l ∷ []) path.1) in
+          let firsts : first_nodes (before ++ (u ∷ path.0) ∷ []) ≡ starts n from (u + 1) =
+          firsts_more before u path.0 ∙ (ap (λ (l : List ℕ). l ++ u ∷ []) inv.1 ∙ sym (starts_yes n from u is)) in
           subst P (sym lists) (follow_more n to before u path.0 inv.0 within path.2, firsts)
       | else-from-u w ↦
           let is_not : from u ≢ n = w.if-from-u.false in

@@ -14,12 +14,15 @@ place_all-requires-clause-seated g c =
     let placing = c.in_ok-placing.placing in
     let e = c.in_ok-placing.ensures in
     start_seated net falls placing c.most-most.result (omega arith) c.most-most.ensures.value c.most-most.ensures.few
-    (subst (λ (k : ℕ). falls.tails.items ≡ replicate (k + 1) 0) n_is c.in_ok-falls.ensures.tails) (subst (λ (k : ℕ). falls.heads.items ≡ replicate (k + 1) 0) n_is c.in_ok-falls.ensures.heads)
-    (subst (λ (k : ℕ). placing.to.items ≡ replicate k 4294967295) n_is e.to) (subst (λ (k : ℕ). placing.from.items ≡ replicate k 4294967295) n_is e.from) e.spare e.room
+    (subst (λ (k : ℕ). falls.tails.items ≡ replicate (k + 1) 0) n_is c.in_ok-falls.ensures.tails)
+    (subst (λ (k : ℕ). falls.heads.items ≡ replicate (k + 1) 0) n_is c.in_ok-falls.ensures.heads)
+    (subst (λ (k : ℕ). placing.to.items ≡ replicate k 4294967295) n_is e.to)
+    (subst (λ (k : ℕ). placing.from.items ≡ replicate k 4294967295) n_is e.from) e.spare e.room
 
 pub greatest-requires-clause-floor : goal.greatest-requires-clause-floor
 greatest-requires-clause-floor g c =
-    floor_of (g.A.Arcs.net c.args.arcs.now) c.make_first.new.falls c.make_first.new.placing c.make_first.ensures.seated (subst (λ (f : Falls). AreLow f 5000000000000000) (sym c.make_first.ensures.same) c.place_all.ensures.low)
+    floor_of (g.A.Arcs.net c.args.arcs.now) c.make_first.new.falls c.make_first.new.placing c.make_first.ensures.seated
+    (subst (λ (f : Falls). AreLow f 5000000000000000) (sym c.make_first.ensures.same) c.place_all.ensures.low)
 
 pub returns-clause-first : goal.returns-clause-first
 returns-clause-first g c =
@@ -28,8 +31,10 @@ returns-clause-first g c =
     let lists = c.in_ok-paths.paths in
     let e = c.make_first.ensures in
     covers_first net (g.met.A.Arcs.rising c.args.arcs.now) c.make_first.new.falls placing lists e.seated e.placed e.first
-    (follow_plain net c.nodes-n.result c.as_slice.result.now placing.to.items lists c.nodes-n.ensures.value c.as_slice.ensures.value c.in_ok-paths.ensures.follow)
-    (firsts_plain net c.nodes-n.result c.as_slice-2.result.now placing.from.items lists c.nodes-n.ensures.value c.as_slice-2.ensures.value c.in_ok-paths.ensures.firsts)
+    (follow_plain net c.nodes-n.result c.as_slice.result.now placing.to.items lists c.nodes-n.ensures.value c.as_slice.ensures.value
+    c.in_ok-paths.ensures.follow)
+    (firsts_plain net c.nodes-n.result c.as_slice-2.result.now placing.from.items lists c.nodes-n.ensures.value c.as_slice-2.ensures.value
+    c.in_ok-paths.ensures.firsts)
 
 pub returns-clause-greatest : goal.returns-clause-greatest
 returns-clause-greatest g c =
@@ -38,8 +43,10 @@ returns-clause-greatest g c =
     let lists = c.in_ok-paths.paths in
     let e = c.make_first.ensures in
     covers_greatest net (g.met.A.Arcs.rising c.args.arcs.now) c.make_first.new.falls c.greatest.new.numbers placing lists e.seated e.placed
-    (follow_plain net c.nodes-n.result c.as_slice.result.now placing.to.items lists c.nodes-n.ensures.value c.as_slice.ensures.value c.in_ok-paths.ensures.follow)
-    (firsts_plain net c.nodes-n.result c.as_slice-2.result.now placing.from.items lists c.nodes-n.ensures.value c.as_slice-2.ensures.value c.in_ok-paths.ensures.firsts)
+    (follow_plain net c.nodes-n.result c.as_slice.result.now placing.to.items lists c.nodes-n.ensures.value c.as_slice.ensures.value
+    c.in_ok-paths.ensures.follow)
+    (firsts_plain net c.nodes-n.result c.as_slice-2.result.now placing.from.items lists c.nodes-n.ensures.value c.as_slice-2.ensures.value
+    c.in_ok-paths.ensures.firsts)
     c.greatest.ensures.high c.greatest.ensures.numbers
 
 pub returns-clause-low : goal.returns-clause-low
@@ -48,8 +55,13 @@ returns-clause-low g c =
     let placing = c.make_first.new.placing in
     let lists = c.in_ok-paths.paths in
     let e = c.make_first.ensures in
-    let follow = follow_plain net c.nodes-n.result c.as_slice.result.now placing.to.items lists c.nodes-n.ensures.value c.as_slice.ensures.value c.in_ok-paths.ensures.follow in
-    let firsts = firsts_plain net c.nodes-n.result c.as_slice-2.result.now placing.from.items lists c.nodes-n.ensures.value c.as_slice-2.ensures.value c.in_ok-paths.ensures.firsts in
-    let first = covers_first net (g.met.A.Arcs.rising c.args.arcs.now) c.make_first.new.falls placing lists e.seated e.placed e.first follow firsts in
-    covers_low net (g.met.A.Arcs.rising c.args.arcs.now) (g.met.A.Arcs.cheap c.args.arcs.now) c.greatest.new.numbers lists c.greatest.ensures.places first.cover
-    (covers_greatest net (g.met.A.Arcs.rising c.args.arcs.now) c.make_first.new.falls c.greatest.new.numbers placing lists e.seated e.placed follow firsts c.greatest.ensures.high c.greatest.ensures.numbers)
+    let follow = follow_plain net c.nodes-n.result c.as_slice.result.now placing.to.items lists c.nodes-n.ensures.value
+    c.as_slice.ensures.value c.in_ok-paths.ensures.follow in
+    let firsts = firsts_plain net c.nodes-n.result c.as_slice-2.result.now placing.from.items lists c.nodes-n.ensures.value
+    c.as_slice-2.ensures.value c.in_ok-paths.ensures.firsts in
+    let first = covers_first net (g.met.A.Arcs.rising c.args.arcs.now) c.make_first.new.falls placing lists e.seated
+    e.placed e.first follow firsts in
+    covers_low net (g.met.A.Arcs.rising c.args.arcs.now) (g.met.A.Arcs.cheap c.args.arcs.now) c.greatest.new.numbers lists
+    c.greatest.ensures.places first.cover
+    (covers_greatest net (g.met.A.Arcs.rising c.args.arcs.now) c.make_first.new.falls c.greatest.new.numbers placing lists e.seated e.placed
+    follow firsts c.greatest.ensures.high c.greatest.ensures.numbers)

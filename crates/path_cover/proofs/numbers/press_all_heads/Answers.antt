@@ -16,6 +16,8 @@ loop-x-preserved g c =
     let b = c.press_heads-pressed.result in
     let e = c.press_heads-pressed.ensures in
     record {
-      swept = subst (λ (r : Bool). IsSwept net placing old new r) (sym c.either-moved.ensures) (swept_more net placing old mid new a b inv.swept e.swept);
-      asked = λ still. asked_more (λ (f : Falls) (w : ℕ). (v : ℕ) → v ≤ net.nodes → IsFitting net f w v) c.loop-x.x mid new a b inv.asked e.swept.same e.fits (sym c.either-moved.ensures ∙ still);
+      swept = subst (λ (r : Bool). IsSwept net placing old new r) (sym c.either-moved.ensures)
+          (swept_more net placing old mid new a b inv.swept e.swept);
+      asked = λ still. asked_more (λ (f : Falls) (w : ℕ). (v : ℕ) → v ≤ net.nodes → IsFitting net f w v) c.loop-x.x mid new a b inv.asked
+          e.swept.same e.fits (sym c.either-moved.ensures ∙ still);
     }

@@ -16,6 +16,8 @@ loop-v-preserved g c =
     let b = c.press_head-pressed.result in
     let e = c.press_head-pressed.ensures in
     record {
-      swept = subst (λ (r : Bool). IsSwept net placing old new r) (sym c.either-moved.ensures) (swept_more net placing old mid new a b inv.swept e.swept);
-      asked = λ still. asked_more (λ (f : Falls) (w : ℕ). IsFitting net f c.args.x w) c.loop-v.v mid new a b inv.asked e.swept.same e.fits (sym c.either-moved.ensures ∙ still);
+      swept = subst (λ (r : Bool). IsSwept net placing old new r) (sym c.either-moved.ensures)
+          (swept_more net placing old mid new a b inv.swept e.swept);
+      asked = λ still. asked_more (λ (f : Falls) (w : ℕ). IsFitting net f c.args.x w) c.loop-v.v mid new a b inv.asked e.swept.same e.fits
+          (sym c.either-moved.ensures ∙ still);
     }

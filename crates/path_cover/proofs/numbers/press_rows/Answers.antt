@@ -13,7 +13,8 @@ press_tail-pressed-requires-clause-tight g c =
     let n_is = c.nodes-t-end.ensures.value in
     let inside = c.loop-t-test.true in
     let count = c.requires.count in
-    let at : c.index.result.now ≡ get_or placing.to.items t 0 = c.index.ensures ∙ default_same placing.to.items t c.index.result.now 0 (omega arith) in
+    let at : c.index.result.now ≡ get_or placing.to.items t 0 =
+    c.index.ensures ∙ default_same placing.to.items t c.index.result.now 0 (omega arith) in
     let t_in : t < net.nodes = omega arith in
     subst (λ (w : ℕ). IsTightIn net placing t w) (sym at) (tight_row net placing t t_in (c.requires.placed t t_in))
 
@@ -32,8 +33,11 @@ loop-t-preserved g c =
     let n_is = c.nodes-t-end.ensures.value in
     let inside = c.loop-t-test.true in
     let count = c.requires.count in
-    let at : c.index.result.now ≡ get_or placing.to.items t 0 = c.index.ensures ∙ default_same placing.to.items t c.index.result.now 0 (omega arith) in
+    let at : c.index.result.now ≡ get_or placing.to.items t 0 =
+    c.index.ensures ∙ default_same placing.to.items t c.index.result.now 0 (omega arith) in
     record {
-      swept = subst (λ (r : Bool). IsSwept net placing old new r) (sym c.either-moved.ensures) (swept_more net placing old mid new a b inv.swept e.swept);
-      asked = λ still. asked_more (λ (f : Falls) (w : ℕ). IsTaut net f w (get_or placing.to.items w 0)) c.loop-t.t mid new a b inv.asked e.swept.same (λ still_here. subst (λ (w : ℕ). IsTaut net new t w) at (e.taut still_here)) (sym c.either-moved.ensures ∙ still);
+      swept = subst (λ (r : Bool). IsSwept net placing old new r) (sym c.either-moved.ensures)
+          (swept_more net placing old mid new a b inv.swept e.swept);
+      asked = λ still. asked_more (λ (f : Falls) (w : ℕ). IsTaut net f w (get_or placing.to.items w 0)) c.loop-t.t mid new a b inv.asked
+          e.swept.same (λ still_here. subst (λ (w : ℕ). IsTaut net new t w) at (e.taut still_here)) (sym c.either-moved.ensures ∙ still);
     }

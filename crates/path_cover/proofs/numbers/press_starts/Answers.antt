@@ -16,6 +16,8 @@ loop-u-preserved g c =
     let b = c.press_start-pressed.result in
     let e = c.press_start-pressed.ensures in
     record {
-      swept = subst (λ (r : Bool). IsSwept net placing old new r) (sym c.either-moved.ensures) (swept_more net placing old mid new a b inv.swept e.swept);
-      asked = λ still. asked_more (λ (f : Falls) (w : ℕ). get_or placing.from.items w 0 ≡ net.nodes → IsTaut net f net.nodes w) c.loop-u.u mid new a b inv.asked e.swept.same e.taut (sym c.either-moved.ensures ∙ still);
+      swept = subst (λ (r : Bool). IsSwept net placing old new r) (sym c.either-moved.ensures)
+          (swept_more net placing old mid new a b inv.swept e.swept);
+      asked = λ still. asked_more (λ (f : Falls) (w : ℕ). get_or placing.from.items w 0 ≡ net.nodes → IsTaut net f net.nodes w) c.loop-u.u
+          mid new a b inv.asked e.swept.same e.taut (sym c.either-moved.ensures ∙ still);
     }

@@ -16,7 +16,10 @@ returns-clause-numbers g c still =
     let three_is : three ≡ two = c.press_starts.ensures.swept.same c.if-press_starts.false in
     let four_is : four ≡ three = c.press_stay.ensures.swept.same still in
     numbers_hold net (g.met.A.Arcs.rising c.args.arcs.now) placing four c.requires.floor
-    (λ x v x_in v_in. subst (λ (f : Falls). IsFitting net f x v) (sym (four_is ∙ (three_is ∙ two_is))) (c.press_all_heads.ensures.fits c.if-press_all_heads.false x v x_in v_in))
-    (λ t t_in. subst (λ (f : Falls). IsTaut net f t (get_or placing.to.items t 0)) (sym (four_is ∙ three_is)) (c.press_rows.ensures.taut c.if-press_rows.false t t_in))
-    (λ u u_in from_store. subst (λ (f : Falls). IsTaut net f net.nodes u) (sym four_is) (c.press_starts.ensures.taut c.if-press_starts.false u u_in from_store))
+    (λ x v x_in v_in. subst (λ (f : Falls). IsFitting net f x v) (sym (four_is ∙ (three_is ∙ two_is)))
+    (c.press_all_heads.ensures.fits c.if-press_all_heads.false x v x_in v_in))
+    (λ t t_in. subst (λ (f : Falls). IsTaut net f t (get_or placing.to.items t 0)) (sym (four_is ∙ three_is))
+    (c.press_rows.ensures.taut c.if-press_rows.false t t_in))
+    (λ u u_in from_store. subst (λ (f : Falls). IsTaut net f net.nodes u) (sym four_is)
+    (c.press_starts.ensures.taut c.if-press_starts.false u u_in from_store))
     (λ some. c.press_stay.ensures.taut still some)

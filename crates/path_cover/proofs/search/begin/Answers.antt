@@ -9,7 +9,8 @@ pub scan-requires-clause-feasible : goal.scan-requires-clause-feasible
 scan-requires-clause-feasible g c v cost below arc =
     let root_in = c.requires.root in
     let limit = c.requires.limit in
-    fits_of cost (get_or c.args.falls.now.heads.items v 0) (get_or c.args.falls.now.tails.items c.args.target.root 0) (c.requires.seated.1.feasible c.args.target.root v cost (omega arith) (omega arith) arc)
+    fits_of cost (get_or c.args.falls.now.heads.items v 0) (get_or c.args.falls.now.tails.items c.args.target.root 0)
+    (c.requires.seated.1.feasible c.args.target.root v cost (omega arith) (omega arith) arc)
 
 pub returns-clause-treed : goal.returns-clause-treed
 returns-clause-treed g c =
@@ -42,14 +43,16 @@ returns-clause-treed g c =
         least = scan.scanned.least_count ∙ least_count;
         depth = ap length scan.depth ∙ depth_count;
       };
-      rows = λ x. ap (λ (l : List Bool). get_or l x false) rows_are ∙ (set_at clean.rows.items target.root true false (omega arith) x ∙ ap (cond (x == target.root) true) (rows_none x));
+      rows = λ x. ap (λ (l : List Bool). get_or l x false) rows_are
+          ∙ (set_at clean.rows.items target.root true false (omega arith) x ∙ ap (cond (x == target.root) true) (rows_none x));
       columns_none = λ v. ap (λ (l : List Bool). get_or l v false) scan.columns ∙ columns_none v;
       depth_none = λ x. ap (λ (l : List ℕ). get_or l x 0) scan.depth ∙ depth_none x;
       before_none = columns_none;
       least_none = least_none;
       scanned = scan.scanned;
     } in
-    root_treed net falls c.args.placing.now target clean.columns.items clean.least.items clean.via.items new c.requires.seated root_in c.requires.fixed c.requires.level c.requires.low c.requires.free is
+    root_treed net falls c.args.placing.now target clean.columns.items clean.least.items clean.via.items new c.requires.seated root_in
+    c.requires.fixed c.requires.level c.requires.low c.requires.free is
 
 pub returns-clause-none : goal.returns-clause-none
 returns-clause-none g c =

@@ -12,7 +12,8 @@ reach_new-requires-clause-near g c y =
     let opened = c.loop-t.invariant.opened in
     let n_is = c.nodes-n.ensures.value in
     let few = c.nodes-n.ensures.few in
-    opened_near (g.A.Arcs.net c.args.arcs.now) c.args.falls.now c.args.placing.now c.loop-t.growth c.args.target (g.A.Arcs.net c.args.arcs.now).nodes opened.0 opened.1 (omega arith) y
+    opened_near (g.A.Arcs.net c.args.arcs.now) c.args.falls.now c.args.placing.now c.loop-t.growth c.args.target
+    (g.A.Arcs.net c.args.arcs.now).nodes opened.0 opened.1 (omega arith) y
 
 pub loop-t-preserved : goal.loop-t-preserved
 loop-t-preserved g c =
@@ -28,12 +29,15 @@ loop-t-preserved g c =
     let t_in : t < net.nodes = omega arith in
     let past : target.fixed ≤ t = c.loop-t.auto.t in
     let count = inv.opened.1.seat.kept.to_count in
-    let at : c.index.result.now ≡ get_or placing.to.items t 0 = c.index.ensures ∙ default_same placing.to.items t c.index.result.now 0 (omega arith) in
+    let at : c.index.result.now ≡ get_or placing.to.items t 0 =
+    c.index.ensures ∙ default_same placing.to.items t c.index.result.now 0 (omega arith) in
     elim c.if-index-n.branch [
       | then-index-n w ↦
           let new = w.reach_new.new.growth in
           let goes : get_or placing.to.items t 0 ≡ net.nodes = sym at ∙ (w.if-index-n.true ∙ n_is) in
-          let seen : IsSeenToo net falls placing old new target net.nodes t = seen_once net falls placing old new target net.nodes t inv.opened (omega arith) past (λ below. goes) (λ last below. absurd (omega arith)) (λ last at_end. absurd (omega arith))
+          let seen : IsSeenToo net falls placing old new target net.nodes t =
+          seen_once net falls placing old new target net.nodes t inv.opened (omega arith) past (λ below. goes)
+          (λ last below. absurd (omega arith)) (λ last at_end. absurd (omega arith))
           w.reach_new.ensures.seen (λ unseen. subst (λ (k : ℕ). IsReachedBy net falls t k old new) n_is (w.reach_new.ensures.new unseen)) in
           record {
             count = n_is;
@@ -41,7 +45,8 @@ loop-t-preserved g c =
             columns = ap (λ (growth : Growth). growth.columns.items) w.growth-is ∙ (seen.columns ∙ inv.columns);
             seen = λ s late below to_end. ap (λ (growth : Growth). get_or growth.rows.items s false) w.growth-is ∙ elim (cases_lt s t) [
               | inl before ↦ seen.rows s (inv.seen s late before to_end)
-              | inr after ↦ (let same : s ≡ t = omega arith in let P : ℕ → Type 0 = λ x. get_or new.rows.items x false ≡ true in subst P (sym same) seen.here)
+              | inr after ↦ (let same : s ≡ t = omega arith in let P : ℕ → Type 0 = λ x. get_or new.rows.items x false ≡ true in
+                  subst P (sym same) seen.here)
             ];
           }
       | else-index-n w ↦
@@ -52,7 +57,8 @@ loop-t-preserved g c =
             columns = ap (λ (growth : Growth). growth.columns.items) w.growth-is ∙ inv.columns;
             seen = λ s late below to_end. ap (λ (growth : Growth). get_or growth.rows.items s false) w.growth-is ∙ elim (cases_lt s t) [
               | inl before ↦ inv.seen s late before to_end
-              | inr after ↦ absurd (let same : s ≡ t = omega arith in let to_t : get_or placing.to.items t 0 ≡ net.nodes = ap (λ (x : ℕ). get_or placing.to.items x 0) (sym same) ∙ to_end in not (at ∙ (to_t ∙ sym n_is)))
+              | inr after ↦ absurd (let same : s ≡ t = omega arith in let to_t : get_or placing.to.items t 0 ≡ net.nodes =
+                  ap (λ (x : ℕ). get_or placing.to.items x 0) (sym same) ∙ to_end in not (at ∙ (to_t ∙ sym n_is)))
             ];
           }
     ]

@@ -36,27 +36,35 @@ loop-number-preserved c =
     let low = c.with_point-least.ensures.low in
     let high = c.loop-number.invariant.high in
     let Closes : ℤ → Type 0 = λ z. ClosesAbove day net.counts c.args.pool.now c.args.t z in
-    let Points : ℤ → Type 0 = λ z. PointsAbove day net.counts c.args.prices.now c.args.pool.now c.args.rests.now c.args.numbers.now c.args.t (number + 1) z in
+    let Points : ℤ → Type 0 =
+    λ z. PointsAbove day net.counts c.args.prices.now c.args.pool.now c.args.rests.now c.args.numbers.now c.args.t (number + 1) z in
     let closes : Closes new = λ cost e. (let old = c.loop-number.invariant.closes cost e in omega (arith, ints, old, low)) in
     let inside : number < length c.args.heads.now = search rules in
     let here : (u : ℕ) → c.args.t < u → u < length day.trips → slice_index c.args.numbers.now u ≡ number →
-    PointAbove day net.counts c.args.pool.now c.args.numbers.now (stood_value day net.counts c.args.prices.now c.args.pool.now c.args.rests.now) (passed_value c.args.prices.now c.args.rests.now) c.args.t number new =
+    PointAbove day net.counts c.args.pool.now c.args.numbers.now
+    (stood_value day net.counts c.args.prices.now c.args.pool.now c.args.rests.now) (passed_value c.args.prices.now c.args.rests.now)
+    c.args.t number new =
     λ u after there same.
     (let count = c.requires.numbers.count in
     let width = c.requires.count in
     let less = c.requires.below u there in
-    let (within, own) = have_heads c.args.numbers.now c.args.heads.now u (omega (arith, there, count)) (omega (arith, less, width)) c.requires.heads in
+    let (within, own) = have_heads c.args.numbers.now c.args.heads.now u (omega (arith, there, count))
+    (omega (arith, less, width)) c.requires.heads in
     let P : ℕ → Type 0 = λ n. slice_index c.args.heads.now n < length c.args.numbers.now in
     let Q : ℕ → Type 0 = λ n. slice_index c.args.numbers.now (slice_index c.args.heads.now n) ≡ n in
     let within' = subst P same within in
     let own' = subst Q same own in
     let read = entry_read c.args.heads.now number 0 inside in
-    c.with_point-least.ensures.point c.args.numbers.now (stood_value day net.counts c.args.prices.now c.args.pool.now c.args.rests.now) (passed_value c.args.prices.now c.args.rests.now)
-    (omega (arith, within', count, read)) c.requires.numbers (ap (slice_index c.args.numbers.now) read ∙ own') c.requires.stood c.requires.passed) in
+    c.with_point-least.ensures.point c.args.numbers.now (stood_value day net.counts c.args.prices.now c.args.pool.now c.args.rests.now)
+    (passed_value c.args.prices.now c.args.rests.now)
+    (omega (arith, within', count, read)) c.requires.numbers (ap (slice_index c.args.numbers.now) read ∙ own')
+    c.requires.stood c.requires.passed) in
     record {
       closes = subst Closes (sym back) closes;
       high = omega (arith, ints, low, high, back);
-      points = subst Points (sym back) (points_more day net.counts c.args.prices.now c.args.pool.now c.args.rests.now c.args.numbers.now c.args.t number _ new (search rules) low here c.loop-number.invariant.points);
+      points = subst Points (sym back)
+          (points_more day net.counts c.args.prices.now c.args.pool.now c.args.rests.now c.args.numbers.now c.args.t number _ new
+          (search rules) low here c.loop-number.invariant.points);
     }
 
 pub returns-clause-closes : goal.returns-clause-closes
@@ -64,7 +72,8 @@ returns-clause-closes c =
     let net = c.args.net.now in
     let fits : FitsSigned w64 c.settled.result = search rules in
     rw (to_z-of_z w64 _ fits)
-    (settled_closes net.day net.counts c.args.prices.now c.args.pool.now c.args.rests.now c.args.t _ c.settled.result (search (rules, c.settled.ensures.least)) c.loop-number.invariant.closes)
+    (settled_closes net.day net.counts c.args.prices.now c.args.pool.now c.args.rests.now c.args.t _ c.settled.result
+    (search (rules, c.settled.ensures.least)) c.loop-number.invariant.closes)
 
 pub returns-clause-steps : goal.returns-clause-steps
 returns-clause-steps c =
@@ -72,9 +81,11 @@ returns-clause-steps c =
     let fits : FitsSigned w64 c.settled.result = search rules in
     let least : ℤ = to_z w64 c.loop-number.least-bits in
     let end : c.loop-number.number ≡ c.args.width = search rules in
-    let P : ℕ → Type 0 = λ n. PointsAbove net.day net.counts c.args.prices.now c.args.pool.now c.args.rests.now c.args.numbers.now c.args.t n least in
+    let P : ℕ → Type 0 = λ n. PointsAbove net.day net.counts c.args.prices.now c.args.pool.now c.args.rests.now
+    c.args.numbers.now c.args.t n least in
     rw (to_z-of_z w64 _ fits)
-    (settled_steps net.day net.counts c.args.prices.now c.args.pool.now c.args.rests.now c.args.t c.args.width c.args.numbers.now least c.settled.result c.requires.moderate c.requires.below c.requires.deep
+    (settled_steps net.day net.counts c.args.prices.now c.args.pool.now c.args.rests.now c.args.t c.args.width c.args.numbers.now least
+    c.settled.result c.requires.moderate c.requires.below c.requires.deep
     (search (rules, c.settled.ensures.least)) (subst P end c.loop-number.invariant.points))
 
 pub with_point-least-requires-clause-first : goal.with_point-least-requires-clause-first

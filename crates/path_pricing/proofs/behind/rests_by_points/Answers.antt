@@ -53,7 +53,8 @@ loop-t-preserved c =
     let there : k < count = omega (arith, same, within) in
     let long = i.count in
     let inside : k < length items = omega (arith, long, there) in
-    let base : c.loop-t.base ≡ (count - (k + 1)) * width = let P : ℕ → Type 0 = λ n. c.loop-t.base ≡ (count - n) * width in subst P same i.base in
+    let base : c.loop-t.base ≡ (count - (k + 1)) * width =
+    let P : ℕ → Type 0 = λ n. c.loop-t.base ≡ (count - n) * width in subst P same i.base in
     let value : ℤ = c.less-value.result in
     let until : ℤ = c.charge-until.result in
     let stood : ℤ = c.more.result in
@@ -63,7 +64,8 @@ loop-t-preserved c =
     let at : slice_get day.trips k ≡ Some trip = subst At c.day-day.ensures c.trip-trip.ensures.trip in
     let until_is : until ≡ scaled net.counts (stand_rate_at pool trip * unsigned_abs trip.begin.0) =
     c.charge-until.ensures.value ∙ ap (λ b. scaled b (c.stand_rate.result * c.begin_of.result)) c.counts.ensures
-    ∙ ap (λ n. scaled net.counts (n * c.begin_of.result)) c.stand_rate.ensures.value ∙ ap (λ n. scaled net.counts (stand_rate_at pool trip * n)) c.begin_of.ensures.value in
+    ∙ ap (λ n. scaled net.counts (n * c.begin_of.result)) c.stand_rate.ensures.value
+    ∙ ap (λ n. scaled net.counts (stand_rate_at pool trip * n)) c.begin_of.ensures.value in
     let many : length numbers ≡ count = search rules in
     let stood_is : stood ≡ value +ℤ until = omega (arith, ints, c.more.ensures.value) in
     let below : AreBelow width numbers count = λ u inside. c.requires.departures.below u (omega (arith, many, inside)) in
@@ -72,8 +74,10 @@ loop-t-preserved c =
     let Set : ℤ → Type 0 = λ z. AreBoundsFrom day net.counts prices pool (slice_set items k z) k in
     let StoodTo : ℕ → Type 0 = λ t. AreRows count width t numbers (stood_value day net.counts prices pool items) c.loop-t.stood.items in
     let PassedTo : ℕ → Type 0 = λ t. AreRows count width t numbers (passed_value prices items) c.loop-t.passed.items in
-    let StoodSet : ℤ → Type 0 = λ z. AreRows count width k numbers (stood_value day net.counts prices pool (slice_set items k z)) c.add_row.new.cells.items in
-    let PassedSet : ℤ → Type 0 = λ z. AreRows count width k numbers (passed_value prices (slice_set items k z)) c.add_row-in-loop-t.new.cells.items in
+    let StoodSet : ℤ → Type 0 =
+    λ z. AreRows count width k numbers (stood_value day net.counts prices pool (slice_set items k z)) c.add_row.new.cells.items in
+    let PassedSet : ℤ → Type 0 =
+    λ z. AreRows count width k numbers (passed_value prices (slice_set items k z)) c.add_row-in-loop-t.new.cells.items in
     record {
       from = omega (arith, same, c.loop-t-test.true);
       within = omega (arith, within);
@@ -81,14 +85,22 @@ loop-t-preserved c =
       base = base_more count k width c.loop-t.base there base;
       stood_size = c.add_row.ensures.count ∙ i.stood_size;
       passed_size = c.add_row-in-loop-t.ensures.count ∙ i.passed_size;
-      stood_moderate = c.add_row.ensures.moderate i.stood_moderate (let fits = c.more.ensures.moderate in let low = fits.low in let high = fits.high in record { low = omega (arith, ints, low); high = omega (arith, ints, high) });
-      passed_moderate = c.add_row-in-loop-t.ensures.moderate i.passed_moderate (record { low = omega (arith, ints, c.less-value.ensures.low); high = omega (arith, ints, c.less-value.ensures.high) });
-      stood_rows = subst StoodSet (sym back) (rows_more c.loop-t.stood.items c.add_row.new.cells.items count width c.loop-t.base k numbers (stood_value day net.counts prices pool items)
-          (stood_value day net.counts prices pool (slice_set items k new)) stood there base below (λ u later. stood_same day net.counts prices pool items k u new later)
+      stood_moderate = c.add_row.ensures.moderate i.stood_moderate (let fits = c.more.ensures.moderate in let low = fits.low in let high =
+          fits.high in record { low = omega (arith, ints, low); high = omega (arith, ints, high) });
+      passed_moderate = c.add_row-in-loop-t.ensures.moderate i.passed_moderate
+          (record { low = omega (arith, ints, c.less-value.ensures.low); high = omega (arith, ints, c.less-value.ensures.high) });
+      stood_rows = subst StoodSet (sym back)
+          (rows_more c.loop-t.stood.items c.add_row.new.cells.items count width c.loop-t.base k numbers
+          (stood_value day net.counts prices pool items)
+          (stood_value day net.counts prices pool (slice_set items k new)) stood there base below
+          (λ u later. stood_same day net.counts prices pool items k u new later)
           (own_stood day net.counts prices pool items k trip new value until stood inside at value_is until_is stood_is)
           (search (rules, c.add_row.ensures)) (subst StoodTo same i.stood_rows));
-      passed_rows = subst PassedSet (sym back) (rows_more c.loop-t.passed.items c.add_row-in-loop-t.new.cells.items count width c.loop-t.base k numbers (passed_value prices items)
-          (passed_value prices (slice_set items k new)) value there base below (λ u later. passed_same day net.counts prices pool items k u new later)
+      passed_rows = subst PassedSet (sym back)
+          (rows_more c.loop-t.passed.items c.add_row-in-loop-t.new.cells.items count width c.loop-t.base k
+          numbers (passed_value prices items)
+          (passed_value prices (slice_set items k new)) value there base below
+          (λ u later. passed_same day net.counts prices pool items k u new later)
           (own_passed day net.counts prices pool items k new value inside value_is)
           (search (rules, c.add_row-in-loop-t.ensures)) (subst PassedTo same i.passed_rows));
       made = subst Set (sym back) (rests_set day net.counts prices pool items k new inside c.rest_behind-rest.ensures.closes

@@ -15,7 +15,8 @@ invariant-loop-t l = record {
   passed_size : length l.passed.items ≡ (length l.net.day.trips - l.from + 1) * l.width;
   stood_moderate : AreModerate l.stood.items;
   passed_moderate : AreModerate l.passed.items;
-  stood_rows : AreRows (length l.net.day.trips) l.width l.t l.numbers (stood_value l.net.day l.net.counts l.prices l.pool l.rests.items) l.stood.items;
+  stood_rows : AreRows (length l.net.day.trips) l.width l.t l.numbers
+      (stood_value l.net.day l.net.counts l.prices l.pool l.rests.items) l.stood.items;
   passed_rows : AreRows (length l.net.day.trips) l.width l.t l.numbers (passed_value l.prices l.rests.items) l.passed.items;
   made : AreBoundsFrom l.net.day l.net.counts l.prices l.pool l.rests.items l.t;
 }

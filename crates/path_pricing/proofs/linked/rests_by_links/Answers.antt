@@ -58,13 +58,16 @@ loop-t-preserved c =
     let lower_fits : FitsSigned w64 lower = search rules in
     let lower_back : to_z w64 (of_z w64 lower) ≡ lower = to_z-of_z w64 lower lower_fits in
     let first : lower ≤ℤ to_z w64 c.loop-t.low-bits = search rules in
-    let second : lower ≤ℤ (new -ℤ price_at c.args.prices.now k) = omega (arith, ints, c.low_with-low.ensures.second, c.price.ensures.value, back) in
+    let second : lower ≤ℤ (new -ℤ price_at c.args.prices.now k) =
+    omega (arith, ints, c.low_with-low.ensures.second, c.price.ensures.value, back) in
     let Over : ℕ → Type 0 = λ t. IsLowOver c.args.prices.now items t end (to_z w64 c.loop-t.low-bits) in
     let over : IsLowOver c.args.prices.now (slice_set items k new) k end lower =
-    low_set c.args.prices.now items k end new _ lower (omega (arith, within, long, same)) first second (subst Over same c.loop-t.invariant.low) in
+    low_set c.args.prices.now items k end new _ lower (omega (arith, within, long, same)) first second
+    (subst Over same c.loop-t.invariant.low) in
     let Lows : ℕ → Type 0 = λ t. AreLows c.args.prices.now items lows t end in
     let are : AreLows c.args.prices.now (slice_set items k new) (slice_set lows k lower) k end =
-    lows_set c.args.prices.now items lows k end new lower (omega (arith, within, c.loop-t.invariant.lows_count, same)) over (subst Lows same c.loop-t.invariant.lows) in
+    lows_set c.args.prices.now items lows k end new lower (omega (arith, within, c.loop-t.invariant.lows_count, same)) over
+    (subst Lows same c.loop-t.invariant.lows) in
     let Over-new : ℤ → Type 0 = λ z. IsLowOver c.args.prices.now (slice_set items k z) k end (to_z w64 (of_z w64 lower)) in
     let Over-low : ℤ → Type 0 = λ z. IsLowOver c.args.prices.now (slice_set items k new) k end z in
     let Are-new : ℤ → Type 0 = λ z. AreLows c.args.prices.now (slice_set items k z) (slice_set lows k (to_z w64 (of_z w64 lower))) k end in
@@ -76,8 +79,11 @@ loop-t-preserved c =
       lows_count = set_length lows k (to_z w64 (of_z w64 lower)) ∙ c.loop-t.invariant.lows_count;
       low = subst Over-new (sym back) (subst Over-low (sym lower_back) over);
       lows = subst Are-new (sym back) (subst Are-low (sym lower_back) are);
-      made = subst Set (sym back) (rests_set net.day net.counts c.args.prices.now c.args.pool.now items k new (omega (arith, within, long, same)) c.rest_behind-rest.ensures.closes
-          (subst Steps c.as_slice.ensures.value c.rest_behind-rest.ensures.steps) c.rest_behind-rest.ensures.deep (subst From same c.loop-t.invariant.made));
+      made = subst Set (sym back)
+          (rests_set net.day net.counts c.args.prices.now c.args.pool.now items k new (omega (arith, within, long, same))
+          c.rest_behind-rest.ensures.closes
+          (subst Steps c.as_slice.ensures.value c.rest_behind-rest.ensures.steps) c.rest_behind-rest.ensures.deep
+          (subst From same c.loop-t.invariant.made));
     }
 
 pub returns : goal.returns

@@ -12,6 +12,8 @@ returns-in-Some-clause-deep c =
     let back : to_z w64 (of_z w64 c.lower.result) ≡ c.lower.result = to_z-of_z w64 c.lower.result fits in
     let P : ℤ → Type 0 = λ z. IsDeep (length c.args.net.now.day.trips) c.args.t z in
     subst P (sym back) (
-    deep_over (length c.args.net.now.day.trips) c.args.t c.args.u c.args.least c.in-Some.cost c.price.result (number_at c.args.rests.now c.args.u) c.rest.result c.sum_over.result c.lower.result
+    deep_over (length c.args.net.now.day.trips) c.args.t c.args.u c.args.least c.in-Some.cost c.price.result
+    (number_at c.args.rests.now c.args.u) c.rest.result c.sum_over.result c.lower.result
     c.requires.later c.requires.next c.requires.least_deep c.requires.deep c.in-Some.ensures.low c.price.ensures.high c.rest.ensures
-    (omega (arith, ints, c.sum_over.ensures)) (omega (arith, ints, c.lower.ensures.first)) (λ x a b. c.lower.ensures.least x (omega (arith, ints, a)) (omega (arith, ints, b))))
+    (omega (arith, ints, c.sum_over.ensures)) (omega (arith, ints, c.lower.ensures.first))
+    (λ x a b. c.lower.ensures.least x (omega (arith, ints, a)) (omega (arith, ints, b))))

@@ -16,10 +16,12 @@ cell_from-near-requires-clause-room c =
     let count = length c.args.net.now.day.trips in
     let all : length c.trips.result.now ≡ count = search rules in
     let P : ℕ → Type 0 = λ n. (n - c.args.place) * c.args.width + c.args.width ≤ length c.args.passed.now in
-    subst P (sym all) (room_for count c.args.t c.args.place c.args.width (length c.args.passed.now) c.requires.after c.requires.within c.requires.passed_room)
+    subst P (sym all) (room_for count c.args.t c.args.place c.args.width (length c.args.passed.now) c.requires.after
+    c.requires.within c.requires.passed_room)
 
 pub returns-then-head-count-clause-point : goal.returns-then-head-count-clause-point
-returns-then-head-count-clause-point c = λ numbers by_stand by_pass within are own stood passed. absurd (let all = c.if-head-count.true in search (rules, all, within))
+returns-then-head-count-clause-point c =
+    λ numbers by_stand by_pass within are own stood passed. absurd (let all = c.if-head-count.true in search (rules, all, within))
 
 pub returns-then-least-near-clause-point : goal.returns-then-least-near-clause-point
 returns-then-least-near-clause-point c = λ numbers by_stand by_pass within are own stood passed.
@@ -35,7 +37,8 @@ returns-then-least-near-clause-point c = λ numbers by_stand by_pass within are 
     (let after = c.requires.first u trip next later at at' begins in
     let behind : c.args.t + 1 ≤ c.args.place = (let first = c.requires.after in omega (arith, first)) in
     let there = slice_get_within c.args.net.now.day.trips u next at' in
-    let row = row_at count c.args.width (c.args.t + 1) c.args.place c.args.number numbers by_pass c.args.passed.now behind passed u there same after in
+    let row = row_at count c.args.width (c.args.t + 1) c.args.place c.args.number numbers by_pass c.args.passed.now
+    behind passed u there same after in
     omega (arith, ints, row, c.if-least-near.true, near, back, near_back)))
 
 pub returns-clause-point : goal.returns-clause-point
@@ -51,11 +54,19 @@ returns-clause-point c = λ numbers by_stand by_pass within are own stood passed
     let Stood : DayFacts → Type 0 = λ d. AreRows (length d.trips) c.args.width (c.args.t + 1) numbers by_stand c.args.stood.now in
     let Passed : DayFacts → Type 0 = λ d. AreRows (length d.trips) c.args.width (c.args.t + 1) numbers by_pass c.args.passed.now in
     let are' = subst Are (sym day_is) are in
-    let Direct : DayFacts → Type 0 = λ d. DirectAbove d c.counts-counts.result pool numbers by_stand c.args.t c.args.number c.with_direct-direct.result in
-    let Depot : DayFacts → Type 0 = λ d. DepotAbove d c.counts-counts.result pool numbers by_pass c.args.t c.args.number c.with_depot.result in
+    let Direct : DayFacts → Type 0 =
+    λ d. DirectAbove d c.counts-counts.result pool numbers by_stand c.args.t c.args.number c.with_direct-direct.result in
+    let Depot : DayFacts → Type 0 =
+    λ d. DepotAbove d c.counts-counts.result pool numbers by_pass c.args.t c.args.number c.with_depot.result in
     let DirectBy : Bool → Type 0 = λ b. DirectAbove net.day b pool numbers by_stand c.args.t c.args.number c.with_direct-direct.result in
     let DepotBy : Bool → Type 0 = λ b. DepotAbove net.day b pool numbers by_pass c.args.t c.args.number c.with_depot.result in
-    let direct = subst DirectBy counts_is (subst Direct day_is (c.with_direct-direct.ensures.direct numbers by_stand are' own (subst Stood (sym day_is) stood))) in
-    let depot = subst DepotBy counts_is (subst Depot day_is (c.with_depot.ensures.depot numbers by_pass are' own (subst Passed (sym day_is) passed))) in
+    let direct = subst DirectBy counts_is
+    (subst Direct day_is (c.with_direct-direct.ensures.direct numbers by_stand are' own (subst Stood (sym day_is) stood))) in
+    let depot = subst DepotBy counts_is
+    (subst Depot day_is (c.with_depot.ensures.depot numbers by_pass are' own (subst Passed (sym day_is) passed))) in
     rw (to_z-of_z w64 _ fits)
-    (inl (direct_less net.day net.counts pool numbers by_stand c.args.t c.args.number c.with_direct-direct.result c.with_depot.result (omega (arith, ints, c.with_depot.ensures.low, back)) direct, depot))
+    (inl (
+      direct_less net.day net.counts pool numbers by_stand c.args.t c.args.number c.with_direct-direct.result c.with_depot.result
+          (omega (arith, ints, c.with_depot.ensures.low, back)) direct,
+      depot,
+    ))

@@ -15,7 +15,9 @@ returns-clause-best c =
     let net = c.args.net.now in
     let fits : FitsSigned w64 c.args.limit = search rules in
     let limit : to_z w64 (of_z w64 c.args.limit) ≡ c.args.limit = to_z-of_z w64 c.args.limit fits in
-    let P : ℤ → Type 0 = λ z. IfOk c.best_column.result (λ (answer : Option Column). answer ≡ within z c.args.prices.now (best_of (blocks net) c.args.prices.now c.args.class c.args.group)) in
+    let P : ℤ → Type 0 = λ z. IfOk c.best_column.result
+    (λ (answer : Option Column). answer ≡ within z c.args.prices.now (best_of (blocks net) c.args.prices.now c.args.class c.args.group)) in
     subst P limit (c.best_column.ensures.best c.args.prices.now c.args.group
-    (of_range-tied (opening net.day net.counts c.args.prices.now c.args.pool) (closed_open net.day net.counts c.args.pool) c.args.prices.now c.args.group (block_worth net.day net.counts c.args.class)
+    (of_range-tied (opening net.day net.counts c.args.prices.now c.args.pool) (closed_open net.day net.counts c.args.pool) c.args.prices.now
+    c.args.group (block_worth net.day net.counts c.args.class)
     (opening_tied net.day net.counts c.args.prices.now c.args.pool c.args.class c.requires.there)))

@@ -16,4 +16,6 @@ loop-place-preserved c =
     let fits : FitsSigned w64 c.index.result.now = search rules in
     let read = number_read cells at c.index.result.now there in
     let is : c.index.result.now ≡ number_at cells at = search (rules, read) in
-    rw (to_z-of_z w64 _ fits) (copied_more c.args.cells.now.items cells c.args.base c.args.width c.loop-place.place c.index.result.now less room is c.loop-place.invariant)
+    rw (to_z-of_z w64 _ fits)
+    (copied_more c.args.cells.now.items cells c.args.base c.args.width c.loop-place.place c.index.result.now less
+    room is c.loop-place.invariant)

@@ -8,5 +8,6 @@ use Rattle.place_net.proofs.lengths.length_from.Given as goal
 abbrev pub invariant-loop-to : goal.invariant-loop-to
 invariant-loop-to l = record {
   bounded : l.metres ≤ 1000000 * l.to-index;
-  whole : length_on_top (section_length l.net l.version l.area) l.metres (links_from l.from (drop l.to-index l.points)) ≡ length_over (section_length l.net l.version l.area) (links_from l.fn.first l.points);
+  whole : length_on_top (section_length l.net l.version l.area) l.metres (links_from l.from (drop l.to-index l.points))
+      ≡ length_over (section_length l.net l.version l.area) (links_from l.fn.first l.points);
 }

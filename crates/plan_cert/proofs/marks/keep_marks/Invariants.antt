@@ -12,6 +12,8 @@ invariant-loop-place g l =
     let entry = g.M.MarkRow.entry_of l.shape l.columns in
     record {
       wrong : first_wrong entry l.rows ≡ position_from (λ row. is_none (entry row)) l.place (drop l.place l.rows);
-      of_number : l.marks.of_number ++ marks_in_pass kept.by_number (filter_map entry (drop l.place l.rows)) ≡ marks_in_pass kept.by_number (filter_map entry l.rows);
-      of_cost : l.marks.of_cost ++ marks_in_pass kept.by_cost (filter_map entry (drop l.place l.rows)) ≡ marks_in_pass kept.by_cost (filter_map entry l.rows);
+      of_number : l.marks.of_number ++ marks_in_pass kept.by_number (filter_map entry (drop l.place l.rows))
+          ≡ marks_in_pass kept.by_number (filter_map entry l.rows);
+      of_cost : l.marks.of_cost ++ marks_in_pass kept.by_cost (filter_map entry (drop l.place l.rows))
+          ≡ marks_in_pass kept.by_cost (filter_map entry l.rows);
     }

@@ -24,7 +24,8 @@ returns-then-not-put-clause-wrong c =
     let row = c.index-rows-place.result in
     let at = at-place rows place row c.loop-place-test.true c.index-rows-place.is in
     let says = sym (c.in-Some.ensures.value ∙ ap say c.as_slice.ensures) in
-    wrong-twice say count rows c.loop-place.slots place row (drop (place + 1) rows) c.in-Some.entry c.loop-place.invariant at says c.in-Some.ensures.within (sym c.put.ensures.free ∙ c.if-not-put.true)
+    wrong-twice say count rows c.loop-place.slots place row (drop (place + 1) rows) c.in-Some.entry c.loop-place.invariant at says
+    c.in-Some.ensures.within (sym c.put.ensures.free ∙ c.if-not-put.true)
 
 pub loop-place-preserved : goal.loop-place-preserved
 loop-place-preserved c =
@@ -37,5 +38,7 @@ loop-place-preserved c =
     let slots = c.loop-place.slots in
     let at = at-place rows place row c.loop-place-test.true c.index-rows-place.is in
     let says = sym (c.in-Some.ensures.value ∙ ap say c.as_slice.ensures) in
-    let put = c.put.ensures.put ∙ ap (λ (t : Bool). if t then with_slot slots entry.pass entry.number entry.price else slots) c.if-not-put.false in
-    kept-more say count rows slots c.put.new.self place row entry c.loop-place.invariant at says c.in-Some.ensures.within (sym c.put.ensures.free ∙ c.if-not-put.false) put
+    let put = c.put.ensures.put
+    ∙ ap (λ (t : Bool). if t then with_slot slots entry.pass entry.number entry.price else slots) c.if-not-put.false in
+    kept-more say count rows slots c.put.new.self place row entry c.loop-place.invariant at says c.in-Some.ensures.within
+    (sym c.put.ensures.free ∙ c.if-not-put.false) put

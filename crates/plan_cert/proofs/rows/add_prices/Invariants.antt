@@ -5,4 +5,5 @@ use Rattle.plan_cert.proofs.rows.add_prices.Given as goal
 
 -- the rows so far stand before those that are left
 abbrev pub invariant-loop-place : goal.invariant-loop-place
-invariant-loop-place l = l.rows ++ signed_rows (price_rows l.pass l.place (drop l.place l.prices)) ≡ l.fn.rows ++ signed_rows (price_rows l.pass 0 l.prices)
+invariant-loop-place l =
+    l.rows ++ signed_rows (price_rows l.pass l.place (drop l.place l.prices)) ≡ l.fn.rows ++ signed_rows (price_rows l.pass 0 l.prices)

@@ -8,4 +8,5 @@ loop-preserved c =
     let none : ℕ → Option ℤ = λ n. None in
     let zero : 0 + c.loop.counter ≡ c.loop.counter = omega arith in
     c.in_ok-push.ensures.ok
-    ∙ (ap (λ (slots : List (Option ℤ)). slots ++ None ∷ []) c.loop.invariant ∙ sym (map-range_with_len_more none 0 c.loop.counter c.loop.counter zero))
+    ∙ (ap (λ (slots : List (Option ℤ)). slots ++ None ∷ []) c.loop.invariant
+    ∙ sym (map-range_with_len_more none 0 c.loop.counter c.loop.counter zero))

@@ -17,6 +17,8 @@ returns-clause-plain c =
     let columns = columns_of which.BlockMarks in
     let r1 = block_rows BlockNumber pools one in
     let r2 = block_rows BlockCost pools two in
-    ok-plain c.number_table.result (cert_table which.BlockMarks (all_block_rows c.args.classes.now c.args.one.now c.args.two.now)) (search rules)
+    ok-plain c.number_table.result (cert_table which.BlockMarks (all_block_rows c.args.classes.now c.args.one.now c.args.two.now))
+    (search rules)
     (plain_signed (codes "X_UMARKE") columns (r1 ++ r2) refl
-    (full-both columns r1 r2 (full-map columns (λ (m : BlockMark). block_row BlockNumber (slice_index pools m.class) m) one (λ m. refl)) (full-map columns (λ (m : BlockMark). block_row BlockCost (slice_index pools m.class) m) two (λ m. refl))))
+    (full-both columns r1 r2 (full-map columns (λ (m : BlockMark). block_row BlockNumber (slice_index pools m.class) m) one (λ m. refl))
+    (full-map columns (λ (m : BlockMark). block_row BlockCost (slice_index pools m.class) m) two (λ m. refl))))

@@ -20,7 +20,10 @@ returns-clause-plain c =
     let r3 = class_rows DutyNumber groups 0 three in
     let r4 = class_rows DutyCost groups 0 four in
     let columns = columns_of which.ClassPrices in
-    ok-plain c.number_table.result (cert_table which.ClassPrices (all_class_rows c.args.classes.now c.args.one.now c.args.two.now c.args.three.now c.args.four.now)) (search rules)
+    ok-plain c.number_table.result
+    (cert_table which.ClassPrices (all_class_rows c.args.classes.now c.args.one.now c.args.two.now c.args.three.now c.args.four.now))
+    (search rules)
     (plain_signed (codes "X_KLASSENPREIS") columns (((r1 ++ r2) ++ r3) ++ r4) refl
     (full-both columns ((r1 ++ r2) ++ r3) r4
-    (full-both columns (r1 ++ r2) r3 (full-both columns r1 r2 (full-classes BlockNumber pools 0 one) (full-classes BlockCost pools 0 two)) (full-classes DutyNumber groups 0 three)) (full-classes DutyCost groups 0 four)))
+    (full-both columns (r1 ++ r2) r3 (full-both columns r1 r2 (full-classes BlockNumber pools 0 one) (full-classes BlockCost pools 0 two))
+    (full-classes DutyNumber groups 0 three)) (full-classes DutyCost groups 0 four)))

@@ -17,6 +17,8 @@ returns-clause-plain c =
     let columns = columns_of which.DutyMarks in
     let r3 = duty_rows DutyNumber groups three in
     let r4 = duty_rows DutyCost groups four in
-    ok-plain c.number_table.result (cert_table which.DutyMarks (all_duty_rows c.args.classes.now c.args.three.now c.args.four.now)) (search rules)
+    ok-plain c.number_table.result (cert_table which.DutyMarks (all_duty_rows c.args.classes.now c.args.three.now c.args.four.now))
+    (search rules)
     (plain_signed (codes "X_MARKE") columns (r3 ++ r4) refl
-    (full-both columns r3 r4 (full-map columns (λ (m : Mark). duty_row DutyNumber (slice_index groups m.class) m) three (λ m. refl)) (full-map columns (λ (m : Mark). duty_row DutyCost (slice_index groups m.class) m) four (λ m. refl))))
+    (full-both columns r3 r4 (full-map columns (λ (m : Mark). duty_row DutyNumber (slice_index groups m.class) m) three (λ m. refl))
+    (full-map columns (λ (m : Mark). duty_row DutyCost (slice_index groups m.class) m) four (λ m. refl))))

@@ -18,6 +18,9 @@ returns-clause-plain c =
     let r3 = price_rows DutyNumber 0 three in
     let r4 = price_rows DutyCost 0 four in
     let columns = columns_of which.Prices in
-    ok-plain c.number_table.result (cert_table which.Prices (all_price_rows c.args.one.now c.args.two.now c.args.three.now c.args.four.now)) (search rules)
+    ok-plain c.number_table.result (cert_table which.Prices (all_price_rows c.args.one.now c.args.two.now c.args.three.now c.args.four.now))
+    (search rules)
     (plain_signed (codes "X_PREIS") columns (((r1 ++ r2) ++ r3) ++ r4) refl
-    (full-both columns ((r1 ++ r2) ++ r3) r4 (full-both columns (r1 ++ r2) r3 (full-both columns r1 r2 (full-prices BlockNumber 0 one) (full-prices BlockCost 0 two)) (full-prices DutyNumber 0 three)) (full-prices DutyCost 0 four)))
+    (full-both columns ((r1 ++ r2) ++ r3) r4
+    (full-both columns (r1 ++ r2) r3 (full-both columns r1 r2 (full-prices BlockNumber 0 one) (full-prices BlockCost 0 two))
+    (full-prices DutyNumber 0 three)) (full-prices DutyCost 0 four)))

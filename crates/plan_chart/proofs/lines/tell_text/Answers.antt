@@ -12,8 +12,10 @@ returns g c =
     let fault = c.args.fault in
     let kind = text_kind fault.kind in
     let line = spec.line_of (statuses.Text fault) in
-    let s1 = c.write_part-is_whole.ensures old faults line (joined (decimal fault.line ∷ codes ": " ∷ kind ∷ codes "\n" ∷ [])) (telling_begins old faults line) in
+    let s1 = c.write_part-is_whole.ensures old faults line (joined (decimal fault.line ∷ codes ": " ∷ kind ∷ codes "\n" ∷ []))
+    (telling_begins old faults line) in
     let s2 = c.write_number-is_whole.ensures old faults line (joined (codes ": " ∷ kind ∷ codes "\n" ∷ [])) s1 in
     let s3 = c.write_part-is_whole-2.ensures old faults line (joined (kind ∷ codes "\n" ∷ [])) s2 in
-    let s4 = c.write_part-is_whole-3.ensures old faults line (joined (codes "\n" ∷ [])) (named_part old _ faults _ line kind c.text_kind.result.now (joined (codes "\n" ∷ [])) _ c.text_kind.ensures s3) in
+    let s4 = c.write_part-is_whole-3.ensures old faults line (joined (codes "\n" ∷ []))
+    (named_part old _ faults _ line kind c.text_kind.result.now (joined (codes "\n" ∷ [])) _ c.text_kind.ensures s3) in
     telling_ends old _ faults _ line c.write_part.result (c.write_part.ensures old faults line [] s4)

@@ -18,13 +18,15 @@ returns-in-Some-clause-verdict g c =
     let lists = c.args.lists.now in
     let counts = c.in_ok-counts.counts.items in
     let long : length counts ≡ length p.caps = c.in_ok-counts.ensures.count ∙ c.classes.ensures.value in
-    let P : List ℕ → Type 0 = λ l. IsFirstOf (length p.caps) (λ class. nat_lt (slice_index p.caps class) (slice_index l class)) c.first_over.result in
+    let P : List ℕ → Type 0 =
+    λ l. IsFirstOf (length p.caps) (λ class. nat_lt (slice_index p.caps class) (slice_index l class)) c.first_over.result in
     let Q : Option ℕ → Type 0 = λ o. IsFirstOf (length p.caps) (λ class. nat_lt (slice_index p.caps class) (slice_index counts class)) o in
     let first = subst Q c.in-Some.is (subst P c.as_slice.ensures.value c.first_over.ensures) in
     let found = first-over p lists counts (Some c.in-Some.class) long c.in_ok-counts.ensures.counts first in
     let there = first.0 in
     let below : c.in-Some.class < length counts = omega arith in
-    let read = c.index.ensures ∙ (get_or_default_zero counts c.in-Some.class c.index.result.now below ∙ c.in_ok-counts.ensures.counts c.in-Some.class below) in
+    let read = c.index.ensures
+    ∙ (get_or_default_zero counts c.in-Some.class c.index.result.now below ∙ c.in_ok-counts.ensures.counts c.in-Some.class below) in
     let over : ℕ → PlanVerdict = λ used. Over c.in-Some.class used in
     ap over read ∙ sym (ap (by_classes p lists) found)
 
@@ -34,7 +36,8 @@ returns-in-None-clause-verdict g c =
     let lists = c.args.lists.now in
     let counts = c.in_ok-counts.counts.items in
     let long : length counts ≡ length p.caps = c.in_ok-counts.ensures.count ∙ c.classes.ensures.value in
-    let P : List ℕ → Type 0 = λ l. IsFirstOf (length p.caps) (λ class. nat_lt (slice_index p.caps class) (slice_index l class)) c.first_over.result in
+    let P : List ℕ → Type 0 =
+    λ l. IsFirstOf (length p.caps) (λ class. nat_lt (slice_index p.caps class) (slice_index l class)) c.first_over.result in
     let Q : Option ℕ → Type 0 = λ o. IsFirstOf (length p.caps) (λ class. nat_lt (slice_index p.caps class) (slice_index counts class)) o in
     let first = subst Q c.in-None.is (subst P c.as_slice.ensures.value c.first_over.ensures) in
     let found = first-over p lists counts None long c.in_ok-counts.ensures.counts first in

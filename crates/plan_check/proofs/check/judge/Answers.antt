@@ -21,7 +21,8 @@ returns-in-Some-clause-verdict g c =
     let found = first-off lists counts (Some c.in-Some.item) c.in_ok-counts.ensures.counts first in
     let items = ap (λ (n : ℕ). first_of n 0 (is_off lists)) long in
     let below = first.0 in
-    let read = c.index.ensures ∙ (get_or_default_zero counts c.in-Some.item c.index.result.now below ∙ c.in_ok-counts.ensures.counts c.in-Some.item below) in
+    let read = c.index.ensures
+    ∙ (get_or_default_zero counts c.in-Some.item c.index.result.now below ∙ c.in_ok-counts.ensures.counts c.in-Some.item below) in
     let times : ℕ → PlanVerdict = λ count. Times c.in-Some.item count in
     ap times read ∙ sym (ap (by_items p lists) (sym items ∙ found))
 

@@ -8,7 +8,8 @@ returns-then-not-are_there g c =
     let p = g.C.Columns.problem c.args.columns.now in
     let count = ap (λ (n : ℕ). list_all (λ item. nat_lt item n) c.args.list.now.items) c.items.ensures.value in
     let list = ap (λ (l : List ℕ). list_all (λ item. nat_lt item c.items.result) l) c.as_slice.ensures in
-    sym (no-worth p c.args.list.now (g.met.C.Columns.listed c.args.columns.now) (sym count ∙ (sym list ∙ (sym c.are_there.ensures ∙ c.if-not-are_there.true))))
+    sym (no-worth p c.args.list.now (g.met.C.Columns.listed c.args.columns.now)
+    (sym count ∙ (sym list ∙ (sym c.are_there.ensures ∙ c.if-not-are_there.true))))
 
 pub worth-requires-clause-items : goal.worth-requires-clause-items
 worth-requires-clause-items g c =

@@ -13,5 +13,7 @@ count_numbers-requires c =
     let long = c.in_ok-counts.ensures.count in
     let lists = c.requires in
     let P : List ℕ → Type 0 = λ l. HaveRoom l c.as_slice.result.now in
-    let few : length c.as_slice.result.now < 2 ^ 32 = (let same = ap length classes ∙ ap length made ∙ length-map c.args.lists.now (λ (list : Column). list.class) in omega arith) in
-    subst P (sym counts) (room c.in_ok-counts.counts.items c.as_slice.result.now (λ n below. let below' : n < c.args.count = omega arith in c.in_ok-counts.ensures.zeros n below') few)
+    let few : length c.as_slice.result.now < 2 ^ 32 =
+    (let same = ap length classes ∙ ap length made ∙ length-map c.args.lists.now (λ (list : Column). list.class) in omega arith) in
+    subst P (sym counts) (room c.in_ok-counts.counts.items c.as_slice.result.now (λ n below. let below' : n < c.args.count =
+    omega arith in c.in_ok-counts.ensures.zeros n below') few)

@@ -12,7 +12,8 @@ count_numbers-requires c = λ n below.
     let below' : n < length c.args.counts.now = omega arith in
     let left = c.loop-list.invariant.left n below' in
     let rest = all_items (drop (i + 1) lists) in
-    let step = ap (times n) (items-step lists i c.list-item.result c.loop-list-test.true c.list-item.is) ∙ times-both n c.list-item.result.items rest in
+    let step = ap (times n) (items-step lists i c.list-item.result c.loop-list-test.true c.list-item.is)
+    ∙ times-both n c.list-item.result.items rest in
     let here = ap (times n) c.as_slice.ensures in
     let few = c.requires n below' in
     omega arith
@@ -29,7 +30,8 @@ loop-list-preserved c =
           let below' : n < length c.loop-list.counts = omega arith in
           let left = c.loop-list.invariant.left n below in
           let rest = all_items (drop (i + 1) lists) in
-          let step = ap (times n) (items-step lists i c.list-item.result c.loop-list-test.true c.list-item.is) ∙ times-both n c.list-item.result.items rest in
+          let step = ap (times n) (items-step lists i c.list-item.result c.loop-list-test.true c.list-item.is)
+          ∙ times-both n c.list-item.result.items rest in
           let here = ap (times n) c.as_slice.ensures in
           let risen = c.count_numbers.ensures.risen n below' in
           omega arith;

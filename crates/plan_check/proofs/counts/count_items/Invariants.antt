@@ -7,5 +7,6 @@ use Rattle.plan_check.proofs.counts.count_items.Given as goal
 abbrev pub invariant-loop-list : goal.invariant-loop-list
 invariant-loop-list l = record {
   long : length l.counts ≡ length l.fn.counts;
-  left : (n : ℕ) → n < length l.fn.counts → slice_index l.counts n + times n (all_items (drop l.list-index l.lists)) ≡ slice_index l.fn.counts n + times n (all_items l.lists);
+  left : (n : ℕ) → n < length l.fn.counts → slice_index l.counts n + times n (all_items (drop l.list-index l.lists))
+      ≡ slice_index l.fn.counts n + times n (all_items l.lists);
 }

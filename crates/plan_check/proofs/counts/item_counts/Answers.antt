@@ -9,4 +9,5 @@ count_items-requires c =
     let counts = c.as_mut_slice.ensures.value in
     let long = c.in_ok-counts.ensures.count in
     let P : List ℕ → Type 0 = λ l. HaveRoom l (all_items c.args.lists.now) in
-    subst P (sym counts) (room c.in_ok-counts.counts.items (all_items c.args.lists.now) (λ n below. let below' : n < c.args.count = omega arith in c.in_ok-counts.ensures.zeros n below') c.requires)
+    subst P (sym counts) (room c.in_ok-counts.counts.items (all_items c.args.lists.now) (λ n below. let below' : n < c.args.count =
+    omega arith in c.in_ok-counts.ensures.zeros n below') c.requires)

@@ -5,4 +5,5 @@ use Rattle.plan_command.proofs.flow.path_blocks.Given as goal
 
 -- the columns so far stand before those of the other paths, and each is cheap
 abbrev pub invariant-loop-path : goal.invariant-loop-path
-invariant-loop-path l = (map (block_column l.net.day) l.paths ≡ l.columns ++ map (block_column l.net.day) (drop l.path-index l.paths)) × AreCheap l.columns
+invariant-loop-path l =
+    (map (block_column l.net.day) l.paths ≡ l.columns ++ map (block_column l.net.day) (drop l.path-index l.paths)) × AreCheap l.columns

@@ -13,4 +13,5 @@ cut-requires-clause-worths c = plan_worths c.args.model.now c.args.blocks.now.co
 pub returns-clause-few : goal.returns-clause-few
 returns-clause-few c =
     let facts = c.args.model.now in
-    ok_within c.cut.result (length facts.trips) (search rules) (c.cut.ensures.plan (blocks_of facts false) (blocks_listed (record { day = facts; counts = false })) c.requires.plan)
+    ok_within c.cut.result (length facts.trips) (search rules)
+    (c.cut.ensures.plan (blocks_of facts false) (blocks_listed (record { day = facts; counts = false })) c.requires.plan)

@@ -11,7 +11,8 @@ returns-in-Ok-planned_duties-clause-plan g c =
     let facts = c.args.model.now in
     let asked = asked_of c.args.method.now in
     day_plan facts asked (side_of c.args.blocks) (side_of c.in-Ok-planned_duties.duties) c.requires.blocks
-    (duties_there facts asked c.args.blocks.plan.columns c.in-Ok.pieces c.params.result.now c.in-Ok.ensures.pieces c.params.ensures.settings (side_of c.in-Ok-planned_duties.duties) c.in-Ok-planned_duties.ensures.duties)
+    (duties_there facts asked c.args.blocks.plan.columns c.in-Ok.pieces c.params.result.now c.in-Ok.ensures.pieces c.params.ensures.settings
+    (side_of c.in-Ok-planned_duties.duties) c.in-Ok-planned_duties.ensures.duties)
     (exact facts (c.flow_is_one.ensures.plan facts) (c.flow_is_one.ensures.prices facts) asked (side_of c.args.blocks) c.requires.blocks)
 
 pub returns-in-Err-planned_duties-clause-cause : goal.returns-in-Err-planned_duties-clause-cause
@@ -21,5 +22,6 @@ returns-in-Err-planned_duties-clause-cause g c =
     let cover = c.in-Err-planned_duties.fault in
     let P : List Piece → Type 0 = λ pieces. IsDutiesFault pieces cover c.duties_fault.result in
     cause_over facts asked (side_of c.args.blocks) c.requires.blocks cover c.duties_fault.result
-    (cause_there facts asked c.args.blocks.plan.columns c.in-Ok.pieces c.params.result.now c.in-Ok.ensures.pieces c.params.ensures.settings cover c.in-Err-planned_duties.ensures.cause)
+    (cause_there facts asked c.args.blocks.plan.columns c.in-Ok.pieces c.params.result.now c.in-Ok.ensures.pieces c.params.ensures.settings
+    cover c.in-Err-planned_duties.ensures.cause)
     (subst P (c.as_slice.ensures ∙ c.in-Ok.ensures.pieces) c.duties_fault.ensures)

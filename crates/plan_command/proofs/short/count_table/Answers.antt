@@ -7,4 +7,5 @@ use Rattle.plan_command.proofs.short.count_table.Goals as goal
 pub returns-clause-plain : goal.returns-clause-plain
 returns-clause-plain c =
     ok_plain c.number_table.result (count_table c.args.trips c.args.blocks c.args.pieces c.args.duties) (grind (arith, common_steps))
-    (c.number_table.ensures.plain (count_row c.args.trips c.args.blocks c.args.pieces c.args.duties ∷ []) refl (counts_full c.args.trips c.args.blocks c.args.pieces c.args.duties))
+    (c.number_table.ensures.plain (count_row c.args.trips c.args.blocks c.args.pieces c.args.duties ∷ []) refl
+    (counts_full c.args.trips c.args.blocks c.args.pieces c.args.duties))

@@ -8,4 +8,5 @@ pub text_of-requires-clause-printable : goal.text_of-requires-clause-printable
 text_of-requires-clause-printable g c =
     let P : List Piece → Type 0 = λ pieces. length pieces ≤ 3000 in
     let made = c.in-Ok.ensures in
-    printable c.args.model.now (asked_of c.args.method.now) (side_of c.in-Ok.plan.blocks) (side_of c.in-Ok.plan.duties) made.plan (search rules) (subst P made.pieces made.few) made.cheap_blocks made.cheap_duties
+    printable c.args.model.now (asked_of c.args.method.now) (side_of c.in-Ok.plan.blocks) (side_of c.in-Ok.plan.duties) made.plan
+    (search rules) (subst P made.pieces made.few) made.cheap_blocks made.cheap_duties

@@ -6,4 +6,7 @@ use Rattle.plan_dive.proofs.Ranks.{before_order}
 use Rattle.plan_dive.proofs.order.sort.Goals as goal
 
 pub returns-clause-sorted : goal.returns-clause-sorted
-returns-clause-sorted c = c.in_ok-sort_by.ensures.sorted is_before before_order (answers_always _ (λ a r. is_lt r ≡ is_before a.0.now a.1.0.now) _ (λ f a r q k. let same : r ≡ key_cmp a.0.now a.1.0.now = search rules in ap is_lt same))
+returns-clause-sorted c =
+    c.in_ok-sort_by.ensures.sorted is_before before_order
+    (answers_always _ (λ a r. is_lt r ≡ is_before a.0.now a.1.0.now) _ (λ f a r q k. let same : r ≡ key_cmp a.0.now a.1.0.now =
+    search rules in ap is_lt same))

@@ -4,7 +4,8 @@ use Rattle.plan_params.proofs.FaultLemmas.{few_groups, few_pools, memory_is}
 use Rattle.plan_params.proofs.reading.read_params.Goals as goal
 
 pub returns-in-Some-clause-memory : goal.returns-in-Some-clause-memory
-returns-in-Some-clause-memory c = memory_is c.args.net.now c.args.version (fault_of c.in-Some.found) c.refusal_of.result (sym c.in-Some.ensures) c.refusal_of.ensures
+returns-in-Some-clause-memory c =
+    memory_is c.args.net.now c.args.version (fault_of c.in-Some.found) c.refusal_of.result (sym c.in-Some.ensures) c.refusal_of.ensures
 
 pub read_faultless-requires-clause-groups : goal.read_faultless-requires-clause-groups
 read_faultless-requires-clause-groups c = few_groups c.args.net.now c.args.version (sym c.in_default.ensures)

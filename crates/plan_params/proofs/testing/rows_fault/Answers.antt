@@ -12,7 +12,9 @@ returns-in-Some c =
     let rule = rule_of c.args.rule.now in
     let row = c.as_slice.result.now in
     let at : drop place rows ≡ row ∷ drop (place + 1) rows =
-    drop_item rows place c.index-rows-place.result c.loop-place-test.true c.index-rows-place.is ∙ ap (λ r. r ∷ drop (place + 1) rows) (sym c.as_slice.ensures) in
+    drop_item rows place c.index-rows-place.result c.loop-place-test.true c.index-rows-place.is
+    ∙ ap (λ r. r ∷ drop (place + 1) rows) (sym c.as_slice.ensures) in
     ap (λ n. Some (fault c.in-Some.kind rule.name n)) c.number_of.ensures
-    ∙ sym (row_first c.args.net.now c.args.version rule place row (drop place rows) (drop (place + 1) rows) c.in-Some.kind at (sym c.in-Some.ensures))
+    ∙ sym (row_first c.args.net.now c.args.version rule place row (drop place rows) (drop (place + 1) rows)
+    c.in-Some.kind at (sym c.in-Some.ensures))
     ∙ c.loop-place.invariant

@@ -6,4 +6,5 @@ use Rattle.plan_params.proofs.testing.rows_fault.Given as goal
 
 -- nothing is wrong so far
 abbrev pub invariant-loop-place : goal.invariant-loop-place
-invariant-loop-place l = first (row_faults l.net l.version (rule_of l.rule) l.place (drop l.place l.rows)) ≡ first (row_faults l.net l.version (rule_of l.rule) 0 l.rows)
+invariant-loop-place l = first (row_faults l.net l.version (rule_of l.rule) l.place (drop l.place l.rows))
+    ≡ first (row_faults l.net l.version (rule_of l.rule) 0 l.rows)

@@ -7,4 +7,5 @@ use Rattle.plan_read.proofs.parts.part_entries.Given as goal
 
 -- what is given so far, and by the rows that are left, is what all rows give
 abbrev pub invariant-loop-place : goal.invariant-loop-place
-invariant-loop-place l = said (λ row. part_entry l.counts) Parts (map (triple_at l.table.columns) l.rows) ≡ said_on (λ row. part_entry l.counts) Parts l.entries l.place (map (triple_at l.table.columns) (drop l.place l.rows))
+invariant-loop-place l = said (λ row. part_entry l.counts) Parts (map (triple_at l.table.columns) l.rows)
+    ≡ said_on (λ row. part_entry l.counts) Parts l.entries l.place (map (triple_at l.table.columns) (drop l.place l.rows))

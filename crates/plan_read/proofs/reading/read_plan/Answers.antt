@@ -5,4 +5,5 @@ pub returns-in-Ok-clause-read : goal.returns-in-Ok-clause-read
 returns-in-Ok-clause-read c = text-read c.args.day.now c.args.tables.now c.in-Ok.text c.in-Ok.ensures.said
 
 pub returns-in-Err-clause-read : goal.returns-in-Err-clause-read
-returns-in-Err-clause-read c = fault-read c.args.day.now c.args.tables.now c.in-Err.fault c.named.result c.named.ensures c.in-Err.ensures.said
+returns-in-Err-clause-read c =
+    fault-read c.args.day.now c.args.tables.now c.in-Err.fault c.named.result c.named.ensures c.in-Err.ensures.said

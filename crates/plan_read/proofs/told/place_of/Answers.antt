@@ -9,5 +9,6 @@ pub returns : goal.returns
 returns c =
     let ts = c.args.told.now in
     let fid = c.args.fid in
-    let point = IsPartitionPoint-from_clause (λ (t : Told). nat_lt (fid_of t) fid) ts c.partition_point.result c.partition_point.ensures.partitioned (IsPartitionedBy-ltb fid_of ts fid c.requires) (λ a r f' k. search rules) in
+    let point = IsPartitionPoint-from_clause (λ (t : Told). nat_lt (fid_of t) fid) ts c.partition_point.result
+    c.partition_point.ensures.partitioned (IsPartitionedBy-ltb fid_of ts fid c.requires) (λ a r f' k. search rules) in
     trip-halved fid ts c.partition_point.result c.requires point c.partition_point.ensures.bound

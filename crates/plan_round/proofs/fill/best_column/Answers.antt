@@ -13,7 +13,8 @@ worth-worth-requires-clause-class g c =
     let p = g.C.Columns.problem c.args.columns.now in
     let column = c.index-part-place.result in
     let inside : c.loop-place.place < length c.args.part.now = omega arith in
-    let is : IsColumn p column = subst (IsColumn p) (sym c.index-part-place.is) (AreColumns-get p c.args.part.now c.loop-place.place column inside c.requires.part) in
+    let is : IsColumn p column =
+    subst (IsColumn p) (sym c.index-part-place.is) (AreColumns-get p c.args.part.now c.loop-place.place column inside c.requires.part) in
     is.0
 
 pub worth-worth-requires-clause-items : goal.worth-worth-requires-clause-items
@@ -21,7 +22,8 @@ worth-worth-requires-clause-items g c =
     let p = g.C.Columns.problem c.args.columns.now in
     let column = c.index-part-place.result in
     let inside : c.loop-place.place < length c.args.part.now = omega arith in
-    let is : IsColumn p column = subst (IsColumn p) (sym c.index-part-place.is) (AreColumns-get p c.args.part.now c.loop-place.place column inside c.requires.part) in
+    let is : IsColumn p column =
+    subst (IsColumn p) (sym c.index-part-place.is) (AreColumns-get p c.args.part.now c.loop-place.place column inside c.requires.part) in
     let below : AllBelow p.items column.items = (g.met.C.Columns.listed c.args.columns.now column.class column.items column.worth is.1).2 in
     let list = c.as_slice-in-loop-place.ensures.value ∙ c.in_ok-insert_into.ensures ∙ ap (put_in c.args.item) c.as_slice.ensures in
     subst (AllBelow p.items) (sym list) (AllBelow-put_in p.items c.args.item column.items c.requires.item below)

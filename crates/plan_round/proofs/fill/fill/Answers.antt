@@ -13,7 +13,8 @@ pub place_item-requires-clause-part : goal.place_item-requires-clause-part
 place_item-requires-clause-part g c =
     let p = g.C.Columns.problem c.args.columns.now in
     let most : c.loop-item.item ≤ p.items = omega (arith, c.items-item-end.ensures.value) in
-    (filled-so_far p c.args.draft.columns c.loop-item.item c.loop-item.part.columns most c.requires.part c.loop-item.invariant.so_far).part.worths
+    (filled-so_far p c.args.draft.columns c.loop-item.item c.loop-item.part.columns most c.requires.part
+    c.loop-item.invariant.so_far).part.worths
 
 pub returns-in-Ok-false-clause-fault : goal.returns-in-Ok-false-clause-fault
 returns-in-Ok-false-clause-fault g c =
@@ -24,7 +25,8 @@ returns-in-Ok-false-clause-fault g c =
     let less : n < p.items = omega (arith, c.items-item-end.ensures.value) in
     let most : n ≤ p.items = omega arith in
     let filled = filled-so_far p start n columns most c.requires.part c.loop-item.invariant.so_far in
-    let free : is_free columns n ≡ true = free-still p start n columns filled ∙ sym (c.requires.free n (omega (arith, c.requires.items))) ∙ c.if-free-item.true in
+    let free : is_free columns n ≡ true =
+    free-still p start n columns filled ∙ sym (c.requires.free n (omega (arith, c.requires.items))) ∙ c.if-free-item.true in
     let placed = subst (IsPlaced p n columns c.place_item.new.draft.columns) c.in-Ok-false.field-0-test c.in-Ok-false.ensures.placed in
     let is : round_items p p.items start ≡ left n columns = left-at p start n columns less c.loop-item.invariant.so_far free placed.0 in
     let stuck : IsStuck p n columns = stuck-at p start n columns c.requires.part is in
@@ -72,4 +74,5 @@ pub returns-clause-plan : goal.returns-clause-plan
 returns-clause-plan g c =
     let p = g.C.Columns.problem c.args.columns.now in
     let end : c.loop-item.item ≡ p.items = omega (arith, c.items-item-end.ensures.value) in
-    plan-at p c.args.draft.columns c.loop-item.part.columns c.requires.part (ap (λ k. round_items p k c.args.draft.columns) (sym end) ∙ c.loop-item.invariant.so_far)
+    plan-at p c.args.draft.columns c.loop-item.part.columns c.requires.part (ap (λ k. round_items p k c.args.draft.columns) (sym end)
+    ∙ c.loop-item.invariant.so_far)

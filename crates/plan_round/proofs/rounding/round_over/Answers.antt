@@ -10,5 +10,8 @@ pub fill-requires-clause-part : goal.fill-requires-clause-part
 fill-requires-clause-part g c =
     let p = g.C.Columns.problem c.args.columns.now in
     let ordered : List Column = picked c.args.pool.now c.args.places.now in
-    let is : c.take_all.new.draft.columns ≡ taken p [] ordered = c.in-Ok-take_all.ensures.taken ∙ ap (λ (l : List Column). taken p l ordered) c.new.ensures in
-    subst (IsPart p) (sym is) (taken-part p [] ordered (g.met.C.Columns.listed c.args.columns.now) (picked-columns p c.args.pool.now c.args.places.now c.requires.pool c.requires.places) (no_columns p))
+    let is : c.take_all.new.draft.columns ≡ taken p [] ordered =
+    c.in-Ok-take_all.ensures.taken ∙ ap (λ (l : List Column). taken p l ordered) c.new.ensures in
+    subst (IsPart p) (sym is)
+    (taken-part p [] ordered (g.met.C.Columns.listed c.args.columns.now)
+    (picked-columns p c.args.pool.now c.args.places.now c.requires.pool c.requires.places) (no_columns p))

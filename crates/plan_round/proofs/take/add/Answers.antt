@@ -21,7 +21,8 @@ returns-clause-counted c =
     let new : Column = record { class = class; worth = c.args.column.now.worth; items = c.in_ok-items.items } in
     let n : ℕ = get_or c.as_slice-2.result.now class 0 in
     let is : n ≡ get_or counts class 0 = ap (λ (l : List ℕ). get_or l class 0) c.as_slice-2.ensures in
-    let counted : IsCounted (columns ++ new ∷ []) (set counts class (n + 1)) = counted-push columns counts new n c.requires.class is c.requires.counted in
+    let counted : IsCounted (columns ++ new ∷ []) (set counts class (n + 1)) =
+    counted-push columns counts new n c.requires.class is c.requires.counted in
     let P : List Column → Type 0 = λ l. IsCounted l (set counts class (n + 1)) in
     let Q : List ℕ → Type 0 = λ l. IsCounted c.push.new.self l in
     subst Q (sym c.set.ensures) (subst P (sym c.in_ok-push.ensures.ok) counted)

@@ -15,6 +15,8 @@ returns-then-not-free-item c =
     let k = c.loop-item.item-index in
     let item = get_or list k 0 in
     let taken : get_or c.args.free.now item false ≡ false = search rules in
-    let is : is_free part item ≡ false = sym (c.requires.free item (AllBelow-get _ list k c.requires.items c.loop-item-test.true)) ∙ taken in
-    let here : all_free part (drop k list) ≡ false = ap (all_free part) (drop-cons list k 0 c.loop-item-test.true) ∙ ap (λ b. b && all_free part (drop (suc k) list)) is in
+    let is : is_free part item ≡ false =
+    sym (c.requires.free item (AllBelow-get _ list k c.requires.items c.loop-item-test.true)) ∙ taken in
+    let here : all_free part (drop k list) ≡ false =
+    ap (all_free part) (drop-cons list k 0 c.loop-item-test.true) ∙ ap (λ b. b && all_free part (drop (suc k) list)) is in
     sym (c.loop-item.invariant ∙ here)

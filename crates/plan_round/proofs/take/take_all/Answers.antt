@@ -16,14 +16,16 @@ take_column-requires-clause-column g c =
     let p = g.C.Columns.problem c.args.columns.now in
     let column = c.index-pool-place.result in
     let place = get_or c.args.places.now c.loop-place.place-index 0 in
-    let inside : place < length c.args.pool.now = AllBelow-get _ c.args.places.now c.loop-place.place-index c.requires.places c.loop-place-test.true in
+    let inside : place < length c.args.pool.now =
+    AllBelow-get _ c.args.places.now c.loop-place.place-index c.requires.places c.loop-place-test.true in
     subst (IsColumn p) (sym c.index-pool-place.is) (AreColumns-get p c.args.pool.now place column inside c.requires.pool)
 
 pub take_column-requires-clause-worth : goal.take_column-requires-clause-worth
 take_column-requires-clause-worth g c =
     let column = c.index-pool-place.result in
     let place = get_or c.args.places.now c.loop-place.place-index 0 in
-    let inside : place < length c.args.pool.now = AllBelow-get _ c.args.places.now c.loop-place.place-index c.requires.places c.loop-place-test.true in
+    let inside : place < length c.args.pool.now =
+    AllBelow-get _ c.args.places.now c.loop-place.place-index c.requires.places c.loop-place-test.true in
     let same = ap (λ (x : Column). x.worth) c.index-pool-place.is in
     omega (arith, AreCheap-get c.args.pool.now place column c.requires.worths inside)
 
@@ -37,10 +39,13 @@ loop-place-preserved g c =
     let place = get_or places t 0 in
     let inside : place < length pool = AllBelow-get _ places t c.requires.places c.loop-place-test.true in
     let rest : List Column = picked pool (drop (t + 1) places) in
-    let column : c.index-pool-place.result ≡ column_at pool place = column-there pool place c.index-pool-place.result inside c.index-pool-place.is in
-    let new : c.take_column.new.draft.columns ≡ with_taken p columns (column_at pool place) = c.in_ok-take_column.ensures.taken ∙ ap (with_taken p columns) column in
+    let column : c.index-pool-place.result ≡ column_at pool place =
+    column-there pool place c.index-pool-place.result inside c.index-pool-place.is in
+    let new : c.take_column.new.draft.columns ≡ with_taken p columns (column_at pool place) =
+    c.in_ok-take_column.ensures.taken ∙ ap (with_taken p columns) column in
     record {
-      taken = ap (λ (l : List Column). taken p l rest) new ∙ sym (taken-more p pool columns places t c.loop-place-test.true) ∙ c.loop-place.invariant.taken;
+      taken = ap (λ (l : List Column). taken p l rest) new ∙ sym (taken-more p pool columns places t c.loop-place-test.true)
+          ∙ c.loop-place.invariant.taken;
       cheap = c.in_ok-take_column.ensures.cheap;
       sized = c.in_ok-take_column.ensures.sized ∙ c.loop-place.invariant.sized;
       counted = c.in_ok-take_column.ensures.counted;

@@ -14,15 +14,19 @@ written-requires g c = is_done_so (task_of c.args.request.now) c.in-Ok.outcome.e
 
 pub returns-in-Ok-clause-refused : goal.returns-in-Ok-clause-refused
 returns-in-Ok-clause-refused g c = λ status settled some none.
-    absurd (called_for (told_for (g.F.Files.held c.args.files.now) c.args.request.now.names status) (λ contents. IsRefusal (task_of c.args.request.now) contents c.args.request.now.day status) ⊥ some (c.in-Ok.ensures.refused status settled))
+    absurd (called_for (told_for (g.F.Files.held c.args.files.now) c.args.request.now.names status)
+    (λ contents. IsRefusal (task_of c.args.request.now) contents c.args.request.now.day status) ⊥ some
+    (c.in-Ok.ensures.refused status settled))
 
 pub returns-in-Err-clause-refused : goal.returns-in-Err-clause-refused
 returns-in-Err-clause-refused g c = λ status settled some none.
-    refused_run (task_of c.args.request.now) (g.F.Files.held c.args.files.now) c.args.request.now.names c.args.request.now.day _ _ c.in-Err.status status (c.in-Err.ensures.refused status settled) c.in-Err.ensures.cause some none
+    refused_run (task_of c.args.request.now) (g.F.Files.held c.args.files.now) c.args.request.now.names
+    c.args.request.now.day _ _ c.in-Err.status status (c.in-Err.ensures.refused status settled) c.in-Err.ensures.cause some none
 
 pub returns-in-Err-clause-complete : goal.returns-in-Err-clause-complete
 returns-in-Err-clause-complete g c = λ fixed some none quiet.
-    inr (complete_run (task_of c.args.request.now) (g.F.Files.held c.args.files.now) c.args.request.now.names c.args.request.now.day _ _ c.in-Err.status (λ end bytes. c.in-Err.ensures.complete end bytes fixed) c.in-Err.ensures.cause some none)
+    inr (complete_run (task_of c.args.request.now) (g.F.Files.held c.args.files.now) c.args.request.now.names
+    c.args.request.now.day _ _ c.in-Err.status (λ end bytes. c.in-Err.ensures.complete end bytes fixed) c.in-Err.ensures.cause some none)
 
 pub returns-in-Ok-clause-only : goal.returns-in-Ok-clause-only
 returns-in-Ok-clause-only g c = λ end bytes ok fixed text.
@@ -30,7 +34,8 @@ returns-in-Ok-clause-only g c = λ end bytes ok fixed text.
     let day = c.args.request.now.day in
     let made = c.in-Ok.outcome in
     if_told (held_under (g.F.Files.held c.args.files.now) c.args.request.now.names) _ (λ contents told answer.
-    let first = of_told (held_under (g.F.Files.held c.args.files.now) c.args.request.now.names) (λ contents. IsAnswer task contents day made.ending made.text) contents told c.in-Ok.ensures.written in
+    let first = of_told (held_under (g.F.Files.held c.args.files.now) c.args.request.now.names)
+    (λ contents. IsAnswer task contents day made.ending made.text) contents told c.in-Ok.ensures.written in
     let same : made.text ≡ bytes = one_answer task fixed text contents day made.ending end made.text bytes first answer in
     same_taken _ _ _ _ made.text bytes made.ending c.written.result same c.written.ensures.written (rw ok refl))
 

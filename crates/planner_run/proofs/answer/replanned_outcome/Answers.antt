@@ -11,12 +11,14 @@ pub returns-in-Ok-clause-written : goal.returns-in-Ok-clause-written
 returns-in-Ok-clause-written g c =
     let r = c.args.request.now in
     let s = c.split_earlier-planning in
-    replan_whole r.command r.effort r.flow (length r.names) c.args.moment c.requires.replan c.args.parts s.result.planning s.result.plan c.in-Ok.tables.items r.day c.replanned_text.result s.ensures.parts
+    replan_whole r.command r.effort r.flow (length r.names) c.args.moment c.requires.replan c.args.parts s.result.planning s.result.plan
+    c.in-Ok.tables.items r.day c.replanned_text.result s.ensures.parts
     c.requires.number c.in-Ok.ensures.all (rw (← c.from_vec.ensures, ← c.as_slice.ensures) c.replanned_text.ensures.written)
 
 pub returns-in-Ok-clause-cause : goal.returns-in-Ok-clause-cause
 returns-in-Ok-clause-cause g c =
     let r = c.args.request.now in
     let s = c.split_earlier-planning in
-    replan_refused r.command r.effort r.flow (length r.names) c.args.moment c.requires.replan c.args.parts s.result.planning s.result.plan c.in-Ok.tables.items r.day c.replanned_text.result s.ensures.parts
+    replan_refused r.command r.effort r.flow (length r.names) c.args.moment c.requires.replan c.args.parts s.result.planning s.result.plan
+    c.in-Ok.tables.items r.day c.replanned_text.result s.ensures.parts
     c.requires.number c.in-Ok.ensures.all (rw (← c.from_vec.ensures, ← c.as_slice.ensures) c.replanned_text.ensures.cause)

@@ -13,7 +13,8 @@ returns g c = λ day.
     let first = c.args.first in
     let last = c.args.last in
     let line = spec.line_of day (statuses.Input (inputs.Days first last)) in
-    let s1 = c.write_part-is_whole.ensures old faults line (joined (decimal first ∷ codes " to " ∷ decimal last ∷ codes "\n" ∷ [])) (telling_begins old faults line) in
+    let s1 = c.write_part-is_whole.ensures old faults line (joined (decimal first ∷ codes " to " ∷ decimal last ∷ codes "\n" ∷ []))
+    (telling_begins old faults line) in
     let s2 = c.write_number-is_whole.ensures old faults line (joined (codes " to " ∷ decimal last ∷ codes "\n" ∷ [])) s1 in
     let s3 = c.write_part-is_whole-2.ensures old faults line (joined (decimal last ∷ codes "\n" ∷ [])) s2 in
     let s4 = c.write_number-is_whole-2.ensures old faults line (joined (codes "\n" ∷ [])) s3 in

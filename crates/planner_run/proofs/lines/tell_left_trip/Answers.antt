@@ -8,7 +8,8 @@ returns g c =
     let old = g.E.Sink.taken c.args.err.now in
     let faults = g.E.Sink.faults c.args.err.now in
     let line = joined (codes "not placed: " ∷ codes "trip " ∷ decimal c.args.fid ∷ codes "\n" ∷ []) in
-    let s1 = c.write_part-is_whole.ensures old faults line (joined (codes "trip " ∷ decimal c.args.fid ∷ codes "\n" ∷ [])) (telling_begins old faults line) in
+    let s1 = c.write_part-is_whole.ensures old faults line (joined (codes "trip " ∷ decimal c.args.fid ∷ codes "\n" ∷ []))
+    (telling_begins old faults line) in
     let s2 = c.write_part-is_whole-2.ensures old faults line (joined (decimal c.args.fid ∷ codes "\n" ∷ [])) s1 in
     let s3 = c.write_number-is_whole.ensures old faults line (joined (codes "\n" ∷ [])) s2 in
     telling_ends old _ faults _ line c.write_part.result (c.write_part.ensures old faults line [] s3)

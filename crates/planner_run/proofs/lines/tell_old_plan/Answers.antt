@@ -11,8 +11,12 @@ returns g c =
     let number = reason_number c.args.reason.now in
     let name = reason_name c.args.reason.now in
     let line = joined (codes "old plan " ∷ decimal number ∷ codes " " ∷ name ∷ codes "\n" ∷ []) in
-    let s1 = c.write_part-is_whole.ensures old faults line (joined (decimal number ∷ codes " " ∷ name ∷ codes "\n" ∷ [])) (telling_begins old faults line) in
-    let s2 = c.write_number-is_whole.ensures old faults line (joined (codes " " ∷ name ∷ codes "\n" ∷ [])) (named_part old _ faults _ line (decimal number) (decimal c.reason_number.result) (joined (codes " " ∷ name ∷ codes "\n" ∷ [])) _ (ap decimal c.reason_number.ensures) s1) in
+    let s1 = c.write_part-is_whole.ensures old faults line (joined (decimal number ∷ codes " " ∷ name ∷ codes "\n" ∷ []))
+    (telling_begins old faults line) in
+    let s2 = c.write_number-is_whole.ensures old faults line (joined (codes " " ∷ name ∷ codes "\n" ∷ []))
+    (named_part old _ faults _ line (decimal number) (decimal c.reason_number.result)
+    (joined (codes " " ∷ name ∷ codes "\n" ∷ [])) _ (ap decimal c.reason_number.ensures) s1) in
     let s3 = c.write_part-is_whole-2.ensures old faults line (joined (name ∷ codes "\n" ∷ [])) s2 in
-    let s4 = c.write_part-is_whole-3.ensures old faults line (joined (codes "\n" ∷ [])) (named_part old _ faults _ line name c.reason_name.result.now (joined (codes "\n" ∷ [])) _ c.reason_name.ensures s3) in
+    let s4 = c.write_part-is_whole-3.ensures old faults line (joined (codes "\n" ∷ []))
+    (named_part old _ faults _ line name c.reason_name.result.now (joined (codes "\n" ∷ [])) _ c.reason_name.ensures s3) in
     telling_ends old _ faults _ line c.write_part.result (c.write_part.ensures old faults line [] s4)

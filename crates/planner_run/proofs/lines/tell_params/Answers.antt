@@ -13,10 +13,15 @@ returns g c = λ day.
     let fault = c.args.fault.now in
     let kind = spec.param_kind fault.kind in
     let line = spec.line_of day (statuses.Input (inputs.Params fault)) in
-    let s1 = c.write_part-is_whole.ensures old faults line (joined (fault.table ∷ codes " row " ∷ decimal fault.row ∷ codes ": " ∷ kind ∷ codes "\n" ∷ [])) (telling_begins old faults line) in
-    let s2 = c.write_part-is_whole-2.ensures old faults line (joined (codes " row " ∷ decimal fault.row ∷ codes ": " ∷ kind ∷ codes "\n" ∷ [])) (named_part old _ faults _ line fault.table c.as_slice.result.now (joined (codes " row " ∷ decimal fault.row ∷ codes ": " ∷ kind ∷ codes "\n" ∷ [])) _ c.as_slice.ensures s1) in
+    let s1 = c.write_part-is_whole.ensures old faults line
+    (joined (fault.table ∷ codes " row " ∷ decimal fault.row ∷ codes ": " ∷ kind ∷ codes "\n" ∷ [])) (telling_begins old faults line) in
+    let s2 = c.write_part-is_whole-2.ensures old faults line
+    (joined (codes " row " ∷ decimal fault.row ∷ codes ": " ∷ kind ∷ codes "\n" ∷ []))
+    (named_part old _ faults _ line fault.table c.as_slice.result.now
+    (joined (codes " row " ∷ decimal fault.row ∷ codes ": " ∷ kind ∷ codes "\n" ∷ [])) _ c.as_slice.ensures s1) in
     let s3 = c.write_part-is_whole-3.ensures old faults line (joined (decimal fault.row ∷ codes ": " ∷ kind ∷ codes "\n" ∷ [])) s2 in
     let s4 = c.write_number-is_whole.ensures old faults line (joined (codes ": " ∷ kind ∷ codes "\n" ∷ [])) s3 in
     let s5 = c.write_part-is_whole-4.ensures old faults line (joined (kind ∷ codes "\n" ∷ [])) s4 in
-    let s6 = c.write_part-is_whole-5.ensures old faults line (joined (codes "\n" ∷ [])) (named_part old _ faults _ line kind c.param_kind.result.now (joined (codes "\n" ∷ [])) _ c.param_kind.ensures s5) in
+    let s6 = c.write_part-is_whole-5.ensures old faults line (joined (codes "\n" ∷ []))
+    (named_part old _ faults _ line kind c.param_kind.result.now (joined (codes "\n" ∷ [])) _ c.param_kind.ensures s5) in
     telling_ends old _ faults _ line c.write_part.result (c.write_part.ensures old faults line [] s6)

@@ -13,10 +13,14 @@ returns g c = λ day.
     let fault = c.args.fault.now in
     let kind = text_kind fault.kind in
     let line = spec.line_of day (statuses.Input (inputs.Text c.args.file fault)) in
-    let s1 = c.write_part-is_whole.ensures old faults line (joined (decimal c.args.file ∷ codes " line " ∷ decimal fault.line ∷ codes ": " ∷ kind ∷ codes "\n" ∷ [])) (telling_begins old faults line) in
-    let s2 = c.write_number-is_whole.ensures old faults line (joined (codes " line " ∷ decimal fault.line ∷ codes ": " ∷ kind ∷ codes "\n" ∷ [])) s1 in
+    let s1 = c.write_part-is_whole.ensures old faults line
+    (joined (decimal c.args.file ∷ codes " line " ∷ decimal fault.line ∷ codes ": " ∷ kind ∷ codes "\n" ∷ []))
+    (telling_begins old faults line) in
+    let s2 = c.write_number-is_whole.ensures old faults line
+    (joined (codes " line " ∷ decimal fault.line ∷ codes ": " ∷ kind ∷ codes "\n" ∷ [])) s1 in
     let s3 = c.write_part-is_whole-2.ensures old faults line (joined (decimal fault.line ∷ codes ": " ∷ kind ∷ codes "\n" ∷ [])) s2 in
     let s4 = c.write_number-is_whole-2.ensures old faults line (joined (codes ": " ∷ kind ∷ codes "\n" ∷ [])) s3 in
     let s5 = c.write_part-is_whole-3.ensures old faults line (joined (kind ∷ codes "\n" ∷ [])) s4 in
-    let s6 = c.write_part-is_whole-4.ensures old faults line (joined (codes "\n" ∷ [])) (named_part old _ faults _ line kind c.text_kind.result.now (joined (codes "\n" ∷ [])) _ c.text_kind.ensures s5) in
+    let s6 = c.write_part-is_whole-4.ensures old faults line (joined (codes "\n" ∷ []))
+    (named_part old _ faults _ line kind c.text_kind.result.now (joined (codes "\n" ∷ [])) _ c.text_kind.ensures s5) in
     telling_ends old _ faults _ line c.write_part.result (c.write_part.ensures old faults line ([]) s6)

@@ -8,7 +8,8 @@ returns g c =
     let old = g.E.Sink.taken c.args.err.now in
     let faults = g.E.Sink.faults c.args.err.now in
     let line = joined (codes "trip " ∷ decimal c.args.fid ∷ codes ": " ∷ c.args.word.now ∷ codes "\n" ∷ []) in
-    let s1 = c.write_part-is_whole.ensures old faults line (joined (decimal c.args.fid ∷ codes ": " ∷ c.args.word.now ∷ codes "\n" ∷ [])) (telling_begins old faults line) in
+    let s1 = c.write_part-is_whole.ensures old faults line (joined (decimal c.args.fid ∷ codes ": " ∷ c.args.word.now ∷ codes "\n" ∷ []))
+    (telling_begins old faults line) in
     let s2 = c.write_number-is_whole.ensures old faults line (joined (codes ": " ∷ c.args.word.now ∷ codes "\n" ∷ [])) s1 in
     let s3 = c.write_part-is_whole-2.ensures old faults line (joined (c.args.word.now ∷ codes "\n" ∷ [])) s2 in
     let s4 = c.write_part-is_whole-3.ensures old faults line (joined (codes "\n" ∷ [])) s3 in

@@ -12,4 +12,5 @@ write_tables-requires c =
     subst P (sym (c.as_slice.ensures ∙ c.in_ok-tables.ensures)) (made_plain c.args.making.seed c.args.making.trips)
 
 pub returns : goal.returns
-returns c = text_of_tables c.write_tables.result c.as_slice.result.now (made_tables c.args.making.seed c.args.making.trips) c.write_tables.ensures.spelling (c.as_slice.ensures ∙ c.in_ok-tables.ensures)
+returns c = text_of_tables c.write_tables.result c.as_slice.result.now (made_tables c.args.making.seed c.args.making.trips)
+    c.write_tables.ensures.spelling (c.as_slice.ensures ∙ c.in_ok-tables.ensures)

@@ -7,5 +7,6 @@ abbrev pub invariant-loop-point : goal.invariant-loop-point
 invariant-loop-point l = record {
   few : length l.points ≤ l.point-index;
   count : length l.numbers ≡ l.point-index;
-  so_far : (i : ℕ) (point : Point) → i < l.point-index → slice_get l.given i ≡ Some point → slice_get l.points (slice_index l.numbers i) ≡ Some point;
+  so_far : (i : ℕ) (point : Point) → i < l.point-index → slice_get l.given i ≡ Some point →
+      slice_get l.points (slice_index l.numbers i) ≡ Some point;
 }

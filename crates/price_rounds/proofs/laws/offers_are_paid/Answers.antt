@@ -16,4 +16,5 @@ returns-clause-offer g c = λ columns kept offer. kept_bound_is (g.C.Columns.pro
 
 pub returns-clause-bound : goal.returns-clause-bound
 returns-clause-bound g c = λ columns kept offer.
-    kept_is_bound (g.C.Columns.problem columns) kept (c.least_values.ensures.lists columns) (c.least_is_paid.ensures.least columns) (c.weak_duality.ensures columns) offer
+    kept_is_bound (g.C.Columns.problem columns) kept (c.least_values.ensures.lists columns) (c.least_is_paid.ensures.least columns)
+    (c.weak_duality.ensures columns) offer

@@ -19,16 +19,24 @@ loop-price-preserved c =
     let high = get_high 10000000000000 c.args.prices.now c.loop-price.price-index none below c.requires in
     let x : ℤ = (get_or c.args.prices.now c.loop-price.price-index none).0 in
     let x_fits : FitsSigned w64 (get_or c.args.prices.now c.loop-price.price-index none).0 = omega (arith, ints, low, high) in
-    let x_is : to_z w64 (of_z w64 (get_or c.args.prices.now c.loop-price.price-index none).0) ≡ (get_or c.args.prices.now c.loop-price.price-index none).0 = to_z-of_z x_fits in
+    let x_is : to_z w64 (of_z w64 (get_or c.args.prices.now c.loop-price.price-index none).0)
+    ≡ (get_or c.args.prices.now c.loop-price.price-index none).0 = to_z-of_z x_fits in
     let m_fits : FitsSigned w64 c.max-greatest.result = search rules in
     let m_is : to_z w64 (of_z w64 c.max-greatest.result) ≡ c.max-greatest.result = to_z-of_z m_fits in
-    let value : to_z w64 (of_z w64 c.max-greatest.result) ≡ int_max (get_or c.args.prices.now c.loop-price.price-index none).0 (to_z w64 c.loop-price.greatest-bits) = omega (arith, ints, clamps, x_is, m_is, c.max-greatest.ensures.value) in
-    let split : greatest_of (drop c.loop-price.price-index c.args.prices.now) ≡ int_max (get_or c.args.prices.now c.loop-price.price-index none).0 (greatest_of (drop (c.loop-price.price-index + 1) c.args.prices.now)) =
+    let value : to_z w64 (of_z w64 c.max-greatest.result) ≡ int_max (get_or c.args.prices.now c.loop-price.price-index none).0
+    (to_z w64 c.loop-price.greatest-bits) = omega (arith, ints, clamps, x_is, m_is, c.max-greatest.ensures.value) in
+    let split : greatest_of (drop c.loop-price.price-index c.args.prices.now)
+    ≡ int_max (get_or c.args.prices.now c.loop-price.price-index none).0
+    (greatest_of (drop (c.loop-price.price-index + 1) c.args.prices.now)) =
     ap (λ (l : List Price). greatest_of l) (drop_more c.args.prices.now c.loop-price.price-index none below) in
     record {
       value =
-          greatest_goes_on (to_z w64 c.loop-price.greatest-bits) (get_or c.args.prices.now c.loop-price.price-index none).0 (to_z w64 (of_z w64 c.max-greatest.result)) (greatest_of (drop (c.loop-price.price-index + 1) c.args.prices.now)) (greatest_of c.args.prices.now) (greatest_of (drop c.loop-price.price-index c.args.prices.now))
+          greatest_goes_on (to_z w64 c.loop-price.greatest-bits) (get_or c.args.prices.now c.loop-price.price-index none).0
+          (to_z w64 (of_z w64 c.max-greatest.result)) (greatest_of (drop (c.loop-price.price-index + 1) c.args.prices.now))
+          (greatest_of c.args.prices.now) (greatest_of (drop c.loop-price.price-index c.args.prices.now))
           value split c.loop-price.invariant.value;
-      low = greater_low (to_z w64 c.loop-price.greatest-bits) (get_or c.args.prices.now c.loop-price.price-index none).0 (to_z w64 (of_z w64 c.max-greatest.result)) value c.loop-price.invariant.low;
-      high = greater_high (to_z w64 c.loop-price.greatest-bits) (get_or c.args.prices.now c.loop-price.price-index none).0 (to_z w64 (of_z w64 c.max-greatest.result)) value high c.loop-price.invariant.high;
+      low = greater_low (to_z w64 c.loop-price.greatest-bits) (get_or c.args.prices.now c.loop-price.price-index none).0
+          (to_z w64 (of_z w64 c.max-greatest.result)) value c.loop-price.invariant.low;
+      high = greater_high (to_z w64 c.loop-price.greatest-bits) (get_or c.args.prices.now c.loop-price.price-index none).0
+          (to_z w64 (of_z w64 c.max-greatest.result)) value high c.loop-price.invariant.high;
     }

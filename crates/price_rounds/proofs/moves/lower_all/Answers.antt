@@ -12,21 +12,27 @@ pub lower-requires-clause-some : goal.lower-requires-clause-some
 lower-requires-clause-some g c =
     let p = g.C.Columns.problem c.args._columns.now in
     let column : Column = c.column-item.result in
-    let is : IsColumn p column = subst (IsColumn p) (sym c.column-item.is) (AreColumns-get p c.args.columns.now c.loop-column.column-index column c.loop-column-test.true c.requires.columns.are) in
+    let is : IsColumn p column =
+    subst (IsColumn p) (sym c.column-item.is)
+    (AreColumns-get p c.args.columns.now c.loop-column.column-index column c.loop-column-test.true c.requires.columns.are) in
     (g.met.C.Columns.listed c.args._columns.now column.class column.items column.worth is.1).0
 
 pub lower-requires-clause-rises : goal.lower-requires-clause-rises
 lower-requires-clause-rises g c =
     let p = g.C.Columns.problem c.args._columns.now in
     let column : Column = c.column-item.result in
-    let fit : IsFit p.items (length p.caps) column = subst (IsFit p.items (length p.caps)) (sym c.column-item.is) (fit_get p.items (length p.caps) c.args.columns.now c.loop-column.column-index column c.loop-column-test.true c.requires.columns.fit) in
+    let fit : IsFit p.items (length p.caps) column =
+    subst (IsFit p.items (length p.caps)) (sym c.column-item.is)
+    (fit_get p.items (length p.caps) c.args.columns.now c.loop-column.column-index column c.loop-column-test.true c.requires.columns.fit) in
     fit.0
 
 pub lower-requires-clause-items : goal.lower-requires-clause-items
 lower-requires-clause-items g c =
     let p = g.C.Columns.problem c.args._columns.now in
     let column : Column = c.column-item.result in
-    let fit : IsFit p.items (length p.caps) column = subst (IsFit p.items (length p.caps)) (sym c.column-item.is) (fit_get p.items (length p.caps) c.args.columns.now c.loop-column.column-index column c.loop-column-test.true c.requires.columns.fit) in
+    let fit : IsFit p.items (length p.caps) column =
+    subst (IsFit p.items (length p.caps)) (sym c.column-item.is)
+    (fit_get p.items (length p.caps) c.args.columns.now c.loop-column.column-index column c.loop-column-test.true c.requires.columns.fit) in
     let P : ℕ → Type 0 = λ n. AllBelow n column.items in
     subst P (sym c.loop-column.invariant.ready.0) fit.1
 
@@ -34,7 +40,9 @@ pub lower-requires-clause-cheap : goal.lower-requires-clause-cheap
 lower-requires-clause-cheap g c =
     let p = g.C.Columns.problem c.args._columns.now in
     let column : Column = c.column-item.result in
-    let fit : IsFit p.items (length p.caps) column = subst (IsFit p.items (length p.caps)) (sym c.column-item.is) (fit_get p.items (length p.caps) c.args.columns.now c.loop-column.column-index column c.loop-column-test.true c.requires.columns.fit) in
+    let fit : IsFit p.items (length p.caps) column =
+    subst (IsFit p.items (length p.caps)) (sym c.column-item.is)
+    (fit_get p.items (length p.caps) c.args.columns.now c.loop-column.column-index column c.loop-column-test.true c.requires.columns.fit) in
     fit.2
 
 pub loop-column-preserved : goal.loop-column-preserved
@@ -43,6 +51,11 @@ loop-column-preserved g c =
     let now : List Price = c.loop-column.prices.items in
     let new : List Price = c.lower.new.prices.items in
     record {
-      lowered = lowered_more c.args.columns.now c.loop-column.column-index c.column-item.result c.loop-column.prices.items c.lower.new.prices.items c.loop-column-test.true c.column-item.is c.lower.ensures.lowered ∙ c.loop-column.invariant.lowered;
-      ready = (ap (λ (l : List Price). length l) c.lower.ensures.lowered ∙ (lowered-length c.loop-column.prices.items c.column-item.result ∙ c.loop-column.invariant.ready.0), c.lower.ensures.moderate);
+      lowered = lowered_more c.args.columns.now c.loop-column.column-index c.column-item.result c.loop-column.prices.items
+          c.lower.new.prices.items c.loop-column-test.true c.column-item.is c.lower.ensures.lowered ∙ c.loop-column.invariant.lowered;
+      ready = (
+        ap (λ (l : List Price). length l) c.lower.ensures.lowered
+            ∙ (lowered-length c.loop-column.prices.items c.column-item.result ∙ c.loop-column.invariant.ready.0),
+        c.lower.ensures.moderate,
+      );
     }

@@ -12,11 +12,13 @@ loop-turn-init g c = record {
 pub loop-turn-preserved : goal.loop-turn-preserved
 loop-turn-preserved g c = record {
   turned =
-      turned_more c.loop-turn._turn c.args.pool.now c.as_slice.result.now (g.C.Columns.problem c.args.columns.now).caps c.args.caps.now (to_z w64 (of_z w64 c.args.size)) c.args.prices.items c.loop-turn.prices.items c.in_ok-prices.prices.items
+      turned_more c.loop-turn._turn c.args.pool.now c.as_slice.result.now (g.C.Columns.problem c.args.columns.now).caps c.args.caps.now
+      (to_z w64 (of_z w64 c.args.size)) c.args.prices.items c.loop-turn.prices.items c.in_ok-prices.prices.items
       c.as_slice.ensures.value c.requires.caps c.loop-turn.invariant.turned c.in_ok-prices.ensures.turned;
   ready = (
     ap (λ (l : List Price). length l) c.in_ok-prices.ensures.turned
-        ∙ (turned-length c.as_slice.result.now c.loop-turn.prices.items c.args.caps.now (to_z w64 (of_z w64 c.args.size)) ∙ c.loop-turn.invariant.ready.0),
+        ∙ (turned-length c.as_slice.result.now c.loop-turn.prices.items c.args.caps.now (to_z w64 (of_z w64 c.args.size))
+        ∙ c.loop-turn.invariant.ready.0),
     c.in_ok-prices.ensures.moderate,
   );
 }

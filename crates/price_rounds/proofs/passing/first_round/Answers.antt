@@ -8,7 +8,8 @@ pub returns : goal.returns
 returns g c =
     let greatest_fits : FitsSigned w64 c.args.greatest = search rules in
     let size_fits : FitsSigned w64 c.size_of-size.result = search rules in
-    first_round_done (g.P.Columns.problem c.args.pricer.now) c.args.start.items (record { pool = c.add_all.new.pool; prices = c.in_ok-prices.prices; kept = c.in_ok-kept.kept }) c.requires.start
+    first_round_done (g.P.Columns.problem c.args.pricer.now) c.args.start.items
+    (record { pool = c.add_all.new.pool; prices = c.in_ok-prices.prices; kept = c.in_ok-kept.kept }) c.requires.start
     (record {
       columns = c.in_ok-kept.columns;
       priced = c.in_ok-kept.ensures.columns;

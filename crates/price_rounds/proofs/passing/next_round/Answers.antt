@@ -6,7 +6,8 @@ pub returns : goal.returns
 returns g c =
     let greatest_fits : FitsSigned w64 c.args.greatest = search rules in
     let size_fits : FitsSigned w64 c.size_of-size.result = search rules in
-    next_round_done (g.P.Columns.problem c.args.pricer.now) c.args.done c.args.progress (record { pool = c.add_all.new.pool; prices = c.in_ok-prices.prices; kept = c.next_offer.new.kept }) c.requires.progress
+    next_round_done (g.P.Columns.problem c.args.pricer.now) c.args.done c.args.progress
+    (record { pool = c.add_all.new.pool; prices = c.in_ok-prices.prices; kept = c.next_offer.new.kept }) c.requires.progress
     (record {
       columns = c.in_ok-columns.columns;
       priced = c.in_ok-columns.ensures.columns;

@@ -23,5 +23,6 @@ returns g c =
       };
       least = least;
       one_each = ap (λ (l : List ℤ). length l) least ∙ least_length p prices;
-      low = subst R (sym least) (least_is_low p prices (c.least_values.ensures.bound c.args.pricer.now) c.requires.sized.items c.requires.prices.1);
+      low = subst R (sym least)
+          (least_is_low p prices (c.least_values.ensures.bound c.args.pricer.now) c.requires.sized.items c.requires.prices.1);
     }

@@ -10,4 +10,5 @@ new-requires c =
     let day = c.args.model.now in
     let counts = is_count c.args.worth in
     let P : List Head → Type 0 = λ heads. AreHeads (blocks_of day counts) (begun_of heads) in
-    subst P (sym c.in_ok-heads.ensures) (c.heads_are_heads.ensures day counts c.args.moment c.args.earlier.now.columns c.requires.lists c.requires.once)
+    subst P (sym c.in_ok-heads.ensures)
+    (c.heads_are_heads.ensures day counts c.args.moment c.args.earlier.now.columns c.requires.lists c.requires.once)

@@ -19,8 +19,10 @@ returns-clause-blocks g c =
     let numbers = numbers_of c.args.effort.now in
     let counted = c.in-Ok.rest in
     let costed = c.in-Ok-blocks_left.rest in
-    ok-onto c.new_side.result (λ blocks. IsMadeSide (rests counted) (rests costed) (items_of_blocks costed) numbers (side_of blocks)) (λ blocks. AreNewBlocks r numbers (side_of blocks))
-    (λ blocks made. new-blocks r numbers (side_of blocks) c.requires.earlier (blocks-side r numbers counted costed c.in-Ok.ensures c.in-Ok-blocks_left.ensures (side_of blocks) made))
+    ok-onto c.new_side.result (λ blocks. IsMadeSide (rests counted) (rests costed) (items_of_blocks costed) numbers (side_of blocks))
+    (λ blocks. AreNewBlocks r numbers (side_of blocks))
+    (λ blocks made. new-blocks r numbers (side_of blocks) c.requires.earlier
+    (blocks-side r numbers counted costed c.in-Ok.ensures c.in-Ok-blocks_left.ensures (side_of blocks) made))
     c.new_side.ensures.side
 
 pub returns-clause-cause : goal.returns-clause-cause
@@ -29,6 +31,9 @@ returns-clause-cause g c =
     let numbers = numbers_of c.args.effort.now in
     let counted = c.in-Ok.rest in
     let costed = c.in-Ok-blocks_left.rest in
-    err-onto c.new_side.result (IsWrittenCause Vehicles (rests counted) (rests costed) (trip_name costed.day.trips (items_of_blocks costed)) (items_of_blocks costed) numbers) (IsRestCause r numbers)
-    (λ fault cause. blocks-cause r numbers fault c.requires.earlier (blocks-fault r numbers counted costed c.in-Ok.ensures c.in-Ok-blocks_left.ensures fault cause))
+    err-onto c.new_side.result
+    (IsWrittenCause Vehicles (rests counted) (rests costed) (trip_name costed.day.trips (items_of_blocks costed)) (items_of_blocks costed)
+    numbers) (IsRestCause r numbers)
+    (λ fault cause. blocks-cause r numbers fault c.requires.earlier
+    (blocks-fault r numbers counted costed c.in-Ok.ensures c.in-Ok-blocks_left.ensures fault cause))
     c.new_side.ensures.cause

@@ -14,4 +14,6 @@ trip-requires c =
     let P : List ℕ → Type 0 = λ trips. slice_index_or trips 0 0 < n in
     let Q : DayFacts → Type 0 = λ day. slice_index_or c.trips_of.result.now 0 0 < length day.trips in
     subst Q (sym c.day.ensures)
-    (subst P (sym c.trips_of.ensures) (first-there n (body_at items c.args.item) (body-below n items c.args.item c.requires.stand.below) (c.requires.stand.some c.args.item c.requires.item)))
+    (subst P (sym c.trips_of.ensures)
+    (first-there n (body_at items c.args.item) (body-below n items c.args.item c.requires.stand.below)
+    (c.requires.stand.some c.args.item c.requires.item)))

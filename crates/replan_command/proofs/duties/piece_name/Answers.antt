@@ -14,4 +14,6 @@ piece-piece-requires c =
     let P : List ℕ → Type 0 = λ pieces. slice_index_or pieces 0 0 < n in
     let Q : DutyFacts → Type 0 = λ net. slice_index_or c.pieces_of.result.now 0 0 < length net.pieces in
     subst Q (sym c.net.ensures)
-    (subst P (sym c.pieces_of.ensures) (first-there n (body_at items c.args.item) (body-below n items c.args.item c.requires.stand.below) (c.requires.stand.some c.args.item c.requires.item)))
+    (subst P (sym c.pieces_of.ensures)
+    (first-there n (body_at items c.args.item) (body-below n items c.args.item c.requires.stand.below)
+    (c.requires.stand.some c.args.item c.requires.item)))

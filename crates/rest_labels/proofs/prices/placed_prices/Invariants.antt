@@ -6,5 +6,6 @@ use Rattle.rest_labels.proofs.prices.placed_prices.Given as goal
 abbrev pub invariant-loop-body : goal.invariant-loop-body
 invariant-loop-body l = record {
   count : l.place_at ≡ l.body-index;
-  same : placed_all (drop l.body-index l.bodies) (drop l.body-index l.prices) l.spread.items ≡ placed_all l.bodies l.prices (replicate l.fn.items nothing);
+  same : placed_all (drop l.body-index l.bodies) (drop l.body-index l.prices) l.spread.items
+      ≡ placed_all l.bodies l.prices (replicate l.fn.items nothing);
 }

@@ -11,7 +11,8 @@ returns-in-Some-clause-difference c =
     let made = c.args.made.now in
     let place = c.loop-table.table in
     sym (c.loop-table.invariant
-    ∙ (one-more table column given made place c.index-made-table.result c.difference_among.result (search rules) c.index-made-table.is c.difference_among.ensures.difference
+    ∙ (one-more table column given made place c.index-made-table.result c.difference_among.result (search rules) c.index-made-table.is
+    c.difference_among.ensures.difference
     ∙ ap (λ o. found_or place o (difference_on table column given (place + 1) (drop (place + 1) made))) c.in-Some.is))
 
 pub loop-table-preserved : goal.loop-table-preserved
@@ -22,5 +23,6 @@ loop-table-preserved c =
     let made = c.args.made.now in
     let place = c.loop-table.table in
     c.loop-table.invariant
-    ∙ (one-more table column given made place c.index-made-table.result c.difference_among.result (search rules) c.index-made-table.is c.difference_among.ensures.difference
+    ∙ (one-more table column given made place c.index-made-table.result c.difference_among.result (search rules) c.index-made-table.is
+    c.difference_among.ensures.difference
     ∙ ap (λ o. found_or place o (difference_on table column given (place + 1) (drop (place + 1) made))) c.in_default.is)

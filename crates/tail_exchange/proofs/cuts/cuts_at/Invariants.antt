@@ -6,4 +6,5 @@ use Rattle.tail_exchange.specs.Leasts.{least_from}
 use Rattle.tail_exchange.proofs.cuts.cuts_at.Given as goal
 
 abbrev pub invariant-loop-class : goal.invariant-loop-class
-invariant-loop-class g l = l.least ≡ least_from l.fn.best (flat_map (λ k. cut_at (g.C.Columns.problem l.columns) l.plan l.a l.i k) (range_with_len 0 l.class))
+invariant-loop-class g l =
+    l.least ≡ least_from l.fn.best (flat_map (λ k. cut_at (g.C.Columns.problem l.columns) l.plan l.a l.i k) (range_with_len 0 l.class))

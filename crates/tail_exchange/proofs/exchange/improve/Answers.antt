@@ -51,23 +51,28 @@ loop-made-preserved g c =
 pub returns-in_err-make_step-clause-memory : goal.returns-in_err-make_step-clause-memory
 returns-in_err-make_step-clause-memory g c =
     let p = g.C.Columns.problem c.args.columns.now in
-    let some = leads-more p c.loop-made.made c.args.steps c.args.plan.now.columns c.loop-made.plan.columns c.make_step.new.plan c.loop-made-test.true c.loop-made.invariant.leads c.in_err-make_step.ensures.memory in
+    let some = leads-more p c.loop-made.made c.args.steps c.args.plan.now.columns c.loop-made.plan.columns c.make_step.new.plan
+    c.loop-made-test.true c.loop-made.invariant.leads c.in_err-make_step.ensures.memory in
     search (rules, some)
 
 pub returns-in_err-make_step-clause-cost : goal.returns-in_err-make_step-clause-cost
 returns-in_err-make_step-clause-cost g c =
     let p = g.C.Columns.problem c.args.columns.now in
-    let some = leads-more p c.loop-made.made c.args.steps c.args.plan.now.columns c.loop-made.plan.columns c.make_step.new.plan c.loop-made-test.true c.loop-made.invariant.leads c.in_err-make_step.ensures.memory in
-    leads-cheaper p c.args.steps c.args.plan.now.columns c.make_step.new.plan (c.steps_keep_plans.ensures.improve c.args.columns.now) c.requires.plan some
+    let some = leads-more p c.loop-made.made c.args.steps c.args.plan.now.columns c.loop-made.plan.columns c.make_step.new.plan
+    c.loop-made-test.true c.loop-made.invariant.leads c.in_err-make_step.ensures.memory in
+    leads-cheaper p c.args.steps c.args.plan.now.columns c.make_step.new.plan (c.steps_keep_plans.ensures.improve c.args.columns.now)
+    c.requires.plan some
 
 pub returns-then-not-branch-clause-cost : goal.returns-then-not-branch-clause-cost
 returns-then-not-branch-clause-cost g c =
-    let less = (c.steps_keep_plans.ensures.improve c.args.columns.now c.loop-made.made c.args.plan.now.columns c.loop-made.plan.columns c.requires.plan c.loop-made.invariant.leads).1 in
+    let less = (c.steps_keep_plans.ensures.improve c.args.columns.now c.loop-made.made c.args.plan.now.columns c.loop-made.plan.columns
+    c.requires.plan c.loop-made.invariant.leads).1 in
     let same : c.make_step.new.plan ≡ c.loop-made.plan.columns = search rules in
     let costs = ap cost same in
     omega arith
 
 pub returns-clause-cost : goal.returns-clause-cost
 returns-clause-cost g c =
-    let less = (c.steps_keep_plans.ensures.improve c.args.columns.now c.loop-made.made c.args.plan.now.columns c.loop-made.plan.columns c.requires.plan c.loop-made.invariant.leads).1 in
+    let less = (c.steps_keep_plans.ensures.improve c.args.columns.now c.loop-made.made c.args.plan.now.columns c.loop-made.plan.columns
+    c.requires.plan c.loop-made.invariant.leads).1 in
     omega arith

@@ -8,7 +8,8 @@ use Rattle.tail_exchange.proofs.Renewals.{useful-leasts}
 use Rattle.tail_exchange.proofs.exchange.make.Goals as goal
 
 pub shift_of-shift-requires-clause-there : goal.shift_of-shift-requires-clause-there
-shift_of-shift-requires-clause-there g c = rw c.as_slice.ensures (steps-there (g.C.Columns.problem c.args.columns.now) c.args.plan.now c.args.step c.requires.least.0)
+shift_of-shift-requires-clause-there g c =
+    rw c.as_slice.ensures (steps-there (g.C.Columns.problem c.args.columns.now) c.args.plan.now c.args.step c.requires.least.0)
 
 pub leasts_after-requires-clause-useful : goal.leasts_after-requires-clause-useful
 leasts_after-requires-clause-useful g c κs within =
@@ -23,8 +24,10 @@ leasts_after-requires-clause-useful g c κs within =
     let Useful : List (Option Candidate) → Type 0 = λ l. IsUseful p new shift.gone shift.x shift.y l in
     let made : c.take.new.plan ≡ applied p old s = c.in_ok-take.ensures.made in
     let len : length (applied p old s) ≡ shift.len = ap (λ l. length l) (sym made) ∙ sym c.len.ensures ∙ c.if-len-shift.true in
-    let moved : Moved new = subst Moved (sym (c.as_slice-then-len-shift.ensures ∙ made)) (subst Tells c.as_slice.ensures c.shift_of-shift.ensures len) in
-    subst Useful (sym c.as_slice-then-len-shift-2.ensures.value) (useful-leasts p old new shift.gone shift.x shift.y kept moved c.requires.leasts)
+    let moved : Moved new =
+    subst Moved (sym (c.as_slice-then-len-shift.ensures ∙ made)) (subst Tells c.as_slice.ensures c.shift_of-shift.ensures len) in
+    subst Useful (sym c.as_slice-then-len-shift-2.ensures.value)
+    (useful-leasts p old new shift.gone shift.x shift.y kept moved c.requires.leasts)
 
 pub returns-in_err-leasts_after-clause-memory : goal.returns-in_err-leasts_after-clause-memory
 returns-in_err-leasts_after-clause-memory g c =

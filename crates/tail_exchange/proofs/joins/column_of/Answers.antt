@@ -11,7 +11,8 @@ pub returns-clause-class : goal.returns-clause-class
 returns-clause-class g c =
     let p = g.C.Columns.problem c.args.columns.now in
     let is = column-there c.args.plan.now c.args.place c.index-plan-place.result c.requires.place c.index-plan-place.is in
-    let sound = sound-at p c.args.plan.now c.args.place (g.met.C.Columns.listed c.args.columns.now) c.requires.ready.plan.worths c.requires.place in
+    let sound = sound-at p c.args.plan.now c.args.place (g.met.C.Columns.listed c.args.columns.now)
+    c.requires.ready.plan.worths c.requires.place in
     let P : Column → Type 0 = λ d. d.class < length p.caps in
     subst P (sym is) sound.class
 
@@ -24,6 +25,7 @@ pub returns-clause-few : goal.returns-clause-few
 returns-clause-few g c =
     let p = g.C.Columns.problem c.args.columns.now in
     let is = column-there c.args.plan.now c.args.place c.index-plan-place.result c.requires.place c.index-plan-place.is in
-    let sound = sound-at p c.args.plan.now c.args.place (g.met.C.Columns.listed c.args.columns.now) c.requires.ready.plan.worths c.requires.place in
+    let sound = sound-at p c.args.plan.now c.args.place (g.met.C.Columns.listed c.args.columns.now)
+    c.requires.ready.plan.worths c.requires.place in
     let long = ap (λ (d : Column). length d.items) is in
     omega (arith, sound.few, c.items-items.ensures.value, c.items-items.ensures.few)

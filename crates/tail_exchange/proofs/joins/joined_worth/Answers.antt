@@ -6,15 +6,18 @@ use Rattle.tail_exchange.proofs.joins.joined_worth.Goals as goal
 pub append-requires : goal.append-requires
 append-requires g c =
     let p = g.C.Columns.problem c.args.columns.now in
-    let few : length c.args.front.now + length c.args.tail.now ≤ p.items = both-few p.items c.args.front.now c.args.tail.now c.requires.front c.requires.tail c.requires.rises in
+    let few : length c.args.front.now + length c.args.tail.now ≤ p.items =
+    both-few p.items c.args.front.now c.args.tail.now c.requires.front c.requires.tail c.requires.rises in
     let empty : length c.clear.new.self.items ≡ 0 = ap (λ (l : List ℕ). length l) c.clear.ensures in
     omega (arith, c.items-items.ensures.value, c.items-items.ensures.few)
 
 pub append-requires-2 : goal.append-requires-2
 append-requires-2 g c =
     let p = g.C.Columns.problem c.args.columns.now in
-    let few : length c.args.front.now + length c.args.tail.now ≤ p.items = both-few p.items c.args.front.now c.args.tail.now c.requires.front c.requires.tail c.requires.rises in
-    let front : length c.append.new.list.items ≡ length c.args.front.now = ap (λ (l : List ℕ). length l) (c.append.ensures ∙ ap (λ (l : List ℕ). l ++ c.args.front.now) c.clear.ensures) in
+    let few : length c.args.front.now + length c.args.tail.now ≤ p.items =
+    both-few p.items c.args.front.now c.args.tail.now c.requires.front c.requires.tail c.requires.rises in
+    let front : length c.append.new.list.items ≡ length c.args.front.now =
+    ap (λ (l : List ℕ). length l) (c.append.ensures ∙ ap (λ (l : List ℕ). l ++ c.args.front.now) c.clear.ensures) in
     omega (arith, c.items-items.ensures.value, c.items-items.ensures.few)
 
 pub worth_of-requires-clause-items : goal.worth_of-requires-clause-items

@@ -15,5 +15,6 @@ returns g c =
     let a = c.args.place in
     let fresh : is_stale c.args.x c.args.y a c.args.least ≡ false = search rules in
     let P : Option Candidate → Type 0 = λ o. IsLeast candidate_cmp (all_swaps_of p plan a) o in
-    let is = c.swaps_behind.ensures ∙ ap (λ (o : Option Candidate). least_from o (swaps_behind p plan a c.args.y)) c.swaps_behind-with_first.ensures in
+    let is = c.swaps_behind.ensures
+    ∙ ap (λ (o : Option Candidate). least_from o (swaps_behind p plan a c.args.y)) c.swaps_behind-with_first.ensures in
     subst P (sym is) (renewed-least p plan c.args.x c.args.y a c.args.least c.requires.first c.requires.second (c.requires.kept fresh))

@@ -19,7 +19,8 @@ returns-clause-ok g c =
     let tail : new ≡ made p s.j (drop s.i d.items) = search rules in
     c.remove_empty.ensures ∙ ap without_empty
     (c.set.ensures ∙ ap (λ (l : List Column). set l s.a kept) c.in_ok-push.ensures.ok ∙ set-push plan s.a kept new c.requires.below ∙
-    ap (λ (x : Column). set plan s.a x ++ new ∷ []) front ∙ ap (λ (x : Column). set plan s.a (made p d.class (take s.i d.items)) ++ x ∷ []) tail)
+    ap (λ (x : Column). set plan s.a x ++ new ∷ []) front
+    ∙ ap (λ (x : Column). set plan s.a (made p d.class (take s.i d.items)) ++ x ∷ []) tail)
 
 pub returns-clause-cheap : goal.returns-clause-cheap
 returns-clause-cheap g c =
@@ -28,4 +29,6 @@ returns-clause-cheap g c =
     let kept : Column = c.in_ok-kept.kept in
     let new : Column = c.in_ok-new.new in
     let is = c.remove_empty.ensures ∙ ap without_empty (c.set.ensures ∙ ap (λ (l : List Column). set l s.a kept) c.in_ok-push.ensures.ok) in
-    subst AreCheap (sym is) (AreCheap-without _ (AreCheap-set (plan ++ new ∷ []) s.a kept (AreCheap-push plan new c.requires.ready.cheap c.in_ok-new.ensures.cheap) c.in_ok-kept.ensures.cheap))
+    subst AreCheap (sym is)
+    (AreCheap-without _ (AreCheap-set (plan ++ new ∷ []) s.a kept (AreCheap-push plan new c.requires.ready.cheap c.in_ok-new.ensures.cheap)
+    c.in_ok-kept.ensures.cheap))

@@ -6,6 +6,7 @@ use Rattle.tail_exchange.proofs.moves.made_of_two.Goals as goal
 pub made-requires-clause-items : goal.made-requires-clause-items
 made-requires-clause-items g c =
     let p = g.C.Columns.problem c.args.columns.now in
-    let both = c.as_slice.ensures.value ∙ c.in_ok-extend_from_slice.ensures.items ∙ ap (λ (l : List ℕ). l ++ c.args.tail.now) c.in_ok-list.ensures.items in
+    let both = c.as_slice.ensures.value ∙ c.in_ok-extend_from_slice.ensures.items
+    ∙ ap (λ (l : List ℕ). l ++ c.args.tail.now) c.in_ok-list.ensures.items in
     let P : List ℕ → Type 0 = λ l. AllBelow p.items l in
     subst P (sym both) (AllBelow-append p.items c.args.front.now c.args.tail.now c.requires.front c.requires.tail)

@@ -13,4 +13,6 @@ returns-clause-cheap g c =
     let first : Column = c.in_ok-first.first in
     let second : Column = c.in_ok-second.second in
     let is = c.remove_empty.ensures ∙ ap without_empty (c.set-2.ensures ∙ ap (λ (l : List Column). set l s.b second) c.set.ensures) in
-    subst AreCheap (sym is) (AreCheap-without _ (AreCheap-set (set plan s.a first) s.b second (AreCheap-set plan s.a first c.requires.ready.cheap c.in_ok-first.ensures.cheap) c.in_ok-second.ensures.cheap))
+    subst AreCheap (sym is)
+    (AreCheap-without _ (AreCheap-set (set plan s.a first) s.b second
+    (AreCheap-set plan s.a first c.requires.ready.cheap c.in_ok-first.ensures.cheap) c.in_ok-second.ensures.cheap))

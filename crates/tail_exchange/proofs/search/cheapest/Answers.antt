@@ -12,7 +12,8 @@ pub min_by-requires-clause-items : goal.min_by-requires-clause-items
 min_by-requires-clause-items g c κs within =
     let ends = c.into_par_iter.ensures in
     let inside = nat_range-All (λ i. i < length c.args.plan.now) 0 (length c.args.plan.now) (λ i low high. high) in
-    rw (c.filter_map.ensures.base, c.filter_map.ensures.f, c.with_min_len.ensures.base, ends.0, ends.1) (λ k d lt. ((c.requires.ready, (c.requires.rooms, (c.requires.leasts, inside k d lt))), λ y p q e. tt))
+    rw (c.filter_map.ensures.base, c.filter_map.ensures.f, c.with_min_len.ensures.base, ends.0, ends.1)
+    (λ k d lt. ((c.requires.ready, (c.requires.rooms, (c.requires.leasts, inside k d lt))), λ y p q e. tt))
 
 pub returns : goal.returns
 returns g c =

@@ -12,4 +12,5 @@ returns g c =
     let plan = c.args.plan.now in
     let a = c.args.place in
     let P : Option Candidate → Type 0 = λ o. IsLeast candidate_cmp (steps_of p plan a) o in
-    subst P (sym c.cuts_of.ensures) (least_from-append_least (all_swaps_of p plan a) (cuts_of p plan a) _ (c.requires.leasts.shown a c.requires.below))
+    subst P (sym c.cuts_of.ensures)
+    (least_from-append_least (all_swaps_of p plan a) (cuts_of p plan a) _ (c.requires.leasts.shown a c.requires.below))

@@ -16,6 +16,7 @@ loop-b-preserved g c =
     let more : b - (a + 1) + 1 ≡ b + 1 - (a + 1) = omega arith in
     record {
       low = omega arith;
-      least = least-more (λ k. swaps_of p c.args.plan.now a k) (a + 1) (b - (a + 1)) b c.args.best c.loop-b.least _ at c.loop-b.invariant.least c.swaps_of-least.ensures ∙
+      least = least-more (λ k. swaps_of p c.args.plan.now a k) (a + 1) (b - (a + 1)) b c.args.best
+          c.loop-b.least _ at c.loop-b.invariant.least c.swaps_of-least.ensures ∙
           ap (λ n. least_from c.args.best (flat_map (λ k. swaps_of p c.args.plan.now a k) (range_with_len (a + 1) n))) more;
     }

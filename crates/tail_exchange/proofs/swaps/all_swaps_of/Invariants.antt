@@ -8,5 +8,6 @@ use Rattle.tail_exchange.proofs.swaps.all_swaps_of.Given as goal
 abbrev pub invariant-loop-b : goal.invariant-loop-b
 invariant-loop-b g l = record {
   low : l.a + 1 ≤ l.b;
-  least : l.least ≡ least_from l.fn.best (flat_map (λ b. swaps_of (g.C.Columns.problem l.columns) l.plan l.a b) (range_with_len (l.a + 1) (l.b - (l.a + 1))));
+  least : l.least ≡ least_from l.fn.best
+      (flat_map (λ b. swaps_of (g.C.Columns.problem l.columns) l.plan l.a b) (range_with_len (l.a + 1) (l.b - (l.a + 1))));
 }

@@ -21,10 +21,14 @@ returns-then-not-may_join g c =
     elim c.then-not-may_join.branch [
       | then-not-may_join-via-then-not-may_join w ↦
           let test : c.may_join.result ≡ false = search rules in
-          let none = no_worth-of p first.class c.split_of.result.0.now c.split_of-2.result.1.now (take s.i first.items) (drop s.j second.items) c.may_join.result listed test c.may_join.ensures.apart c.split_of.ensures.front c.split_of-2.ensures.tail in
+          let none = no_worth-of p first.class c.split_of.result.0.now c.split_of-2.result.1.now (take s.i first.items)
+          (drop s.j second.items) c.may_join.result listed test c.may_join.ensures.apart c.split_of.ensures.front
+          c.split_of-2.ensures.tail in
           sym (ap (least_from c.args.best) (step_for-left (first.worth + second.worth) Swap s.a s.b s.i s.j left right none))
       | then-not-may_join-via-else-not-may_join+then-not-may_join-2 w ↦
           let test : w.may_join-else-not-may_join.result ≡ false = search rules in
-          let none = no_worth-of p second.class c.split_of-2.result.0.now c.split_of.result.1.now (take s.j second.items) (drop s.i first.items) w.may_join-else-not-may_join.result listed test w.may_join-else-not-may_join.ensures.apart c.split_of-2.ensures.front c.split_of.ensures.tail in
+          let none = no_worth-of p second.class c.split_of-2.result.0.now c.split_of.result.1.now (take s.j second.items)
+          (drop s.i first.items) w.may_join-else-not-may_join.result listed test w.may_join-else-not-may_join.ensures.apart
+          c.split_of-2.ensures.front c.split_of.ensures.tail in
           sym (ap (least_from c.args.best) (step_for-right (first.worth + second.worth) Swap s.a s.b s.i s.j left right none))
     ]

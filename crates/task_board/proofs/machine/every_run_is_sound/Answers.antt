@@ -11,8 +11,10 @@ returns-clause-kept c = λ size events small. run_keeps size events (start size)
 
 pub returns-clause-whole : goal.returns-clause-whole
 returns-clause-whole c = λ size events desk v small at.
-    let h = run size events (start size) in known size h.words h.views desk v (run_keeps size events (start size) (start_sound size small)) at
+    let h = run size events (start size) in
+    known size h.words h.views desk v (run_keeps size events (start size) (start_sound size small)) at
 
 pub returns-clause-drawn : goal.returns-clause-drawn
 returns-clause-drawn c = λ size events desk v x small at all.
-    let h = run size events (start size) in known_drawn size h.words h.views desk v (run_keeps size events (start size) (start_sound size small)) at all x
+    let h = run size events (start size) in
+    known_drawn size h.words h.views desk v (run_keeps size events (start size) (start_sound size small)) at all x

@@ -10,7 +10,8 @@ use Rattle.tie_search.proofs.columns.best_column_by_value.Goals as goal
 pub column_of-requires-clause-items : goal.column_of-requires-clause-items
 column_of-requires-clause-items g c =
     let items = rw c.in-Some.is at c.in_ok-search_by_value.ensures.items in
-    let below = below-more (g.W.Labels.count c.args.labels.now) (g.C.Columns.problem c.args.columns.now).items c.in-Some.found.list c.requires.items items in
+    let below = below-more (g.W.Labels.count c.args.labels.now) (g.C.Columns.problem c.args.columns.now).items
+    c.in-Some.found.list c.requires.items items in
     rw c.as_slice.ensures below
 
 pub returns-in-Some-clause-best : goal.returns-in-Some-clause-best
@@ -23,6 +24,8 @@ returns-in-Some-clause-best g c = λ prices group tied.
     let found = rw c.in-Some.is at c.in_ok-search_by_value.ensures.found in
     let low = rw z at (rw c.in-Some.is at c.in_ok-search_by_value.ensures.within) in
     let column = rw c.as_slice.ensures at c.column_of.ensures.column in
-    if-ok c.column_of.result (λ a. a ≡ worth_column p c.args.class c.in-Some.found.list) (λ a. a ≡ within c.args.limit prices (best_of p prices c.args.class group))
-    (λ a e. e ∙ found-best (w.labelling s) (w.close_of s) p prices c.args.class group c.args.limit (c.best_is_first_least.ensures.limited c.args.columns.now) c.requires.class tied c.in-Some.found.list c.in-Some.found.value found low)
+    if-ok c.column_of.result (λ a. a ≡ worth_column p c.args.class c.in-Some.found.list)
+    (λ a. a ≡ within c.args.limit prices (best_of p prices c.args.class group))
+    (λ a e. e ∙ found-best (w.labelling s) (w.close_of s) p prices c.args.class group c.args.limit
+    (c.best_is_first_least.ensures.limited c.args.columns.now) c.requires.class tied c.in-Some.found.list c.in-Some.found.value found low)
     column

@@ -7,5 +7,6 @@ use Rattle.trip_times.proofs.timing.dwell_seconds.Given as goal
 abbrev pub invariant-loop-at : goal.invariant-loop-at
 invariant-loop-at l = record {
   within : l.seconds ≤ 172801;
-  whole : min (sum_on (dwell_at l.net l.version l.row) l.seconds (drop l.at-index l.points)) 172801 ≡ min (dwell_seconds_of l.net l.version l.row l.points) 172801;
+  whole : min (sum_on (dwell_at l.net l.version l.row) l.seconds (drop l.at-index l.points)) 172801
+      ≡ min (dwell_seconds_of l.net l.version l.row l.points) 172801;
 }

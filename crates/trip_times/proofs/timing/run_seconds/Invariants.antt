@@ -8,5 +8,6 @@ use Rattle.trip_times.proofs.timing.run_seconds.Given as goal
 abbrev pub invariant-loop-to : goal.invariant-loop-to
 invariant-loop-to l = record {
   within : l.seconds ≤ 172801;
-  whole : runs_on (run_time_of l.net l.version l.area l.group) l.seconds (links_from l.from (drop l.to-index l.points)) ≡ runs_on (run_time_of l.net l.version l.area l.group) 0 (links_from l.fn.first l.points);
+  whole : runs_on (run_time_of l.net l.version l.area l.group) l.seconds (links_from l.from (drop l.to-index l.points))
+      ≡ runs_on (run_time_of l.net l.version l.area l.group) 0 (links_from l.fn.first l.points);
 }

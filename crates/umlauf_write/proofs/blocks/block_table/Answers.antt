@@ -7,4 +7,5 @@ pub returns-clause-plain : goal.returns-clause-plain
 returns-clause-plain c =
     let day = c.args.day.now in
     let blocks = c.args.blocks.now in
-    ok_plain c.number_table.result (block_table day blocks) (search rules) (c.number_table.ensures.plain (numbered (block_row day) 1 blocks) refl (block_rows_full day blocks))
+    ok_plain c.number_table.result (block_table day blocks) (search rules)
+    (c.number_table.ensures.plain (numbered (block_row day) 1 blocks) refl (block_rows_full day blocks))

@@ -6,4 +6,5 @@ use Rattle.umlauf_write.proofs.blocks.cost_rows.Given as goal
 -- the rows so far stand before those of the other blocks
 abbrev pub invariant-loop-place : goal.invariant-loop-place
 invariant-loop-place l =
-    number_rows (numbered (cost_row l.day) 1 l.blocks) ≡ l.rows ++ map number_row (numbered (cost_row l.day) (1 + l.place) (drop l.place l.blocks))
+    number_rows (numbered (cost_row l.day) 1 l.blocks)
+    ≡ l.rows ++ map number_row (numbered (cost_row l.day) (1 + l.place) (drop l.place l.blocks))

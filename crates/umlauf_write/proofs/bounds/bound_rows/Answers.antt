@@ -6,5 +6,6 @@ use Rattle.umlauf_write.proofs.bounds.bound_rows.Goals as goal
 
 pub returns : goal.returns
 returns c =
-    let done = ap (λ rows. c.loop-place.rows ++ number_rows rows) (bounds_done c.loop-place.place c.args.values.now c.args.bounds.now c.loop-place-test.false) in
+    let done = ap (λ rows. c.loop-place.rows ++ number_rows rows)
+    (bounds_done c.loop-place.place c.args.values.now c.args.bounds.now c.loop-place-test.false) in
     sym (c.loop-place.invariant ∙ done ∙ append-nil c.loop-place.rows)

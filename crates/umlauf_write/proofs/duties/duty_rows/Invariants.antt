@@ -7,4 +7,5 @@ use Rattle.umlauf_write.proofs.duties.duty_rows.Given as goal
 -- the rows so far stand before those of the other duties
 abbrev pub invariant-loop-place : goal.invariant-loop-place
 invariant-loop-place l =
-    signed_rows (numbered (duty_row l.day l.pieces) 1 l.duties) ≡ l.rows ++ map signed_row (numbered (duty_row l.day l.pieces) (1 + l.place) (drop l.place l.duties))
+    signed_rows (numbered (duty_row l.day l.pieces) 1 l.duties)
+    ≡ l.rows ++ map signed_row (numbered (duty_row l.day l.pieces) (1 + l.place) (drop l.place l.duties))

@@ -12,4 +12,5 @@ returns-clause-plain c =
     let pieces = c.args.pieces.now in
     let duties = c.args.duties.now in
     ok_plain c.number_table.result (duty_table day pieces duties) (search rules)
-    (plain_signed (codes "X_DIENST") duty_columns (numbered (duty_row day pieces) 1 duties) refl (signed_full duty_columns (duty_row day pieces) (λ n duty. refl) 1 duties))
+    (plain_signed (codes "X_DIENST") duty_columns (numbered (duty_row day pieces) 1 duties) refl
+    (signed_full duty_columns (duty_row day pieces) (λ n duty. refl) 1 duties))

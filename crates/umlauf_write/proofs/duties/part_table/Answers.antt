@@ -10,4 +10,6 @@ returns-clause-plain c =
     let pieces = c.args.pieces.now in
     let duties = c.args.duties.now in
     ok_plain c.number_table.result (part_table pieces duties) (search rules)
-    (plain_signed (codes "X_DIENST_STUECK") part_columns (all_rows (part_rows pieces) 1 duties) refl (all_full part_columns (part_rows pieces) (λ n duty. signed_full part_columns (part_row pieces n) (λ k item. refl) 1 duty.items) 1 duties))
+    (plain_signed (codes "X_DIENST_STUECK") part_columns (all_rows (part_rows pieces) 1 duties) refl
+    (all_full part_columns (part_rows pieces) (λ n duty. signed_full part_columns (part_row pieces n) (λ k item. refl) 1 duty.items)
+    1 duties))

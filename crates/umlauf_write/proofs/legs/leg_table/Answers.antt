@@ -10,4 +10,5 @@ returns-clause-plain c =
     let trips = c.args.day.now.trips in
     let legs = c.args.legs.now in
     ok_plain c.number_table.result (leg_table c.args.day.now legs) (search rules)
-    (plain_signed (codes "X_UMLAUF_TEIL") leg_columns (all_rows (leg_rows trips) 1 legs) refl (all_full leg_columns (leg_rows trips) (λ n ls. signed_full leg_columns (leg_numbers trips n) (λ k l. refl) 1 ls) 1 legs))
+    (plain_signed (codes "X_UMLAUF_TEIL") leg_columns (all_rows (leg_rows trips) 1 legs) refl
+    (all_full leg_columns (leg_rows trips) (λ n ls. signed_full leg_columns (leg_numbers trips n) (λ k l. refl) 1 ls) 1 legs))

@@ -13,4 +13,5 @@ pub loop-item-preserved : goal.loop-item-preserved
 loop-item-preserved c = λ trip within.
     let below = AllBelow-get (length c.args.numbers.now) c.args.items.now c.loop-item.item-index c.requires (search rules) in
     let same : length c.loop-item.numbers ≡ length c.args.numbers.now = search rules in
-    note_more c.args.items.now c.loop-item.numbers c.loop-item.item-index c.args.number trip _ (search rules) (omega (arith, below, same)) (c.loop-item.invariant trip (search rules))
+    note_more c.args.items.now c.loop-item.numbers c.loop-item.item-index c.args.number trip _ (search rules) (omega (arith, below, same))
+    (c.loop-item.invariant trip (search rules))

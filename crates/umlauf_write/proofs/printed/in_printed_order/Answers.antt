@@ -11,11 +11,13 @@ use Rattle.umlauf_write.proofs.printed.in_printed_order.Goals as goal
 pub returns-clause-order : goal.returns-clause-order
 returns-clause-order c =
     c.from_vec.ensures
-    ∙ sorted_items first_of_column _ _ (IsNonDecreasingBy-from_sort_by_key first_of_column _ c.in_ok-sort_by_key.ensures.sorted (λ a r q k. search rules)) (c.sort_by_key.ensures.stable first_of_column (answers_always _ _ _ (λ f a r g h. search rules)))
+    ∙ sorted_items first_of_column _ _ (IsNonDecreasingBy-from_sort_by_key first_of_column _ c.in_ok-sort_by_key.ensures.sorted
+    (λ a r q k. search rules)) (c.sort_by_key.ensures.stable first_of_column (answers_always _ _ _ (λ f a r g h. search rules)))
     ∙ ap printed c.into_vec-columns.ensures
 
 pub returns-clause-plan : goal.returns-clause-plan
-returns-clause-plan c = λ p plan. let P : List Column → Type 0 = λ cs. IsPlan p cs in subst P (sym (returns-clause-order c)) (order_plan p c.args.plan.columns plan)
+returns-clause-plan c = λ p plan. let P : List Column → Type 0 = λ cs. IsPlan p cs in
+    subst P (sym (returns-clause-order c)) (order_plan p c.args.plan.columns plan)
 
 pub returns-clause-cheap : goal.returns-clause-cheap
 returns-clause-cheap c = λ cheap. subst AreCheap (sym (returns-clause-order c)) (order_cheap c.args.plan.columns cheap)

@@ -32,7 +32,8 @@ returns-in-Some-clause-least g c =
     let tied = (subst P c.requires.same (g.met.M.Marks.tied s)).tied c.args.class c.requires.class in
     let list = c.in-Some.found.list in
     let least = c.in-Some.found.value in
-    let found = found-least (of_class m c.args.class) m.close p prices c.args.class list least c.requires.class tied (rw c.in-Some.is at c.in_ok-search.ensures.found) in
+    let found = found-least (of_class m c.args.class) m.close p prices c.args.class list least c.requires.class tied
+    (rw c.in-Some.is at c.in_ok-search.ensures.found) in
     if-ok c.column_of.result (λ a. a ≡ worth_column p c.args.class list) _
     (λ a e. least-answer p prices c.args.class list least a found e) (rw c.as_slice.ensures at c.column_of.ensures.column)
 
@@ -46,13 +47,15 @@ returns-in-Some-clause-unpaid g c =
     let tied = (subst P c.requires.same (g.met.M.Marks.tied s)).tied c.args.class c.requires.class in
     let list = c.in-Some.found.list in
     let least = c.in-Some.found.value in
-    let found = found-least (of_class m c.args.class) m.close p prices c.args.class list least c.requires.class tied (rw c.in-Some.is at c.in_ok-search.ensures.found) in
+    let found = found-least (of_class m c.args.class) m.close p prices c.args.class list least c.requires.class tied
+    (rw c.in-Some.is at c.in_ok-search.ensures.found) in
     let price_fits : FitsSigned w64 c.args.class_price = search rules in
     let limit_fits : FitsSigned w64 c.limit_of.result = search rules in
     let limit = c.limit_of.ensures ∙ ap (λ z. neg_ℤ z -ℤ pos 1) (to_z-of_z w64 c.args.class_price price_fits) in
     let low = rw limit at (rw (to_z-of_z w64 c.limit_of.result limit_fits) at (rw c.in-Some.is at c.in_ok-search.ensures.within)) in
     if-ok c.column_of.result (λ a. a ≡ worth_column p c.args.class list) _
-    (λ a e. unpaid-answer p prices c.args.class list least c.args.class_price a found low e) (rw c.as_slice.ensures at c.column_of.ensures.column)
+    (λ a e. unpaid-answer p prices c.args.class list least c.args.class_price a found low e)
+    (rw c.as_slice.ensures at c.column_of.ensures.column)
 
 pub returns-in-Some-clause-none : goal.returns-in-Some-clause-none
 returns-in-Some-clause-none g c =
@@ -64,6 +67,7 @@ returns-in-Some-clause-none g c =
     let tied = (subst P c.requires.same (g.met.M.Marks.tied s)).tied c.args.class c.requires.class in
     let list = c.in-Some.found.list in
     let least = c.in-Some.found.value in
-    let found = found-least (of_class m c.args.class) m.close p prices c.args.class list least c.requires.class tied (rw c.in-Some.is at c.in_ok-search.ensures.found) in
+    let found = found-least (of_class m c.args.class) m.close p prices c.args.class list least c.requires.class tied
+    (rw c.in-Some.is at c.in_ok-search.ensures.found) in
     if-ok c.column_of.result (λ a. a ≡ worth_column p c.args.class list) _
     (λ a e. none-answer p prices c.args.class list least a _ found e) (rw c.as_slice.ensures at c.column_of.ensures.column)

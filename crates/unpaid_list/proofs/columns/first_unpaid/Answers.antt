@@ -10,7 +10,8 @@ returns-in-Some-clause-first g c =
     let prices = g.M.Marks.prices c.args.m.now in
     let least = rw c.in-Some.is at c.in_ok-class_unpaid.ensures.least in
     let fits : FitsSigned w64 c.price_of.result = search rules in
-    let unpaid = rw c.price_of.ensures at (rw (to_z-of_z w64 c.price_of.result fits) at (rw c.in-Some.is at c.in_ok-class_unpaid.ensures.unpaid)) in
+    let unpaid = rw c.price_of.ensures at (rw (to_z-of_z w64 c.price_of.result
+    fits) at (rw c.in-Some.is at c.in_ok-class_unpaid.ensures.unpaid)) in
     first-answer p prices c.args.class_prices.now c.loop-class.class c.in-Some.column least unpaid c.loop-class.invariant
 
 pub returns-in-Some-clause-onto : goal.returns-in-Some-clause-onto
@@ -19,6 +20,7 @@ returns-in-Some-clause-onto g c = λ paid.
     let prices = g.M.Marks.prices c.args.m.now in
     let least = rw c.in-Some.is at c.in_ok-class_unpaid.ensures.least in
     let fits : FitsSigned w64 c.price_of.result = search rules in
-    let unpaid = rw c.price_of.ensures at (rw (to_z-of_z w64 c.price_of.result fits) at (rw c.in-Some.is at c.in_ok-class_unpaid.ensures.unpaid)) in
+    let unpaid = rw c.price_of.ensures at (rw (to_z-of_z w64 c.price_of.result
+    fits) at (rw c.in-Some.is at c.in_ok-class_unpaid.ensures.unpaid)) in
     absurd (unpaid-refutes p prices c.args.class_prices.now c.in-Some.column
     (first-answer p prices c.args.class_prices.now c.loop-class.class c.in-Some.column least unpaid c.loop-class.invariant) paid)

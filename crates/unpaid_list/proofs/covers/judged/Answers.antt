@@ -36,4 +36,5 @@ returns-in-Ok-None-clause-cover g c =
     let p = g.C.Columns.problem c.args.columns.now in
     let P : Problem → Type 0 = λ q. AreMarksOf m q prices in
     let marks_of = subst P c.requires.same (g.met.M.Marks.tied s) in
-    paid-cover m p prices c.args.class_prices.now c.args.marks (g.met.M.Marks.placed s) marks_of c.requires.kept (rw c.in-Ok-None.field-0-is at c.in-Ok-None.ensures.none)
+    paid-cover m p prices c.args.class_prices.now c.args.marks (g.met.M.Marks.placed s) marks_of c.requires.kept
+    (rw c.in-Ok-None.field-0-is at c.in-Ok-None.ensures.none)

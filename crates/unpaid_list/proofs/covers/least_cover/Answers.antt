@@ -14,6 +14,7 @@ returns-in-Ok-clause-minimal g c =
     let result = c.put_in_order.result in
     let order = g.M.Mark.Ord.cmp in
     let kept = kept-same m c.in-Ok.marks result c.put_in_order.ensures.keeps c.put_in_order.ensures.adds_none c.in-Ok.ensures in
-    let minimal = c.kept_marks_are_minimal.ensures c.args.m.now order result result (g.met.M.OpenLists.apart c.args.m.now) kept (IsPermutation-refl result)
+    let minimal = c.kept_marks_are_minimal.ensures c.args.m.now order result result (g.met.M.OpenLists.apart c.args.m.now)
+    kept (IsPermutation-refl result)
     (rising-pairs order result c.put_in_order.ensures.rising) in
     ok-from c.judged.result result (AreMinimal m order) c.judged.ensures.marks minimal

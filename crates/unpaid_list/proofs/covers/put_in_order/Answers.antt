@@ -29,4 +29,5 @@ returns-clause-adds_none g c = λ a h.
     let old = c.sort_unstable.new.self.items in
     let is : c.from_vec.result ≡ dedup E old = c.from_vec.ensures ∙ dedup_is E old c.dedup.new.self.items c.dedup.ensures.filtered in
     let inside = Contains-from_dedup E old a (rw is at h) in
-    rw c.into_vec-items.ensures at (Contains-permutation old first a (IsPermutation-sym first old c.sort_unstable.ensures.permutation) inside)
+    rw c.into_vec-items.ensures at (Contains-permutation old first a
+    (IsPermutation-sym first old c.sort_unstable.ensures.permutation) inside)

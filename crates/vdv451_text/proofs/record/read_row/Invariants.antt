@@ -6,4 +6,6 @@ use Rattle.vdv451_text.proofs.record.read_row.Given as goal
 
 -- the values so far stand before those of what is left
 abbrev pub invariant-loop-column : goal.invariant-loop-column
-invariant-loop-column l = row_of l.columns (fields_of (option_copied l.initial.rest)) ≡ ok_map (λ more. l.row.items ++ more) (row_of (drop l.column-index l.columns) (fields_of (option_copied l.rest)))
+invariant-loop-column l =
+    row_of l.columns (fields_of (option_copied l.initial.rest))
+    ≡ ok_map (λ more. l.row.items ++ more) (row_of (drop l.column-index l.columns) (fields_of (option_copied l.rest)))

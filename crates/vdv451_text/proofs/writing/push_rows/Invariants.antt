@@ -6,6 +6,7 @@ use Rattle.vdv451_text.proofs.writing.push_rows.Given as goal
 -- what is written so far and what is left to write are the whole
 abbrev pub invariant-loop-row : goal.invariant-loop-row
 invariant-loop-row l = record {
-  written : l.out.items ++ flat_map (row_text (13 ∷ 10 ∷ [])) (drop l.row-index l.rows) ≡ l.initial.out.items ++ flat_map (row_text (13 ∷ 10 ∷ [])) l.rows;
+  written : l.out.items ++ flat_map (row_text (13 ∷ 10 ∷ [])) (drop l.row-index l.rows) ≡ l.initial.out.items
+      ++ flat_map (row_text (13 ∷ 10 ∷ [])) l.rows;
   sized : list_all is_sized_row (drop l.row-index l.rows) ≡ list_all is_sized_row l.rows;
 }

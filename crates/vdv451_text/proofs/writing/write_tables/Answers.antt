@@ -5,7 +5,10 @@ pub returns-clause-back : goal.returns-clause-back
 returns-clause-back c = back_clause c.args.tables.now _ c.spelled.ensures.written c.requires c.spelled.ensures.sized
 
 pub returns-clause-only : goal.returns-clause-only
-returns-clause-only c = λ others. only_clause c.args.tables.now others _ (back_clause c.args.tables.now _ c.spelled.ensures.written c.requires c.spelled.ensures.sized)
+returns-clause-only c =
+    λ others. only_clause c.args.tables.now
+    others _ (back_clause c.args.tables.now _ c.spelled.ensures.written c.requires c.spelled.ensures.sized)
 
 pub returns-clause-one : goal.returns-clause-one
-returns-clause-one c = λ others plain sized. one_clause c.args.tables.now others _ plain sized (back_clause c.args.tables.now _ c.spelled.ensures.written c.requires c.spelled.ensures.sized)
+returns-clause-one c = λ others plain sized. one_clause c.args.tables.now others _ plain sized
+    (back_clause c.args.tables.now _ c.spelled.ensures.written c.requires c.spelled.ensures.sized)

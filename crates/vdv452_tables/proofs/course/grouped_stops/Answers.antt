@@ -8,4 +8,5 @@ pub loop-row-preserved : goal.loop-row-preserved
 loop-row-preserved c =
     let rows = c.args.rows.now in
     let at = drop_item rows c.loop-row.row-index c.row-item.result c.loop-row-test.true c.row-item.is in
-    grouped c.loop-row.courses c.add_stop.new.courses c.row-item.result (drop c.loop-row.row-index rows) (drop (c.loop-row.row-index + 1) rows) (λ key. points_of key rows) at c.in_ok-add_stop.ensures c.loop-row.invariant
+    grouped c.loop-row.courses c.add_stop.new.courses c.row-item.result (drop c.loop-row.row-index rows)
+    (drop (c.loop-row.row-index + 1) rows) (λ key. points_of key rows) at c.in_ok-add_stop.ensures c.loop-row.invariant

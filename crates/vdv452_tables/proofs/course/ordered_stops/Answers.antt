@@ -6,5 +6,6 @@ use Rattle.vdv452_tables.proofs.course.ordered_stops.Goals as goal
 
 pub returns : goal.returns
 returns c =
-    sorted_stops _ _ (IsNonDecreasingBy-from_sort_by_key (λ row. row.number) _ c.in_ok-sort_by_key.ensures.sorted (λ a r q k. search rules)) (c.sort_by_key.ensures.stable (λ row. row.number) (answers_always _ _ _ (λ f a r g h. search rules)))
+    sorted_stops _ _ (IsNonDecreasingBy-from_sort_by_key (λ row. row.number) _ c.in_ok-sort_by_key.ensures.sorted (λ a r q k. search rules))
+    (c.sort_by_key.ensures.stable (λ row. row.number) (answers_always _ _ _ (λ f a r g h. search rules)))
     ∙ ap in_order c.in_ok-ordered.ensures

@@ -7,7 +7,8 @@ use Rattle.vdv452_tables.proofs.index.index_of.Given as goal
 abbrev pub invariant-loop-left : goal.invariant-loop-left
 invariant-loop-left g l = record {
   within : l.left ≤ length l.rows;
-  index : (key : g.row.K.Denot) → get g.K.PartialEq.eq l.index key ≡ value_at g.K.PartialEq.eq g.R.KeyedRow.key_of g.R.KeyedRow.value_of (drop l.left l.rows) key;
+  index : (key : g.row.K.Denot) →
+      get g.K.PartialEq.eq l.index key ≡ value_at g.K.PartialEq.eq g.R.KeyedRow.key_of g.R.KeyedRow.value_of (drop l.left l.rows) key;
 }
 
 abbrev pub decreases-loop-left : goal.decreases-loop-left

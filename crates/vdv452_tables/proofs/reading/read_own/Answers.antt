@@ -4,16 +4,21 @@ use Rattle.vdv452_tables.proofs.PartLemmas.{front_refused}
 use Rattle.vdv452_tables.proofs.reading.read_own.Goals as goal
 
 pub returns-in_err-net-clause-wrong : goal.returns-in_err-net-clause-wrong
-returns-in_err-net-clause-wrong c = front_refused c.args.tables.now (take 1 own_schemas) (drop 1 own_schemas) c.from_residual-in_err-net.result (search rules)
+returns-in_err-net-clause-wrong c =
+    front_refused c.args.tables.now (take 1 own_schemas) (drop 1 own_schemas) c.from_residual-in_err-net.result (search rules)
 
 pub returns-in_err-net-2-clause-wrong : goal.returns-in_err-net-2-clause-wrong
-returns-in_err-net-2-clause-wrong c = front_refused c.args.tables.now (take 2 own_schemas) (drop 2 own_schemas) c.from_residual-in_err-net-2.result (search rules)
+returns-in_err-net-2-clause-wrong c =
+    front_refused c.args.tables.now (take 2 own_schemas) (drop 2 own_schemas) c.from_residual-in_err-net-2.result (search rules)
 
 pub returns-in_err-net-3-clause-wrong : goal.returns-in_err-net-3-clause-wrong
-returns-in_err-net-3-clause-wrong c = front_refused c.args.tables.now (take 3 own_schemas) (drop 3 own_schemas) c.from_residual-in_err-net-3.result (search rules)
+returns-in_err-net-3-clause-wrong c =
+    front_refused c.args.tables.now (take 3 own_schemas) (drop 3 own_schemas) c.from_residual-in_err-net-3.result (search rules)
 
 pub returns-in_err-net-4-clause-wrong : goal.returns-in_err-net-4-clause-wrong
-returns-in_err-net-4-clause-wrong c = front_refused c.args.tables.now (take 4 own_schemas) (drop 4 own_schemas) c.from_residual-in_err-net-4.result (search rules)
+returns-in_err-net-4-clause-wrong c =
+    front_refused c.args.tables.now (take 4 own_schemas) (drop 4 own_schemas) c.from_residual-in_err-net-4.result (search rules)
 
 pub returns-in_err-net-5-clause-wrong : goal.returns-in_err-net-5-clause-wrong
-returns-in_err-net-5-clause-wrong c = front_refused c.args.tables.now (take 5 own_schemas) (drop 5 own_schemas) c.from_residual-in_err-net-5.result (search rules)
+returns-in_err-net-5-clause-wrong c =
+    front_refused c.args.tables.now (take 5 own_schemas) (drop 5 own_schemas) c.from_residual-in_err-net-5.result (search rules)

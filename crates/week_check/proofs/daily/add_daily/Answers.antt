@@ -4,4 +4,7 @@ use Rattle.week_check.proofs.Lists.{daily_more}
 use Rattle.week_check.proofs.daily.add_daily.Goals as goal
 
 pub loop-place-preserved : goal.loop-place-preserved
-loop-place-preserved c = daily_more c.args.out.now.items c.loop-place.out.items c.add_daily_of.new.out.items c.args.turns.now c.loop-place.place _ _ c.in_ok-add_daily_of.ensures refl c.loop-place-test.true (at_place c.args.turns.now c.loop-place.place _ _ c.loop-place-test.true) c.loop-place.invariant
+loop-place-preserved c =
+    daily_more c.args.out.now.items c.loop-place.out.items c.add_daily_of.new.out.items c.args.turns.now
+    c.loop-place.place _ _ c.in_ok-add_daily_of.ensures refl c.loop-place-test.true
+    (at_place c.args.turns.now c.loop-place.place _ _ c.loop-place-test.true) c.loop-place.invariant

@@ -8,7 +8,8 @@ use Rattle.week_check.proofs.drivers.add_drivers.Given as goal
 -- what is denied so far and what is left to look at are the whole; the driver's duties so far are of the roster
 abbrev pub invariant-loop-turn : goal.invariant-loop-turn
 invariant-loop-turn l = record {
-  leads : Leads l.initial.out.items l.out.items (flat_map findings_of (lists_from l.current.items (drop l.turn-index l.ordered))) (flat_map findings_of (drivers_lists l.ordered));
+  leads : Leads l.initial.out.items l.out.items (flat_map findings_of (lists_from l.current.items (drop l.turn-index l.ordered)))
+      (flat_map findings_of (drivers_lists l.ordered));
   each : All IsTurn l.current.items;
   few : length l.current.items ≤ l.turn-index;
 }

@@ -7,4 +7,5 @@ use Rattle.week_check.proofs.entry.wrong_column.Goals as goal
 pub loop-column-preserved : goal.loop-column-preserved
 loop-column-preserved c =
     column_step (λ column. not (is_right c.args.entry.now column)) c.loop-column.column-index _ _ c.loop-column-test.true
-    (at_place columns c.loop-column.column-index _ _ c.loop-column-test.true) (ap not (sym c.is_right.ensures ∙ c.if-not-is_right.false)) c.loop-column.invariant
+    (at_place columns c.loop-column.column-index _ _ c.loop-column-test.true) (ap not (sym c.is_right.ensures ∙ c.if-not-is_right.false))
+    c.loop-column.invariant

@@ -13,6 +13,9 @@ unfolding past_end
 loop-rest-preserved c =
     let rest : Rest = get_or c.args.rests.now c.loop-rest.rest-index past_end in
     record {
-      count = count_more c.args.rests.now c.loop-rest.rest-index c.reduced_after-count.result c.loop-rest.count rest c.reduced_after-count.ensures c.loop-rest.invariant.count c.loop-rest-test.true (at_place c.args.rests.now c.loop-rest.rest-index past_end rest c.loop-rest-test.true);
-      few = count_few c.loop-rest.rest-index c.reduced_after-count.result c.loop-rest.count rest c.reduced_after-count.ensures c.loop-rest.invariant.few;
+      count = count_more c.args.rests.now c.loop-rest.rest-index c.reduced_after-count.result c.loop-rest.count rest
+          c.reduced_after-count.ensures c.loop-rest.invariant.count c.loop-rest-test.true
+          (at_place c.args.rests.now c.loop-rest.rest-index past_end rest c.loop-rest-test.true);
+      few = count_few c.loop-rest.rest-index c.reduced_after-count.result c.loop-rest.count rest c.reduced_after-count.ensures
+          c.loop-rest.invariant.few;
     }

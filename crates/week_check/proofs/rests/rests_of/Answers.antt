@@ -10,5 +10,6 @@ returns-clause-days c =
     let turns = c.args.turns.now in
     let rests = c.loop-place.rests.items in
     let done = drop_all c.loop-place.place turns (omega arith) in
-    let e : rests ≡ duties.rests_of turns = sym (append-nil rests) ∙ ap (λ ys. rests ++ duties.rests_of ys) (sym done) ∙ c.loop-place.invariant.rests in
+    let e : rests ≡ duties.rests_of turns =
+    sym (append-nil rests) ∙ ap (λ ys. rests ++ duties.rests_of ys) (sym done) ∙ c.loop-place.invariant.rests in
     subst (λ rs. All spec.HasRestDays rs) (sym e) (rests_days turns c.requires)

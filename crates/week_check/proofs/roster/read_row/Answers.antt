@@ -7,4 +7,5 @@ pub returns-in_err-entry-clause-wrong : goal.returns-in_err-entry-clause-wrong
 returns-in_err-entry-clause-wrong c =
     let p = err_from_is_err_and c.from_residual.result c.from_residual.ensures.1 in
     let fields : RowFields = fields_at c.args.places.now c.args.row.now in
-    rw (p.1, p.2) (refused_front (value_faults c.args.number fields) (key_fault c.args.number c.args.keys.now.keys (key_of (entry_of fields))) _ c.in_err-entry.ensures.wrong)
+    rw (p.1, p.2) (refused_front (value_faults c.args.number fields)
+    (key_fault c.args.number c.args.keys.now.keys (key_of (entry_of fields))) _ c.in_err-entry.ensures.wrong)

@@ -15,5 +15,7 @@ returns-in_err-read_row-clause-wrong c =
     let at : drop c.loop-place.place c.args.rows.now ≡ c.as_slice.result.now ∷ drop (c.loop-place.place + 1) c.args.rows.now =
     rest_at c.args.rows.now c.loop-place.place c.index-rows-place.result c.loop-place-test.true c.index-rows-place.is
     ∙ ap (λ (r : List Field). r ∷ drop (c.loop-place.place + 1) c.args.rows.now) (sym c.as_slice.ensures) in
-    rw (p.1, p.2) (row_refused (map (fields_at c.args.places.now) (drop c.loop-place.place rows)) (fields_at c.args.places.now row) (map (fields_at c.args.places.now) later)
-    (ap (λ rs. map (fields_at c.args.places.now) rs) at) (c.loop-place.place + 1) c.loop-place.keys.keys _ c.loop-place.invariant.faults _ c.in_err-read_row.ensures.wrong)
+    rw (p.1, p.2) (row_refused (map (fields_at c.args.places.now) (drop c.loop-place.place rows)) (fields_at c.args.places.now row)
+    (map (fields_at c.args.places.now) later)
+    (ap (λ rs. map (fields_at c.args.places.now) rs) at) (c.loop-place.place + 1)
+    c.loop-place.keys.keys _ c.loop-place.invariant.faults _ c.in_err-read_row.ensures.wrong)

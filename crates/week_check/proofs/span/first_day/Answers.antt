@@ -21,12 +21,15 @@ loop-turn-preserved c =
     let own : IsTurn turn = All-get_or IsTurn c.args.turns.now c.loop-turn.turn-index past_end c.loop-turn-test.true c.requires.each in
     record {
       day = day_more c.loop-turn.first turn.day c.earlier-first.result c.earlier-first.ensures.one c.loop-turn.invariant.day own.day;
-      least = least_more turns i turn c.loop-turn.first c.earlier-first.result c.loop-turn-test.true is c.earlier-first.ensures.a c.earlier-first.ensures.b c.loop-turn.invariant.least;
-      there = there_more turns i turn c.loop-turn.first c.earlier-first.result c.loop-turn-test.true is c.earlier-first.ensures.one c.loop-turn.invariant.there;
+      least = least_more turns i turn c.loop-turn.first c.earlier-first.result c.loop-turn-test.true is c.earlier-first.ensures.a
+          c.earlier-first.ensures.b c.loop-turn.invariant.least;
+      there = there_more turns i turn c.loop-turn.first c.earlier-first.result c.loop-turn-test.true is c.earlier-first.ensures.one
+          c.loop-turn.invariant.there;
     }
 
 pub returns-clause-first : goal.returns-clause-first
 returns-clause-first c = record {
-  least = all_taken (λ (u : Turn). number_of c.loop-turn.first ≤ℤ number_of u.day) c.args.turns.now c.loop-turn.turn-index (omega (arith, c.loop-turn-test.false, c.loop-turn.auto.turn-index-end)) c.loop-turn.invariant.least;
+  least = all_taken (λ (u : Turn). number_of c.loop-turn.first ≤ℤ number_of u.day) c.args.turns.now c.loop-turn.turn-index
+      (omega (arith, c.loop-turn-test.false, c.loop-turn.auto.turn-index-end)) c.loop-turn.invariant.least;
   there = c.loop-turn.invariant.there;
 }

@@ -21,12 +21,15 @@ loop-turn-preserved c =
     let own : IsTurn turn = All-get_or IsTurn c.args.turns.now c.loop-turn.turn-index past_end c.loop-turn-test.true c.requires.each in
     record {
       day = day_more c.loop-turn.last turn.day c.later-last.result c.later-last.ensures.one c.loop-turn.invariant.day own.day;
-      greatest = greatest_more turns i turn c.loop-turn.last c.later-last.result c.loop-turn-test.true is c.later-last.ensures.a c.later-last.ensures.b c.loop-turn.invariant.greatest;
-      there = there_more turns i turn c.loop-turn.last c.later-last.result c.loop-turn-test.true is c.later-last.ensures.one c.loop-turn.invariant.there;
+      greatest = greatest_more turns i turn c.loop-turn.last c.later-last.result c.loop-turn-test.true is c.later-last.ensures.a
+          c.later-last.ensures.b c.loop-turn.invariant.greatest;
+      there = there_more turns i turn c.loop-turn.last c.later-last.result c.loop-turn-test.true is c.later-last.ensures.one
+          c.loop-turn.invariant.there;
     }
 
 pub returns-clause-last : goal.returns-clause-last
 returns-clause-last c = record {
-  greatest = all_taken (λ (u : Turn). number_of u.day ≤ℤ number_of c.loop-turn.last) c.args.turns.now c.loop-turn.turn-index (omega (arith, c.loop-turn-test.false, c.loop-turn.auto.turn-index-end)) c.loop-turn.invariant.greatest;
+  greatest = all_taken (λ (u : Turn). number_of u.day ≤ℤ number_of c.loop-turn.last) c.args.turns.now c.loop-turn.turn-index
+      (omega (arith, c.loop-turn-test.false, c.loop-turn.auto.turn-index-end)) c.loop-turn.invariant.greatest;
   there = c.loop-turn.invariant.there;
 }

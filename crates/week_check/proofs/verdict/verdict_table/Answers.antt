@@ -11,5 +11,7 @@ pub returns-clause-plain : goal.returns-clause-plain
 returns-clause-plain c =
     let denials = c.args.denials.now in
     let plain : is_plain_table (verdict_table c.args.denials.now) ≡ true =
-    plain_signed (codes "X_URTEIL") verdict_columns (verdict_rows c.args.denials.now) refl (All-map (λ row. length row ≡ length verdict_columns) verdict_numbers c.args.denials.now (λ k d within. refl)) in
-    IfOk-weaker c.number_table.result (λ (table : Table). table ≡ verdict_table c.args.denials.now) (λ (table : Table). is_plain_table table ≡ true) (λ table is. subst (λ t. is_plain_table t ≡ true) (sym is) plain) (search rules)
+    plain_signed (codes "X_URTEIL") verdict_columns (verdict_rows c.args.denials.now) refl
+    (All-map (λ row. length row ≡ length verdict_columns) verdict_numbers c.args.denials.now (λ k d within. refl)) in
+    IfOk-weaker c.number_table.result (λ (table : Table). table ≡ verdict_table c.args.denials.now)
+    (λ (table : Table). is_plain_table table ≡ true) (λ table is. subst (λ t. is_plain_table t ≡ true) (sym is) plain) (search rules)

@@ -10,7 +10,10 @@ pub returns : goal.returns
 returns c =
     let from : days.number_of c.day_of.result ≡ c.args.monday = omega (arith, ints, c.day_of.ensures.number) in
     let to : days.number_of c.day_of-2.result ≡ c.args.monday +ℤ pos 6 = omega (arith, ints, c.day_of-2.ensures.number) in
-    let value : to_z w64 c.week_sum-sum.result ≡ pos c.week_sum-sum.result = omega (arith, ints, c.week_sum-sum.ensures.bound, c.requires.few) in
+    let value : to_z w64 c.week_sum-sum.result ≡ pos c.week_sum-sum.result =
+    omega (arith, ints, c.week_sum-sum.ensures.bound, c.requires.few) in
     let f : SFits w64 c.args.monday = c.ranges.monday in
     let sum = simp to_z-of_z at c.week_sum-sum.ensures.value in
-    on_ok_weaker c.add.result (λ a. adds_same _ _ _ _ (weekly_is c.args.driver c.args.monday c.args.turns.now _ _ c.week_sum-sum.result _ from to sum value) a) c.add.ensures
+    on_ok_weaker c.add.result
+    (λ a. adds_same _ _ _ _ (weekly_is c.args.driver c.args.monday c.args.turns.now _ _ c.week_sum-sum.result _ from to sum value) a)
+    c.add.ensures

@@ -10,7 +10,9 @@ invariant-loop-one g l = record {
   len : length l.slots ≡ l.classes * l.groups;
   sound : All (IsSoundFound l.prices.items l.classes l.groups) l.found.items;
   kept : All (IsKeptAsBest (best_of (g.P.Columns.problem l._pricer) l.prices.items) l.prices.items l.groups l.least) l.found.items;
-  placed : (f : Found) → Contains l.fn.found.items f → Contains l.found.items f ⊎ IsPlaced (best_of (g.P.Columns.problem l._pricer) l.prices.items) l.prices.items l.groups l.least l.slots f;
+  placed : (f : Found) → Contains l.fn.found.items f →
+      Contains l.found.items f ⊎ IsPlaced (best_of (g.P.Columns.problem l._pricer) l.prices.items) l.prices.items
+      l.groups l.least l.slots f;
 }
 
 abbrev pub decreases-loop-one : goal.decreases-loop-one

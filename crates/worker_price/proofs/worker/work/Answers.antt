@@ -16,7 +16,9 @@ loop-task-preserved g c =
       desk = c.price_one.ensures.desk;
       over = ap (λ (v : Sheet). v.over) f.2 ∙ (ap (λ (v : Sheet). v.over) s.2 ∙ c.loop-task.invariant.over);
       worked = rw c.in_ok-push.ensures.items w;
-      sound = rw c.in_ok-push.ensures.items (sound_push (g.P.Columns.problem c.args.pricer.now) c.args.prices.now.items c.loop-task.found.items c.in-Ok.one c.loop-task.invariant.sound c.in-Ok.ensures.sound);
+      sound = rw c.in_ok-push.ensures.items
+          (sound_push (g.P.Columns.problem c.args.pricer.now) c.args.prices.now.items c.loop-task.found.items c.in-Ok.one
+          c.loop-task.invariant.sound c.in-Ok.ensures.sound);
     }
 
 -- a fact that holds, holds of an error

@@ -10,4 +10,6 @@ pub returns-clause-worths : goal.returns-clause-worths
 returns-clause-worths c =
     let rest = c.self.inside in
     let Modest : RestFacts → Type 0 = λ r. HasModestWorths (rests r) in
-    subst Modest c.self.view_is (rest-modest (blocks_of rest.net.day rest.net.counts) (begun_of rest.heads) (may_begin rest.net.day rest.moment) c.classes.ensures.worths)
+    subst Modest c.self.view_is
+    (rest-modest (blocks_of rest.net.day rest.net.counts) (begun_of rest.heads) (may_begin rest.net.day rest.moment)
+    c.classes.ensures.worths)

@@ -8,4 +8,5 @@ join_class-requires-clause-links g c =
     let count = c.classes-class-end.ensures.value in
     let test = c.loop-class-test.true in
     let inside : c.loop-class.class < length p.caps = omega arith in
-    class-at p c.loop-class.self c.loop-class.class c.index_mut-links.result.now _ c.loop-class.invariant inside c.index_mut-links.ensures.value
+    class-at p c.loop-class.self c.loop-class.class c.index_mut-links.result.now _ c.loop-class.invariant inside
+    c.index_mut-links.ensures.value

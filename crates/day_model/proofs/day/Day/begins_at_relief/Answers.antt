@@ -8,7 +8,8 @@ pub bounds-as_slice-t : goal.bounds-as_slice-t
 bounds-as_slice-t c =
     let P : DayFacts → Type 0 = λ day. AreLaidOut day.trips day.params day.deads c.self.inside.layout.value in
     let laid = subst P c.self.view_is c.self.invariant.1 in
-    rw (c.as_slice.ensures, c.deref-layout.ensures) (relieved_within c.args.self.now.trips c.args.self.now.params c.args.self.now.deads c.self.inside.layout.value c.args.t laid c.requires)
+    rw (c.as_slice.ensures, c.deref-layout.ensures)
+    (relieved_within c.args.self.now.trips c.args.self.now.params c.args.self.now.deads c.self.inside.layout.value c.args.t laid c.requires)
 
 pub returns : goal.returns
 returns c = λ trip at.

@@ -8,5 +8,6 @@ abbrev pub invariant-loop-next : goal.invariant-loop-next
 invariant-loop-next l = record {
   limits : l.tally.limits ≡ l.initial.tally.limits;
   there : l.last < length l.self.pieces;
-  tallying : (p : Piece) → slice_get l.self.pieces l.first ≡ Some p → IsTallying l.self l.first l.rest (drive_of 0 p) l.last (drop l.next-index l.rest) l.tally;
+  tallying : (p : Piece) → slice_get l.self.pieces l.first ≡ Some p →
+      IsTallying l.self l.first l.rest (drive_of 0 p) l.last (drop l.next-index l.rest) l.tally;
 }

@@ -17,6 +17,7 @@ invariant_of-result c =
       moderate = c.requires.moderate;
       in_reach = c.reach_of-reach.ensures.reach;
       starts = rw (to_z-of_z w64 latest latest_fits) c.latest_start-latest.ensures.latest;
-      ends = rw (to_z-of_z w64 latest latest_fits) (rw (to_z-of_z w64 latest latest_fits, to_z-of_z w64 (latest +ℤ pos 54000) until_fits) at c.reach_of-reach.ensures.until);
+      ends = rw (to_z-of_z w64 latest latest_fits)
+          (rw (to_z-of_z w64 latest latest_fits, to_z-of_z w64 (latest +ℤ pos 54000) until_fits) at c.reach_of-reach.ensures.until);
       bound = c.in_ok-rows.ensures;
     }

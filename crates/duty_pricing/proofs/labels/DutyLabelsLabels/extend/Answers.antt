@@ -15,4 +15,5 @@ pub within-requires : goal.within-requires
 within-requires c =
     let s = c.args.self.now in
     let safe = duty-safe s.net.now s.prices.now s.class s.crew s.first s.end s.latest s.fits s.ranges s.moderate s.starts in
-    if-some (IsRangeMark (length s.net.now.pieces) s.first s.latest) c.next.result (λ a e. safe.steps c.args.label.now a c.args.item c.requires.sound (sym c.next.ensures ∙ e))
+    if-some (IsRangeMark (length s.net.now.pieces) s.first s.latest) c.next.result
+    (λ a e. safe.steps c.args.label.now a c.args.item c.requires.sound (sym c.next.ensures ∙ e))

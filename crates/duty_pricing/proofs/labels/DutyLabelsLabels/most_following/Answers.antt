@@ -13,6 +13,8 @@ returns-clause-most c =
     let most_fits : FitsSigned w64 c.most_with-most.result = search rules in
     let low = rw (to_z-of_z w64 c.args.limit limit_fits) at c.most_with-most.ensures in
     rw (to_z-of_z w64 c.most_with-most.result most_fits)
-    (follows-none s.net.now s.prices.now s.class s.crew s.first s.end s.latest (is_low (floor_of s.reach s.crew s.rows.items s.over.items) c.args.limit) c.args.before c.args.item c.most_with-most.result
-    (none-reaches s.net.now s.prices.now s.class s.crew s.first s.end s.reach s.latest s.rows.items s.over.items c.args.limit c.most_with-most.result c.args.item s.in_reach s.bound
+    (follows-none s.net.now s.prices.now s.class s.crew s.first s.end s.latest
+    (is_low (floor_of s.reach s.crew s.rows.items s.over.items) c.args.limit) c.args.before c.args.item c.most_with-most.result
+    (none-reaches s.net.now s.prices.now s.class s.crew s.first s.end s.reach s.latest s.rows.items s.over.items c.args.limit
+    c.most_with-most.result c.args.item s.in_reach s.bound
     (λ v (above, held). let at_most = low (omega (arith, ints)) in omega (arith, ints))))

@@ -7,4 +7,5 @@ use Rattle.label_cover.proofs.marks.DutyMarksMarks.next.Goals as goal
 pub returns : goal.returns
 returns c =
     let s = c.args.self.now in
-    c.next.ensures ∙ sym (ap (option_and_then (λ (g : Group). extended_mark s.net.now g s.prices.now.items c.args.mark.now c.args.item)) c.group.ensures.group)
+    c.next.ensures ∙ sym (ap (option_and_then (λ (g : Group). extended_mark s.net.now g s.prices.now.items c.args.mark.now c.args.item))
+    c.group.ensures.group)

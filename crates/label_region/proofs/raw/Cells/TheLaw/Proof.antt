@@ -16,5 +16,7 @@ use Rattle.label_region.proofs.Lending.{places_lent_laws, Lends-places}
 pub shares : (R : RattleType) (L : Laws R) → statement R L
 shares R L =
     let codes = cells.the_codes R.Denot R.coded (phantom.the_row RawPtr).coded in
-    of_Lends (cells.struct R) codes (cells.the_heap R) (cells.the_lent R) (λ d p. places_lent_laws R L.shr_laws d.at d.slots) (copy_shared (phantom.the_field RawPtr) (field_copy (phantom.the_type RawPtr) tt), tt)
-    (λ M 𝓤 𝓛 d p. Lends-places 𝓛 (cells.the_row R).lives R L (Incl-trans (meet_⊑_left (R.lives ++ []) _) (meet_⊑_left R.lives [])) d.at d.slots)
+    of_Lends (cells.struct R) codes (cells.the_heap R) (cells.the_lent R) (λ d p. places_lent_laws R L.shr_laws d.at d.slots)
+    (copy_shared (phantom.the_field RawPtr) (field_copy (phantom.the_type RawPtr) tt), tt)
+    (λ M 𝓤 𝓛 d p. Lends-places 𝓛 (cells.the_row R).lives R L
+    (Incl-trans (meet_⊑_left (R.lives ++ []) _) (meet_⊑_left R.lives [])) d.at d.slots)

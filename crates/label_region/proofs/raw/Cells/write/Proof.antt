@@ -56,13 +56,19 @@ module _ (E : El) where
   ended = F.ended E.row
 
   abbrev stayed : Stays ended.signature.params ended.kept
-  stayed = (stay_ref (0 ∷ []) tt (plain (λ _. Cr E)), (stay_dropped (plain (λ _. Br E)) no, (stay_dropped (plain (λ _. usize)) yes, (stay_dropped (plain (λ _. R E)) no, tt))))
+  stayed = (
+    stay_ref (0 ∷ []) tt
+        (plain (λ _. Cr E)),
+    (stay_dropped (plain (λ _. Br E)) no, (stay_dropped (plain (λ _. usize)) yes, (stay_dropped (plain (λ _. R E)) no, tt))),
+  )
 
   abbrev Asks : (Cr E).Denot → (Br E).Denot → ℕ → Type 0
   Asks d base index = (base.ptr ≡ d.at) × (index < length d.slots)
 
-module _ (E : El) {M : Type 1} {𝓤 : Ura M} (𝓛 : Logic 𝓤) (at_mem : Memory → SProp 𝓤) (run : Routine → Fun 𝓤) (C : Calls 𝓤 𝓛.H) (Λ : Loops 𝓤 𝓛.H)
-    (κ κ₁ : Lft) (q q₁ : Share) (short : κ ⊑ κ₁) (rb ro : ℕ) (γ : GName) (d : (Cr E).Denot) (base : (Br E).Denot) (index : ℕ) (item : (R E).Denot) (us0 us1 us2 us3 : List Val) where
+module _ (E : El) {M : Type 1} {𝓤 : Ura M} (𝓛 : Logic 𝓤) (at_mem : Memory → SProp 𝓤) (run : Routine → Fun 𝓤)
+    (C : Calls 𝓤 𝓛.H) (Λ : Loops 𝓤 𝓛.H)
+    (κ κ₁ : Lft) (q q₁ : Share) (short : κ ⊑ κ₁) (rb ro : ℕ) (γ : GName) (d : (Cr E).Denot) (base : (Br E).Denot) (index : ℕ)
+    (item : (R E).Denot) (us0 us1 us2 us3 : List Val) where
   open 𝓛 use {H}
 
   abbrev clauses : Clauses 𝓤 (ended E)
@@ -89,7 +95,8 @@ module _ (E : El) {M : Type 1} {𝓤 : Ura M} (𝓛 : Logic 𝓤) (at_mem : Memo
   exits : us0 ≡ vptr rb ro ∷ [] → ent 𝓤 (⋆ 𝓛 (‵ (fobs γ ((Cr E).coded.code new)) ∷ Borrow ∷ ‵ (flft κ q) ∷ others ∷ [])) (Post vunit)
   exits passed =
       qed 𝓛 (‵ (fobs γ ((Cr E).coded.code new)) ∷ Borrow ∷ ‵ (flft κ q) ∷ others ∷ []) ∵
-      suffices ! _ (ends_at 𝓛 (ended E) (stayed E) clauses bound vunit tt (new, (tt, (tt, (tt, tt)))) (tt, (tt, (tt, (tt, tt))))) $ says ! (refl, refl) $
+      suffices ! _ (ends_at 𝓛 (ended E) (stayed E) clauses bound vunit tt (new, (tt, (tt, (tt, tt)))) (tt, (tt, (tt, (tt, tt))))) $
+      says ! (refl, refl) $
       move ! (2 ∷ 3 ∷ []) $ join ! $ frame ! $ feq_i ! (List Val) us0 (vptr rb ro ∷ []) passed $ fjoin3 ! $
       nothing ! $ nothing ! $ fjoin ! $ nothing ! $ fjoin ! $ nothing ! $ fjoin ! $ move ! (1 ∷ 0 ∷ []) $ fjoin ! $
       feq_i ! (List Val) (vunit ∷ []) (vunit ∷ []) refl $ move ! (1 ∷ 0 ∷ []) $ done !
@@ -110,37 +117,50 @@ module _ (E : El) {M : Type 1} {𝓤 : Ura M} (𝓛 : Logic 𝓤) (at_mem : Memo
       let far : index * s < 2 ^ 64 = omega (arith, times_below index (length d.slots) s (2 ^ 63) (omega arith) small) in
       let at : ℕ = index * s + o in
       -- the address of the place
-      take_at ! 2 $ rewrite ! 0 (λ (p : Ptr). ‵ (fat full_share (layout (Br E)) (l 2) 0 (word p))) (asked.0 ∙ e) refl $ give_at ! 2 $ first ! $ blocks ! $
+      take_at ! 2 $ rewrite ! 0 (λ (p : Ptr). ‵ (fat full_share (layout (Br E)) (l 2) 0 (word p))) (asked.0 ∙ e) refl $
+      give_at ! 2 $ first ! $ blocks ! $
       sets ! (bin ! (get ! refl) (size_lit ! (record { fits = narrow })) (record { fits = far })) refl (tt, record { fits = far }) $
       sets ! (bin ! (get_in ! (fld ! refl (stop !)) (sub ! 0 refl (whole !))) (get ! refl) tt) refl (tt, tt) $
       -- the place, whatever it held, is room for the label
-      use1 𝓛 (‵ (place_own (R E) b at (get_or d.slots index None)) ⊛ ‵ (Rest E 𝓛 b o d.slots index)) (take_out E 𝓛 b d.slots index o at inside refl) $ split ! $
+      use1 𝓛 (‵ (place_own (R E) b at (get_or d.slots index None)) ⊛ ‵ (Rest E 𝓛 b o d.slots index))
+      (take_out E 𝓛 b d.slots index o at inside refl) $ split ! $
       use1 𝓛 (‵ (place_own (R E) b at None)) (emptied E 𝓛 b (get_or d.slots index None) at) $ as_written ! (elτ E) b at $
       -- [the room; the other places; the mark; its cell; the open borrow; obs; auth; what the label owns; ..]
       sets ! (of_opd ! (get ! refl)) refl good $ assigns_last ! (of_opd ! (get ! refl)) (through ! refl (stop !)) (init ! 0 refl good) $
       exec ! C Λ En (after 1 (function E).body) (at_ret En Post) $ sets ! (of_opd ! (unit_lit !)) refl (tt, tt) $
-      move ! (0 ∷ 7 ∷ []) $ use2 𝓛 (‵ (place_own (R E) b at (Some item))) (el_in (record { row = E.row; laws = E.laws }) 𝓛 full_share item b at v) $
+      move ! (0 ∷ 7 ∷ []) $ use2 𝓛 (‵ (place_own (R E) b at (Some item)))
+      (el_in (record { row = E.row; laws = E.laws }) 𝓛 full_share item b at v) $
       use2 𝓛 (‵ (row_own (R E) b o new.slots)) (put_in E 𝓛 b d.slots index o at (Some item) inside refl) $
       flt_i ! (length new.slots * s) (2 ^ 63) (subst (λ k. k * s < 2 ^ 63) (sym (length-set d.slots index (Some item))) small) $ fjoin ! $
-      rewrite ! 0 (λ (p : Ptr). ‵ (places_own (R E) p new.slots)) (sym e) refl $ move ! (1 ∷ 0 ∷ []) $ fjoin ! $ move ! (1 ∷ 0 ∷ []) $ closes ! tt (Cr E) new vs rb ro $
+      rewrite ! 0 (λ (p : Ptr). ‵ (places_own (R E) p new.slots)) (sym e) refl $ move ! (1 ∷ 0 ∷ []) $ fjoin ! $ move ! (1 ∷ 0 ∷ []) $
+      closes ! tt (Cr E) new vs rb ro $
       returns ! (look_at ! 0 refl) $ free_all ! refl $ keep ! (0 ∷ 1 ∷ 2 ∷ 3 ∷ []) $ by ! (exits passed)))))
 
   entry : ent 𝓤 ((walk_of 𝓛 (ended E) (stayed E) clauses).pre bound) (WpFn 𝓤 H C Λ (function E) (us0 ++ (us1 ++ (us2 ++ (us3 ++ [])))) Post)
   entry =
-      qed 𝓛 (((‵ (flft κ q) ⊛ others) ⊛ ‵ (owns (MutRef (named 0) κ (Cr E) ∷ Br E ∷ usize ∷ R E ∷ []) (self, (base, (index, (item, tt)))) (us0, (us1, (us2, (us3, tt)))))) ∷
+      qed 𝓛 (((‵ (flft κ q) ⊛ others) ⊛ ‵
+      (owns (MutRef (named 0) κ (Cr E) ∷ Br E ∷ usize ∷ R E ∷ []) (self, (base, (index, (item, tt)))) (us0, (us1, (us2, (us3, tt)))))) ∷
       (raw (fact 𝓤 (κ₁ ⊑ E.row.lives)) ⊛ raw (fact 𝓤 (Asks E d base index))) ∷ []) ∵
       move ! (1 ∷ []) $ split ! $ heard ! _ (λ outlives. heard ! _ (λ asked. split ! $ split ! $ move ! (2 ∷ []) $
       fsplit ! $ fsplit3 ! $ feq_l ! (λ e0. move ! (2 ∷ []) $ fsplit ! $ base_had E ! base us1 (λ e1.
       fsplit ! $ fsplit ! $ feq_l ! (λ e2. flt_l ! (λ fits. fsplit ! $ label_had E ! item us3 (λ v e3 good.
       keep ! (2 ∷ 3 ∷ 4 ∷ 0 ∷ 5 ∷ []) $
-      by ! (subst (λ (ws : List Val × List Val × List Val × List Val). ent 𝓤 (⋆ 𝓛 (Had v)) (WpFn 𝓤 H C Λ (function E) (ws.0 ++ (ws.1 ++ (ws.2 ++ (ws.3 ++ [])))) Post))
+      by ! (subst (λ (ws : List Val × List Val × List Val × List Val). ent 𝓤 (⋆ 𝓛 (Had v))
+      (WpFn 𝓤 H C Λ (function E) (ws.0 ++ (ws.1 ++ (ws.2 ++ (ws.3 ++ [])))) Post))
       (λ j. (sym e0 j, sym e1 j, sym e2 j, sym e3 j)) (walk e0 asked fits v good)))))))))
 
 pub write_spec : {M : Type 1} → statement M
 write_spec 𝓤 𝓛 𝓜 𝓡 wired X LX =
     let E : El = record { row = X; laws = LX } in let 𝓣 = tables 𝓤 𝓛.H 𝓜 𝓡 𝓡.env in
-    proved_at 𝓛 (ended E) (stayed E) (F.clauses X 𝓛 𝓜.mem 𝓡.returns) 𝓜 𝓡
-    (Goes-ref 𝓛 2 0 tt (plain (λ _. Cr E)), (Goes-dropped 𝓛 2 (plain (λ _. Br E)) no (λ κs x f. refl), (Goes-dropped 𝓛 2 (plain (λ _. usize)) yes (λ κs x f. refl), (Goes-dropped 𝓛 2 (plain (λ _. R E)) no (λ κs x f. refl), tt))))
+    proved_at 𝓛 (ended E) (stayed E) (F.clauses X 𝓛 𝓜.mem 𝓡.returns) 𝓜 𝓡 (
+      Goes-ref 𝓛 2 0 tt (plain (λ _. Cr E)),
+      (
+        Goes-dropped 𝓛 2 (plain (λ _. Br E)) no
+            (λ κs x f. refl),
+        (Goes-dropped 𝓛 2 (plain (λ _. usize)) yes (λ κs x f. refl), (Goes-dropped 𝓛 2 (plain (λ _. R E)) no (λ κs x f. refl), tt)),
+      ),
+    )
     (#self (args E)) (function E) (code.unfolded 𝓤 𝓛.H 𝓜 𝓡 wired (X, tt))
     (λ y are. let κs = y.0.0 in let qs = y.0.1 in let a = y.0.3 in let vss = y.0.4 in
-    entry E 𝓛 𝓜.mem 𝓡.returns 𝓣.C 𝓣.Λ κs.0 κs.1.0 qs.0 qs.1.0 y.0.2.0 a.0.ref_ptr.0 a.0.ref_ptr.1 a.0.ghost_name a.0.now a.1.0 a.1.1.0 a.1.1.1.0 vss.0 vss.1.0 vss.1.1.0 vss.1.1.1.0)
+    entry E 𝓛 𝓜.mem 𝓡.returns 𝓣.C 𝓣.Λ κs.0 κs.1.0 qs.0 qs.1.0 y.0.2.0 a.0.ref_ptr.0 a.0.ref_ptr.1 a.0.ghost_name a.0.now a.1.0 a.1.1.0
+    a.1.1.1.0 vss.0 vss.1.0 vss.1.1.0 vss.1.1.1.0)

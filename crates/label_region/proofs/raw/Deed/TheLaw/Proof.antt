@@ -14,5 +14,6 @@ use Rattle.label_region.proofs.raw.Deed.TheLaw.Statement.{statement}
 pub shares : (R A : RattleType) (g : Ghosts A.Denot) (L : Laws R) (K : Laws A) → statement R A g L K
 shares R A g L K =
     let codes = deed.the_codes R.Denot A.Denot R.coded A.coded (phantom.the_row RawPtr).coded in
-    of_Lends (deed.struct R A g) codes (deed.the_heap R A g) (deed.the_lent R A g) (λ d p. nothing_shr_laws) (copy_shared (phantom.the_field RawPtr) (field_copy (phantom.the_type RawPtr) tt), tt)
+    of_Lends (deed.struct R A g) codes (deed.the_heap R A g) (deed.the_lent R A g) (λ d p. nothing_shr_laws)
+    (copy_shared (phantom.the_field RawPtr) (field_copy (phantom.the_type RawPtr) tt), tt)
     (λ M 𝓤 𝓛 d p. Lends-nothing 𝓛 (deed.the_heap R A g d) (deed.the_row R A g).lives)

@@ -37,4 +37,6 @@ returns-clause-gone g c =
 pub returns-clause-others : goal.returns-clause-others
 returns-clause-others g c =
     let r = c.self.inside in
-    λ other apart. rw c.push_reserved.ensures.items (subst (λ (s : Shelf g.row.T.Denot). label_at (shelf r.cells.items (r.back.items ++ c.args.id ∷ []) (r.spare + 1)) other ≡ label_at s other) c.self.view_is (label_stays r.cells.items r.back.items c.args.id (r.spare + 1) r.spare other apart))
+    λ other apart. rw c.push_reserved.ensures.items
+    (subst (λ (s : Shelf g.row.T.Denot). label_at (shelf r.cells.items (r.back.items ++ c.args.id ∷ []) (r.spare + 1)) other
+    ≡ label_at s other) c.self.view_is (label_stays r.cells.items r.back.items c.args.id (r.spare + 1) r.spare other apart))

@@ -7,7 +7,8 @@ pub returns-then-n-self-clause-too_many : goal.returns-then-n-self-clause-too_ma
 returns-then-n-self-clause-too_many g c =
     let r = c.self.inside in
     let fits = back_fits (length r.cells.items) r.back.items c.self.invariant.back in
-    λ many. let most : 2147483648 ≤ live_count (shelf r.cells.items r.back.items r.spare) + c.args.n = subst (λ (s : Shelf g.row.T.Denot). 2147483648 ≤ live_count s + c.args.n) (sym c.self.view_is) many in
+    λ many. let most : 2147483648 ≤ live_count (shelf r.cells.items r.back.items r.spare) + c.args.n =
+    subst (λ (s : Shelf g.row.T.Denot). 2147483648 ≤ live_count s + c.args.n) (sym c.self.view_is) many in
     absurd (omega (arith, fits, most, c.self.invariant.few, c.if-n-self.true))
 
 pub overflow_sub-wanted : goal.overflow_sub-wanted

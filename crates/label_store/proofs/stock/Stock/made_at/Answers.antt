@@ -16,14 +16,16 @@ pub get-requires : goal.get-requires
 get-requires g c =
     let r = c.self.inside in
     let live = live-right {X = g.row.T.Denot} r.region r.kept.items r.made.items c.self.invariant.live in
-    let below : c.args.place < length r.made.items = omega (arith, shown-length r.region r.made.items live, ap (λ (s : Stock g.row.T.Denot). length s.made) c.self.view_is) in
+    let below : c.args.place < length r.made.items =
+    omega (arith, shown-length r.region r.made.items live, ap (λ (s : Stock g.row.T.Denot). length s.made) c.self.view_is) in
     subst (λ (n : ℕ). IsLive r.region n) (sym c.index.ensures) (live-at r.region r.made.items c.args.place c.index.result.now live below)
 
 pub returns : goal.returns
 returns g c =
     let r = c.self.inside in
     let live = live-right {X = g.row.T.Denot} r.region r.kept.items r.made.items c.self.invariant.live in
-    let below : c.args.place < length r.made.items = omega (arith, shown-length r.region r.made.items live, ap (λ (s : Stock g.row.T.Denot). length s.made) c.self.view_is) in
+    let below : c.args.place < length r.made.items =
+    omega (arith, shown-length r.region r.made.items live, ap (λ (s : Stock g.row.T.Denot). length s.made) c.self.view_is) in
     let is : slice_get c.args.self.now.made c.args.place ≡ Some c.get.result.now =
     ap (λ (s : Stock g.row.T.Denot). slice_get s.made c.args.place) (sym c.self.view_is)
     ∙ shown-at r.region r.made.items c.args.place c.index.result.now live below

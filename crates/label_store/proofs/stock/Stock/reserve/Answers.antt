@@ -9,4 +9,9 @@ pub invariant_of-self : goal.invariant_of-self
 invariant_of-self g c =
     let r = c.self.inside in
     let P : Shelf g.row.T.Denot → Type 0 = λ s. IsStocked s r.kept.items r.made.items in
-    subst P (sym c.reserve.ensures.nothing_else) (record { live = live-spare r.region c.reserve.new.self.spare (r.kept.items ++ r.made.items) c.self.invariant.live; once = c.self.invariant.once })
+    subst P (sym c.reserve.ensures.nothing_else)
+    (record {
+      live = live-spare r.region c.reserve.new.self.spare (r.kept.items ++ r.made.items) c.self.invariant.live;
+      once =
+          c.self.invariant.once;
+    })

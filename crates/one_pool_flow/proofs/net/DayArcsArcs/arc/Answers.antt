@@ -9,5 +9,6 @@ returns c =
     let column_in : c.args.v < arcs.nodes + 1 = omega (arith, arcs.count, c.requires.column) in
     let count = arcs.laid.count in
     let within : c.args.x < length arcs.rows.now = omega (arith, count, row_in) in
-    let row : c.as_slice.result.now ≡ get_or arcs.rows.now c.args.x [] = c.as_slice.ensures ∙ other_default arcs.rows.now c.args.x c.index-self-x.result [] within in
+    let row : c.as_slice.result.now ≡ get_or arcs.rows.now c.args.x [] =
+    c.as_slice.ensures ∙ other_default arcs.rows.now c.args.x c.index-self-x.result [] within in
     ap (λ (cells : List (Option ℕ)). get_or cells c.args.v None) row ∙ (arcs.laid.each c.args.x row_in).cells c.args.v column_in

@@ -13,10 +13,13 @@ returns-in-Some-clause-most c =
     let day = s.net.now.day in
     let price = c.price.ensures.value in
     let rest = c.rest.ensures in
-    let (cost, linked, value) = map_some (scaled s.net.now.counts) (added day s.pool c.args.before c.args.item) c.in-Some.cost (sym c.link_value.ensures.value ∙ c.in-Some.is) in
+    let (cost, linked, value) =
+    map_some (scaled s.net.now.counts) (added day s.pool c.args.before c.args.item) c.in-Some.cost
+    (sym c.link_value.ensures.value ∙ c.in-Some.is) in
     let fits : FitsSigned w64 c.most_within.result = search rules in
     rw (to_z-of_z w64 c.most_within.result fits)
-    (none_follows day s.net.now.counts s.prices.now s.pool s.first s.end s.rests.now c.args.limit c.most_within.result c.args.before c.args.item cost linked
+    (none_follows day s.net.now.counts s.prices.now s.pool s.first s.end s.rests.now c.args.limit c.most_within.result
+    c.args.before c.args.item cost linked
     (λ v (above, held). let high = c.most_within.ensures (omega (arith, ints)) in omega (arith, ints)))
 
 -- no value of 64 bits is above the greatest one

@@ -11,5 +11,6 @@ returns-clause-most c =
     let rest = c.rest.ensures in
     let fits : FitsSigned w64 c.most_within-most.result = search rules in
     rw (to_z-of_z w64 c.most_within-most.result fits)
-    (none_reaches s.net.now.day s.net.now.counts s.prices.now s.pool s.first s.end s.rests.now c.args.limit c.most_within-most.result c.args.item
+    (none_reaches s.net.now.day s.net.now.counts s.prices.now s.pool s.first s.end s.rests.now c.args.limit
+    c.most_within-most.result c.args.item
     (λ v (above, held). let high = c.most_within-most.ensures (omega (arith, ints)) in omega (arith, ints)))

@@ -6,12 +6,14 @@ use Rattle.path_pricing.proofs.pricer.PathPricerPricer.best.Goals as goal
 pub rests_from-requires-clause-there : goal.rests_from-requires-clause-there
 rests_from-requires-clause-there c =
     let P : NetFacts → Type 0 = λ net. c.args.class < length (caps_of net.day.params.pools) in
-    pool_there c.self.inside.net.now.day.params.pools c.pools.result.now c.args.class no_pool (search rules) (subst P (sym c.self.view_is) c.requires.class)
+    pool_there c.self.inside.net.now.day.params.pools c.pools.result.now c.args.class no_pool (search rules)
+    (subst P (sym c.self.view_is) c.requires.class)
 
 pub best_of_pool-requires-clause-there : goal.best_of_pool-requires-clause-there
 best_of_pool-requires-clause-there c =
     let P : NetFacts → Type 0 = λ net. c.args.class < length (caps_of net.day.params.pools) in
-    pool_there c.self.inside.net.now.day.params.pools c.pools.result.now c.args.class no_pool (search rules) (subst P (sym c.self.view_is) c.requires.class)
+    pool_there c.self.inside.net.now.day.params.pools c.pools.result.now c.args.class no_pool (search rules)
+    (subst P (sym c.self.view_is) c.requires.class)
 
 pub overflow_mul-group : goal.overflow_mul-group
 overflow_mul-group c =

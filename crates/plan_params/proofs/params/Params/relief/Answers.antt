@@ -9,5 +9,6 @@ use Rattle.plan_params.proofs.params.Params.relief.Goals as goal
 pub returns : goal.returns
 returns c =
     c.is_some.ensures
-    ∙ is_found (λ (row : Point). tt {0}) (λ (row : Point). point_eq row c.args.at) c.self.inside.rows.reliefs c.get.result (c.get.ensures.value ∙ c.self.invariant.0.reliefs c.args.at)
+    ∙ is_found (λ (row : Point). tt {0}) (λ (row : Point). point_eq row c.args.at) c.self.inside.rows.reliefs c.get.result
+    (c.get.ensures.value ∙ c.self.invariant.0.reliefs c.args.at)
     ∙ ap (λ (rows : ParamRows). is_relief_in rows c.args.at) c.self.view_is

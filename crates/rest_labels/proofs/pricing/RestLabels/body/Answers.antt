@@ -10,7 +10,8 @@ returns-clause-body g c = c.as_slice.ensures ∙ body-here c.args.self.now.bodie
 pub returns-clause-items : goal.returns-clause-items
 returns-clause-items g c =
     let s = c.args.self.now in
-    subst (AllBelow (g.W.Labels.count s.labels.now)) (sym (returns-clause-body g c)) (body-below (g.W.Labels.count s.labels.now) s.bodies.now c.args.item s.items)
+    subst (AllBelow (g.W.Labels.count s.labels.now)) (sym (returns-clause-body g c))
+    (body-below (g.W.Labels.count s.labels.now) s.bodies.now c.args.item s.items)
 
 pub returns-clause-some : goal.returns-clause-some
 returns-clause-some g c = λ none. c.args.self.now.some c.args.item c.requires (sym (returns-clause-body g c) ∙ none)

@@ -11,8 +11,10 @@ returns-in-len1-up-clause-none g c =
     let limit = to_z-of_z w64 c.args.limit c.ranges.limit in
     if-none c.most_reaching.result _ _
     (λ none a fits.
-    none-extends (g.W.Labels.labelling l) (g.W.Labels.good l) (g.W.Labels.close_of l) (g.W.Labels.sound l) (g.W.Labels.may_close l) (g.met.W.Labels.safe l) (g.met.W.Labels.hides_none l) c.args.limit
-    s.bodies.now (length s.ended.now) (is_set s.starts.now) (more_after s.ended.now) a c.args.item c.body.result.now c.body.ensures.body fits.fits c.in-len1-up.len_at_least
+    none-extends (g.W.Labels.labelling l) (g.W.Labels.good l) (g.W.Labels.close_of l) (g.W.Labels.sound l) (g.W.Labels.may_close l)
+    (g.met.W.Labels.safe l) (g.met.W.Labels.hides_none l) c.args.limit
+    s.bodies.now (length s.ended.now) (is_set s.starts.now) (more_after s.ended.now) a c.args.item c.body.result.now c.body.ensures.body
+    fits.fits c.in-len1-up.len_at_least
     (rw limit at (none a.label fits.fits)))
     c.most_reaching.ensures.none
 
@@ -23,7 +25,9 @@ returns-in-len1-up-clause-most g c =
     let limit = to_z-of_z w64 c.args.limit c.ranges.limit in
     if-some c.most_reaching.result _ _
     (λ most none a fits above.
-    none-extends (g.W.Labels.labelling l) (g.W.Labels.good l) (g.W.Labels.close_of l) (g.W.Labels.sound l) (g.W.Labels.may_close l) (g.met.W.Labels.safe l) (g.met.W.Labels.hides_none l) c.args.limit
-    s.bodies.now (length s.ended.now) (is_set s.starts.now) (more_after s.ended.now) a c.args.item c.body.result.now c.body.ensures.body fits.fits c.in-len1-up.len_at_least
+    none-extends (g.W.Labels.labelling l) (g.W.Labels.good l) (g.W.Labels.close_of l) (g.W.Labels.sound l) (g.W.Labels.may_close l)
+    (g.met.W.Labels.safe l) (g.met.W.Labels.hides_none l) c.args.limit
+    s.bodies.now (length s.ended.now) (is_set s.starts.now) (more_after s.ended.now) a c.args.item c.body.result.now c.body.ensures.body
+    fits.fits c.in-len1-up.len_at_least
     (rw limit at (none a.label fits.fits above)))
     c.most_reaching.ensures.most

@@ -9,4 +9,5 @@ returns-clause-most c =
     let s = c.args.self.now in
     let fits : FitsSigned w64 c.most_within.result = search rules in
     rw (to_z-of_z w64 c.most_within.result fits)
-    (ways-unreached s.count s.seed c.args.item c.args.limit c.most_within.result (λ v (above, held). let high = c.most_within.ensures (omega (arith, ints)) in omega (arith, ints)))
+    (ways-unreached s.count s.seed c.args.item c.args.limit c.most_within.result (λ v (above, held). let high =
+    c.most_within.ensures (omega (arith, ints)) in omega (arith, ints)))

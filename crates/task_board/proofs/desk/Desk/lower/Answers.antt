@@ -6,8 +6,12 @@ use Rattle.task_board.proofs.desk.Desk.lower.Goals as goal
 pub fetch_min-before-requires : goal.fetch_min-before-requires
 fetch_min-before-requires c =
     let d = c.args.self.now in let b = c.args.board.now in
-    let fits : FitsSigned w64 c.args.value = search rules in
-    (c.requires.board.0, omega (arith, b.sized, c.requires.class), lowers _ _ _ d.seat.me d.some_share _ c.args.class _ c.args.value refl c.requires.class (simp to_z-of_z at c.word_of-word.ensures))
+    let fits : FitsSigned w64 c.args.value = search rules in (
+      c.requires.board.0,
+      omega (arith, b.sized, c.requires.class),
+      lowers _ _ _ d.seat.me d.some_share _ c.args.class _ c.args.value refl
+          c.requires.class (simp to_z-of_z at c.word_of-word.ensures),
+    )
 
 pub returns-clause-seen : goal.returns-clause-seen
 returns-clause-seen c =

@@ -36,7 +36,9 @@ agrees (Cells a) (Cells b) = λ i. pointwise (λ x y. agree x y i) a b
 
 pub invariant_of-self-2 : goal.invariant_of-self-2
 unfolding same
-invariant_of-self-2 c = still_short same c.self.inside.keys.keys c.insert.new.self.keys c.short_key.result c.args.key c.short_key.ensures c.in_ok-insert.ensures.keys c.self.invariant
+invariant_of-self-2 c =
+    still_short same c.self.inside.keys.keys c.insert.new.self.keys c.short_key.result c.args.key c.short_key.ensures
+    c.in_ok-insert.ensures.keys c.self.invariant
 
 pub returns-clause-new : goal.returns-clause-new
 unfolding same
@@ -50,5 +52,6 @@ returns-clause-new c =
 pub returns-clause-noted : goal.returns-clause-noted
 unfolding same
 returns-clause-noted c = λ is_new.
-    one_more same c.self.inside.keys.keys c.insert.new.self.keys c.short_key.result c.args.key c.short_key.ensures c.in_ok-insert.ensures.keys (sym c.in_ok-insert.ensures.added ∙ is_new)
+    one_more same c.self.inside.keys.keys c.insert.new.self.keys c.short_key.result c.args.key c.short_key.ensures
+    c.in_ok-insert.ensures.keys (sym c.in_ok-insert.ensures.added ∙ is_new)
     ∙ ap (λ before. before ++ c.args.key ∷ []) c.self.view_is

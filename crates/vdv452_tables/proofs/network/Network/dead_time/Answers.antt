@@ -7,9 +7,13 @@ use Rattle.vdv452_tables.proofs.LookUpLemmas.{found_all}
 use Rattle.vdv452_tables.proofs.network.Network.dead_time.Goals as goal
 
 pub returns-clause-value : goal.returns-clause-value
-returns-clause-value c = c.copied.ensures ∙ (rw (c.deref.ensures, c.new-key.ensures) at c.get.ensures.value) ∙ c.self.invariant.0.moves.deads (move_key c.args.version c.args.area c.args.group c.args.from c.args.to) ∙ ap (λ (n : Net). dead_time_on n c.args.version c.args.area c.args.group c.args.from c.args.to) c.self.view_is
+returns-clause-value c = c.copied.ensures ∙ (rw (c.deref.ensures, c.new-key.ensures) at c.get.ensures.value)
+    ∙ c.self.invariant.0.moves.deads (move_key c.args.version c.args.area c.args.group c.args.from c.args.to)
+    ∙ ap (λ (n : Net). dead_time_on n c.args.version c.args.area c.args.group c.args.from c.args.to) c.self.view_is
 
 pub returns-clause-range : goal.returns-clause-range
 returns-clause-range c =
     let all = subst HasRanges c.self.view_is c.self.invariant.1 in
-    subst (λ r. IfSome r IsTime) (sym (returns-clause-value c)) (found_all IsTime move_key_eq dead_key_of (λ row. row.time) c.args.self.now.deads (move_key c.args.version c.args.area c.args.group c.args.from c.args.to) all.deads)
+    subst (λ r. IfSome r IsTime) (sym (returns-clause-value c))
+    (found_all IsTime move_key_eq dead_key_of (λ row. row.time) c.args.self.now.deads
+    (move_key c.args.version c.args.area c.args.group c.args.from c.args.to) all.deads)

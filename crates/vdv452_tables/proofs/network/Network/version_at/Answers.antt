@@ -9,7 +9,8 @@ returns-clause-in_force c =
     let rows = c.as_slice.result.now in
     let day = c.args.day in
     let rows_are : rows ≡ c.args.self.now.versions = cc (c.as_slice.ensures, ap (λ (n : Net). n.versions) c.self.view_is) in
-    let told : IfSome c.version_in.result (IsInForce rows day) = rw c.version_in.ensures (in_force rows day (latest (begun rows day)) (latest_tells rows day)) in
+    let told : IfSome c.version_in.result (IsInForce rows day) =
+    rw c.version_in.ensures (in_force rows day (latest (begun rows day)) (latest_tells rows day)) in
     subst (λ (rs : List VersionRow). IfSome c.version_in.result (IsInForce rs c.args.day)) rows_are told
 
 pub returns-clause-none : goal.returns-clause-none
@@ -17,5 +18,6 @@ returns-clause-none c =
     let rows = c.as_slice.result.now in
     let day = c.args.day in
     let rows_are : rows ≡ c.args.self.now.versions = cc (c.as_slice.ensures, ap (λ (n : Net). n.versions) c.self.view_is) in
-    let told : IsNone c.version_in.result ↔ All (λ row. day < row.day) rows = rw c.version_in.ensures (none_in_force rows day (latest (begun rows day)) (latest_tells rows day)) in
+    let told : IsNone c.version_in.result ↔ All (λ row. day < row.day) rows =
+    rw c.version_in.ensures (none_in_force rows day (latest (begun rows day)) (latest_tells rows day)) in
     subst (λ (rs : List VersionRow). IsNone c.version_in.result ↔ All (λ row. c.args.day < row.day) rs) rows_are told
