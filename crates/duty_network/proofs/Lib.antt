@@ -8,3 +8,4 @@ pub mod Walked
 pub mod Entries
 pub mod Following
 pub mod Modest
+pub mod Pausing

@@ -7,3 +7,4 @@ pub mod Courses
 pub mod Listed
 pub mod Counted
 pub mod Followers
+pub mod Pauses

@@ -10,6 +10,7 @@ mod layout;
 mod marks;
 mod net;
 mod numbering;
+mod pauses;
 mod way_times;
 
 pub use followers::{Follower, Followers};

@@ -12,6 +12,7 @@ ghost use Rattle.duty_network.specs.Ranges.{IsShift, NetFits};
 
 use crate::followers::{Followers, followers_of};
 use crate::layout::{Layout, layout_of};
+use crate::pauses::{pause_among, pauses_of};
 use cover_core::Worth;
 use plan_core::{Memory, Piece, Seq};
 use plan_params::{Group, Params};
@@ -29,19 +30,21 @@ pub struct DutyNet<'p> {
     counts: bool,
     layout: Box<Layout>,
     followers: Box<Followers>,
+    pauses: Vec<Seq<u32>>,
 }
 
 impl<'p> Model for DutyNet<'p> {
     ghost use Rattle.duty_network.specs.Duties.{DutyFacts};
-    ghost use Rattle.duty_network.specs.Followers.{AreFollowed};
+    ghost use Rattle.duty_network.specs.Followers.{AreFollowed, facts};
     ghost use Rattle.duty_network.specs.Layout.{AreLaidOut};
+    ghost use Rattle.duty_network.specs.Pauses.{ArePauses};
     ghost use Rattle.duty_network.specs.Ranges.{NetFits};
 
     ghost Value = { DutyFacts };
 
     ghost view = { λ net. record { pieces = net.pieces; params = net.params.now; counts = net.counts } };
 
-    ghost invariant = { λ net. NetFits (record { pieces = net.pieces; params = net.params.now; counts = net.counts }) × (AreLaidOut net.pieces net.params.now net.layout.value × AreFollowed net.pieces net.params.now net.followers.value) };
+    ghost invariant = { λ net. NetFits (record { pieces = net.pieces; params = net.params.now; counts = net.counts }) × (AreLaidOut net.pieces net.params.now net.layout.value × AreFollowed net.pieces net.params.now net.followers.value × ArePauses (facts net.pieces net.params.now) net.pauses.items) };
 }
 
 /// A number of seconds that is not below 0.
@@ -77,7 +80,8 @@ pub(crate) fn is_next(piece: &Piece, next: &Piece) -> bool
 fn between_pieces(piece: &Piece, next: &Piece) -> Option<u32>
     requires piece { IsShift piece.now }
     requires next { IsShift next.now }
-    ensures { result ≡ seconds (next.now.begin.0 -ℤ piece.now.end.0) }
+    ensures value { result ≡ seconds (next.now.begin.0 -ℤ piece.now.end.0) }
+    ensures range { IfSome result (λ time. time < 4294967295) }
 {
     to_seconds(next.begin.0 - piece.end.0)
 }
@@ -88,7 +92,8 @@ fn left_between(piece: &Piece, next: &Piece, handover: u32, way: u32) -> Option<
     requires next { IsShift next.now }
     requires handover { IsTime handover }
     requires way { IsTime way }
-    ensures { result ≡ seconds (next.now.begin.0 -ℤ piece.now.end.0 -ℤ pos handover -ℤ pos way) }
+    ensures value { result ≡ seconds (next.now.begin.0 -ℤ piece.now.end.0 -ℤ pos handover -ℤ pos way) }
+    ensures range { IfSome result (λ time. time < 4294967295) }
 {
     to_seconds(next.begin.0 - piece.end.0 - handover as i64 - way as i64)
 }
@@ -119,7 +124,8 @@ pub(crate) fn pause_in(
     requires laid { AreLaidOut pieces.now params.now layout.now }
     requires p { p < length pieces.now }
     requires q { q < length pieces.now }
-    ensures { result ≡ pause_at (facts pieces.now params.now) p q }
+    ensures value { result ≡ pause_at (facts pieces.now params.now) p q }
+    ensures range { IfSome result (λ time. time < 4294967295) }
 {
     let piece = &pieces[p as usize];
     let next = &pieces[q as usize];
@@ -148,6 +154,7 @@ impl<'p> DutyNet<'p> {
     {
         let layout = layout_of(alloc, pieces.as_slice(), params)?;
         let followers = followers_of(alloc, pieces.as_slice(), params, &layout)?;
+        let pauses = pauses_of(alloc, pieces.as_slice(), params, &layout)?;
         let counts = worth == Worth::Count;
         Ok(DutyNet {
             pieces,
@@ -155,6 +162,7 @@ impl<'p> DutyNet<'p> {
             counts,
             layout: Box::new(alloc, layout)?,
             followers: Box::new(alloc, followers)?,
+            pauses,
         })
     }
 
@@ -248,6 +256,13 @@ impl<'p> DutyNet<'p> {
         requires q { q < length self.now.pieces }
         ensures { result ≡ pause_at self.now p q }
     {
-        pause_in(self.pieces(), self.params, &self.layout, p, q)
+        pause_among(
+            self.pauses.as_slice(),
+            self.pieces(),
+            self.params,
+            &self.layout,
+            p,
+            q,
+        )
     }
 }
