@@ -4,3 +4,4 @@ pub mod Checks
 pub mod Ties
 pub mod Looking
 pub mod Early
+pub mod Overs

@@ -20,7 +20,19 @@ pub(crate) struct BoundTables {
     pub over: Vec<Row>,
 }
 
+/// A copy of rows.
+fn copy_of(alloc: Global, rows: &[Row]) -> Result<Vec<Row>, Memory>
+    ensures { IfOk result (λ copy. copy.items ≡ rows.now) }
+{
+    let mut copy = Vec::new(alloc);
+    copy.extend_from_slice(rows)?;
+    Ok(copy)
+}
+
 /// The rows of the pieces from a first one on, where no list signs on later than `latest`. `Memory` is the only error.
+///
+/// The bounds of lists with a long pause are bounds of all lists. Where driving is not told apart they serve for both, which takes half the
+/// time and lets hardly more lists through; and where the group may take the reduced rest both are the same.
 pub(crate) fn tables(
     alloc: Global,
     net: &DutyNet<'_>,
@@ -55,6 +67,13 @@ pub(crate) fn tables(
         first as usize,
     )?;
     let last = last_end(group, latest);
+    if reach.width == 1 || group.reduced {
+        let rows = copy_of(alloc, over.rows.as_slice())?;
+        return Ok(BoundTables {
+            rows,
+            over: over.rows,
+        });
+    }
     let rows = bounds(
         alloc,
         net,
