@@ -1,4 +1,4 @@
--- What the commands `plan` and `certify` write is accepted by the command `check`.
+-- Promise: what the commands `plan` and `certify` write is accepted by the command `check`.
 use Rattle.std.specs.Prelude.{◌≡◌, ℕ, ◌≤◌, false, List, [], ◌∷◌, ◌++◌, length, codes}
 use Rattle.input_files.specs.Stages.{most_bytes, most_cert}
 use Rattle.plan_command.specs.Planning.{Asked}

@@ -1,4 +1,4 @@
--- Open blocks as marks, and the numbers of the marks of open blocks.
+-- Promise: open blocks as marks, and the numbers of the marks of open blocks.
 use Rattle.std.specs.Prelude.{ℕ, pos, neg_ℤ, ◌+◌, ◌*◌, ◌<◌, ◌≤◌, ◌≤ℤ◌, List, [], ◌∷◌}
 use Rattle.std.specs.Ordering.{nat_cmp, int_cmp, ordering_then}
 use Rattle.std.specs.declared.cmp.Ordering.{Ordering}

@@ -1,4 +1,4 @@
--- The marks of open blocks are the open blocks of pricing, each with its class.
+-- Promise: the marks of open blocks are the open blocks of pricing, each with its class.
 --
 -- Marks are made from the class of a mark, its trip and its driving; the open blocks of pricing from a pool, and their steps join a cost
 -- and a driving. Where the class has the pool, both follow the same trips, links and cuts: so a list of trips has a mark exactly where it

@@ -1,4 +1,4 @@
--- The pieces of the blocks of a plan.
+-- Promise: the pieces of the blocks of a plan.
 use Rattle.std.specs.Prelude.{◌≡◌, ◌⊎◌, ℕ, ℤ, pos, ◌+◌, ◌<◌, ◌<ℤ◌, ◌≤ℤ◌, ◌-ℤ◌, List, [], ◌∷◌, ◌++◌, Option, Some, None, cond, option_and_then, unwrap_or, IfSome}
 use Rattle.std.specs.Int.RustNames.{unsigned_abs}
 use Rattle.plan_core.specs.declared.types.Leg.{Leg}

@@ -1,4 +1,4 @@
--- The legs of blocks that have a worth.
+-- Promise: the legs of blocks that have a worth.
 use Rattle.std.specs.Prelude.{ℕ, ℤ, pos, ◌+ℤ◌, ◌≤ℤ◌, false, List, [], ◌∷◌, ◌++◌, Option, Some, None, option_and_then, slice_get, is_some, unwrap_or, IsTrue}
 use Rattle.plan_core.specs.declared.types.Leg.{Leg}
 use Rattle.plan_core.specs.declared.types.LegKind.TheVariants.{PullIn}

@@ -1,4 +1,4 @@
--- Heads and rests of a day with two trips, from A to B and back, one pool at D, computed.
+-- Promise: heads and rests of a day with two trips, from A to B and back, one pool at D, computed.
 use Rattle.std.specs.Prelude.{◌≡◌, ℕ, pos, true, false, List, [], ◌∷◌, Some, None, refl}
 use Rattle.plan_core.specs.declared.types.Point.{Point}
 use Rattle.cover_core.specs.declared.Column.{Column}

@@ -1,4 +1,4 @@
--- What of an earlier plan's blocks has begun before a moment.
+-- Promise: what of an earlier plan's blocks has begun before a moment.
 use Rattle.std.specs.Prelude.{ℕ, pos, ◌-ℤ◌, int_lt, ◌<◌, ◌==◌, Bool, false, cond, zero, suc, List, [], ◌∷◌, ◌++◌, length, slice_get}
 use Rattle.std.specs.Option.{option_map_or}
 use Rattle.cover_core.specs.declared.Column.{Column}

@@ -1,4 +1,4 @@
--- What holds of the heads of plans of blocks.
+-- Promise: what holds of the heads of plans of blocks.
 use Rattle.std.specs.Prelude.{◌≡◌, ◌↔◌, ℕ, ◌<◌, Bool, List, length}
 use Rattle.cover_core.specs.declared.Column.{Column}
 use Rattle.cover_core.specs.Plans.{IsPlan, all_items, times}

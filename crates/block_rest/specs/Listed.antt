@@ -1,4 +1,4 @@
--- The lists of a rest.
+-- Promise: the lists of a rest.
 use Rattle.cover_core.specs.Plans.{HasListedColumns}
 use Rattle.depot_network.specs.Network.{blocks_of}
 use Rattle.cover_rest.proofs.Lists.{rest-listed}

@@ -1,4 +1,4 @@
--- Open blocks cost little.
+-- Inner: open blocks cost little.
 use Rattle.std.specs.Prelude.{pos, ◌≤ℤ◌, ◌+ℤ◌, ◌*ℤ◌}
 use Rattle.day_model.specs.Facts.{DayFacts}
 use Rattle.depot_network.specs.declared.open.OpenBlock.{OpenBlock}

@@ -1,4 +1,4 @@
--- The rest of the blocks of a day.
+-- Promise: the rest of the blocks of a day.
 use Rattle.std.specs.Prelude.{◌≡◌, ℕ, Bool, false, not, List, [], ◌∷◌, length}
 use Rattle.cover_core.specs.Cover.{Problem}
 use Rattle.day_model.specs.Facts.{DayFacts}

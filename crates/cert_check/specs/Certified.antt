@@ -1,4 +1,4 @@
--- What a yes of the checker means.
+-- Promise: what a yes of the checker means.
 use Rattle.std.specs.Prelude.{◌≡◌, ℕ, false, length, None, Ok, slice_index}
 use Rattle.cover_core.specs.declared.Plan.{Plan}
 use Rattle.cover_core.specs.Plans.{cost}

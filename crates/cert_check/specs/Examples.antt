@@ -1,4 +1,4 @@
--- The pieces and duties of an earlier plan of a day with two trips, from A to B and back, one pool at D and drivers relieved at B,
+-- Promise: the pieces and duties of an earlier plan of a day with two trips, from A to B and back, one pool at D and drivers relieved at B,
 -- computed.
 use Rattle.std.specs.Prelude.{◌≡◌, ℕ, pos, false, List, [], ◌∷◌, None, Some, refl}
 use Rattle.plan_core.specs.declared.types.Piece.{Piece}

@@ -1,4 +1,4 @@
--- What the checker looks at, and what it makes of it.
+-- Promise: what the checker looks at, and what it makes of it.
 use Rattle.std.specs.Prelude.{◌≡◌, ℕ, pos, ◌+◌, ◌-◌, ◌&&◌, Bool, true, false, nat_eq, List, [], ◌∷◌, length, map, Option, Some, None, Result, unwrap_or, slice_index_or, if◌then◌else◌}
 use Rattle.std.specs.List.{list_all, position_from, zip}
 use Rattle.plan_core.specs.declared.types.Piece.{Piece}

@@ -1,4 +1,4 @@
--- Whether the tables of an earlier plan are a plan of the day, whatever places there are.
+-- Promise: whether the tables of an earlier plan are a plan of the day, whatever places there are.
 use Rattle.std.specs.Prelude.{◌≡◌, ℕ, ◌+◌, ◌<◌, false, List, [], ◌∷◌, length, map, Option, Some, None, Ok, Err, slice_get}
 use Rattle.plan_core.specs.declared.types.Piece.{Piece}
 use Rattle.vdv451_text.specs.declared.table.Table.{Table}

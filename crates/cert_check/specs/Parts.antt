@@ -1,4 +1,4 @@
--- The four parts of a certificate.
+-- Inner: the four parts of a certificate.
 use Rattle.std.specs.Prelude.{List, [], ◌∷◌}
 use Rattle.plan_cert.specs.declared.cert.CertPart.{CertPart}
 use Rattle.cert_check.specs.declared.parts.FourParts.{FourParts}

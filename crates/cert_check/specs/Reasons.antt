@@ -1,4 +1,4 @@
--- The first reason against a plan and its certificate, or a yes.
+-- Promise: the first reason against a plan and its certificate, or a yes.
 use Rattle.std.specs.Prelude.{codes, zero, suc, ◌≡◌, ℕ, ℤ, pos, ◌+◌, ◌<◌, ◌≤◌, ◌≤ℤ◌, ◌<ℤ◌, ◌⊎◌, nat_eq, nat_lt, Bool, true, false, List, [], ◌∷◌, length, Option, Some, None, Result, Ok, Err, min, slice_get, slice_index, if◌then◌else◌}
 use Rattle.plan_core.specs.declared.types.Piece.{Piece}
 use Rattle.cover_core.specs.declared.Column.{Column}

@@ -1,4 +1,4 @@
--- What the steps of the checker begin with and end with.
+-- Promise: what the steps of the checker begin with and end with.
 use Rattle.std.specs.Prelude.{◌≡◌, ◌⊎◌, ℕ, ℤ, pos, int_lt, ◌+◌, ◌<◌, ◌≤◌, ◌^◌, All, Bool, IsTrue, List, [], ◌∷◌, Option, Some, None, true, false, length, slice_index}
 use Rattle.std.specs.List.{position_from}
 use Rattle.cover_core.specs.FirstLeast.{AllWithin}

@@ -1,4 +1,4 @@
--- Which bars a page has, and what escaped text is.
+-- Promise: which bars a page has, and what escaped text is.
 use Rattle.std.specs.Prelude.{◌≡◌, ℕ, Bool, not, ◌==◌, ◌||◌, List, [], ◌∷◌, ◌++◌, map, Option, Some, None, Ok}
 use Rattle.std.specs.List.{enumerate_from}
 use Rattle.vdv451_text.specs.declared.table.Table.{Table}

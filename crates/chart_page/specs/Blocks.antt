@@ -1,4 +1,4 @@
--- The chart of the blocks: their legs as bars, by pool.
+-- Promise: the chart of the blocks: their legs as bars, by pool.
 use Rattle.std.specs.Prelude.{ℕ, ◌==◌, List, [], ◌∷◌, ◌++◌, length, map, find, Option, Some, None, unwrap_or, slice_get}
 use Rattle.std.specs.List.{flat_map, enumerate_from}
 use Rattle.std.specs.Option.{option_map}

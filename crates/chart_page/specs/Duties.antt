@@ -1,4 +1,4 @@
--- The chart of the duties: from sign-on to sign-off with their pieces and pauses as bars, by group.
+-- Promise: the chart of the duties: from sign-on to sign-off with their pieces and pauses as bars, by group.
 use Rattle.std.specs.Prelude.{ℕ, ◌==◌, ◌&&◌, nat_lt, List, [], ◌∷◌, ◌++◌, length, map, Option, Some, None, if◌then◌else◌}
 use Rattle.std.specs.List.{flat_map, enumerate_from}
 use Rattle.vdv451_text.specs.declared.table.Table.{Table}

@@ -1,4 +1,4 @@
--- What the two charts share: their frame, their hours, and the words for ends, labels, pools and groups.
+-- Promise: what the two charts share: their frame, their hours, and the words for ends, labels, pools and groups.
 use Rattle.std.specs.Prelude.{ℕ, ◌+◌, ◌-◌, ◌*◌, min, Bool, true, false, List, [], ◌∷◌, ◌++◌}
 use Rattle.std.specs.List.{flat_map, range_with_len}
 use Rattle.vdv451_text.specs.declared.table.Table.{Table}

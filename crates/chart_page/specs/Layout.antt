@@ -1,4 +1,4 @@
--- Where bars lie: the hours of a chart, and the lanes of blocks and duties.
+-- Promise: where bars lie: the hours of a chart, and the lanes of blocks and duties.
 use Rattle.std.specs.Prelude.{ℕ, ◌+◌, ◌-◌, ◌/◌, ◌==◌, nat_lt, min, max, false, List, length, take, map, fold, count_by, unwrap_or, slice_get}
 use Rattle.std.specs.List.{enumerate_from}
 use Rattle.chart_page.specs.declared.layout.Hours.{Hours}

@@ -1,4 +1,4 @@
--- The page's own constants. All markup of a page stems from them.
+-- Promise: the page's own constants. All markup of a page stems from them.
 use Rattle.std.specs.Prelude.{ℕ, List, codes}
 use Rattle.chart_page.specs.declared.marks.TheConstants as constants
 use Rattle.chart_page.specs.declared.marks.Mark.{Mark}

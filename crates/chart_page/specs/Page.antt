@@ -1,4 +1,4 @@
--- The page: the values with their bounds, the chart of the blocks and the chart of the duties.
+-- Promise: the page: the values with their bounds, the chart of the blocks and the chart of the duties.
 use Rattle.std.specs.Prelude.{◌≡◌, ℕ, ◌/◌, ◌%◌, List, [], ◌∷◌, ◌++◌, Option, Some, None, Result, Ok}
 use Rattle.std.specs.List.{flat_map}
 use Rattle.vdv451_text.specs.declared.table.Table.{Table}

@@ -1,4 +1,4 @@
--- The checker accepts what the planner writes.
+-- Promise: the checker accepts what the planner writes.
 use Rattle.std.specs.Prelude.{length}
 use Rattle.vdv451_text.specs.declared.table.Table.{Table}
 use Rattle.cover_core.specs.declared.Plan.{Plan}

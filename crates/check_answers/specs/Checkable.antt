@@ -1,4 +1,4 @@
--- A planned day as the checker is handed it, and what has to hold of it.
+-- Promise: a planned day as the checker is handed it, and what has to hold of it.
 use Rattle.std.specs.Prelude.{◌≡◌, false, IfSome}
 use Rattle.plan_core.specs.declared.types.Point.{Point}
 use Rattle.vdv451_text.specs.declared.table.Table.{Table}

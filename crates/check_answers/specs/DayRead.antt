@@ -1,4 +1,4 @@
--- A day that is read from tables.
+-- Promise: a day that is read from tables.
 use Rattle.std.specs.Prelude.{◌≡◌, ◌<◌, ◌^◌, All, IsTrue, List, None, Some, length}
 use Rattle.vdv451_text.specs.declared.table.Table.{Table}
 use Rattle.vdv451_text.specs.Plain.{are_plain}

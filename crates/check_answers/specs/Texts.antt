@@ -1,4 +1,4 @@
--- The tables of the two texts of a day are accepted.
+-- Promise: the tables of the two texts of a day are accepted.
 use Rattle.std.specs.Prelude.{◌≡◌, ℕ, false, List}
 use Rattle.plan_command.specs.Planning.{Asked}
 use Rattle.vdv451_text.specs.declared.table.Table.{Table}

@@ -1,4 +1,4 @@
--- Prices that are lowered by columns whose classes ask for a place.
+-- Promise: prices that are lowered by columns whose classes ask for a place.
 use Rattle.std.specs.Prelude.{◌≡◌, ◌≢◌, ℕ, ℤ, pos, ◌+ℤ◌, int_lt, cond, List, [], ◌∷◌, length}
 use Rattle.plan_core.specs.declared.Price.{Price}
 use Rattle.cover_core.specs.declared.Column.{Column}

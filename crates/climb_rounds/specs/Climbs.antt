@@ -1,4 +1,4 @@
--- Why climbing gives no plan.
+-- Promise: why climbing gives no plan.
 use Rattle.cover_core.specs.Cover.{Problem}
 use Rattle.plan_round.specs.Laws.{HasRoomForEach, IsStuck}
 use Rattle.climb_rounds.specs.declared.climbed.ClimbFault.{ClimbFault}

@@ -1,4 +1,4 @@
--- The order in which columns of a plan are freed.
+-- Inner: the order in which columns of a plan are freed.
 use Rattle.std.specs.Prelude.{Bool}
 use Rattle.std.specs.Ordering.{nat_cmp, int_cmp, then_cmp, on, flip_args, is_lt}
 use Rattle.std.specs.declared.cmp.Ordering.{Ordering}

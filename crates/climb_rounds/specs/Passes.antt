@@ -1,4 +1,4 @@
--- What the offers of a pass lead to.
+-- Inner: what the offers of a pass lead to.
 use Rattle.cover_core.specs.Cover.{Problem}
 use Rattle.plan_dive.specs.Grounds.{IsCourse}
 use Rattle.price_rounds.specs.Steps.{IsOffer}

@@ -1,4 +1,4 @@
--- What a search keeps.
+-- Inner: what a search keeps.
 use Rattle.std.specs.Prelude.{◌≡◌, ℕ, Bool, true, false}
 use Rattle.cover_core.specs.Cover.{Problem}
 use Rattle.cover_core.specs.FirstLeast.{AreCheap}

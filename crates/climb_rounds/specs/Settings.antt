@@ -1,4 +1,4 @@
--- What estimates stand on.
+-- Inner: what estimates stand on.
 use Rattle.std.specs.Prelude.{◌≡◌, length}
 use Rattle.cover_core.specs.Cover.{Problem}
 use Rattle.offer_estimate.specs.Scales.{AreCaps, AreWorths}

@@ -1,4 +1,4 @@
--- What holds of prices on their way.
+-- Inner: what holds of prices on their way.
 use Rattle.std.specs.Prelude.{IfSome}
 use Rattle.cover_core.specs.Cover.{Problem}
 use Rattle.offer_estimate.specs.Scales.{IsScale}

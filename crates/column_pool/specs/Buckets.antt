@@ -1,4 +1,4 @@
--- Buckets, by which a column is found among others: each column shows the one before it in its bucket.
+-- Inner: buckets, by which a column is found among others: each column shows the one before it in its bucket.
 use Rattle.std.specs.Prelude.{◌≡◌, ◌==◌, ℕ, ◌+◌, ◌*◌, ◌%◌, ◌<◌, ◌≤◌, cond, suc, List, [], ◌∷◌, length, take, fold, slice_index}
 use Rattle.cover_core.specs.declared.Column.{Column}
 use Rattle.cover_core.specs.Parts.{column_at}

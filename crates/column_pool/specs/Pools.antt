@@ -1,4 +1,4 @@
--- Pools of distinct columns, and their order by value.
+-- Promise: pools of distinct columns, and their order by value.
 use Rattle.std.specs.Prelude.{◌≡◌, ◌==◌, ◌&&◌, ◌||◌, ◌<◌, ℕ, nat_eq, nat_le, Bool, false, cond, zero, suc, List, [], ◌∷◌, ◌++◌, length, take, IsPermutation, IsSortedBy}
 use Rattle.std.specs.List.{list_any}
 use Rattle.std.specs.Cmp.Lexicographic.{pointwise}

@@ -1,4 +1,4 @@
--- The nearest later items of an item.
+-- Inner: the nearest later items of an item.
 use Rattle.std.specs.Prelude.{ℕ, ℤ, ◌<◌, int_lt, Bool, true, cond, Option, Some, None, IfSome}
 use Rattle.column_weave.specs.declared.nearest.Near.{Near}
 use Rattle.column_weave.specs.declared.nearest.Nearest.{Nearest}

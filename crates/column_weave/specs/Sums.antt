@@ -1,4 +1,4 @@
--- The ranges of sums over links.
+-- Promise: the ranges of sums over links.
 use Rattle.std.specs.Prelude.{ℕ, ℤ, pos, neg_ℤ, ◌≤ℤ◌, ◌+◌, ◌*◌, ◌<◌, ◌≤◌, Bool, not, ◌&&◌, ◌||◌, int_lt, List, length, slice_index_or}
 use Rattle.column_weave.specs.declared.sums.Least.{Least}
 use Rattle.column_weave.specs.declared.link.Link.{Link}

@@ -1,4 +1,4 @@
--- Links between items, by class: what they say of the problem.
+-- Promise: links between items, by class: what they say of the problem.
 use Rattle.std.specs.Prelude.{◌≡◌, ℕ, ℤ, pos, ◌-ℤ◌, ◌≤ℤ◌, ◌*◌, ◌<◌, [], ◌∷◌, length, Option, Some, None, IfSome, slice_index_or, All}
 use Rattle.cover_core.specs.Cover.{Problem}
 use Rattle.column_weave.specs.declared.link.Link.{Link}

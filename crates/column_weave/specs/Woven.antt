@@ -1,4 +1,4 @@
--- What is woven.
+-- Promise: what is woven.
 use Rattle.std.specs.Prelude.{◌≡◌, ℕ, ℤ, neg_ℤ, ◌<ℤ◌, ◌<◌, ◌≤◌, List, length, slice_index, All}
 use Rattle.plan_core.specs.declared.Price.{Price}
 use Rattle.cover_core.specs.declared.Column.{Column}

@@ -1,4 +1,4 @@
--- The first least of a group as a function of the problem: of all lists of the group with a worth, the earliest column.
+-- Promise: the first least of a group as a function of the problem: of all lists of the group with a worth, the earliest column.
 use Rattle.std.specs.Prelude.{ℕ, ℤ, int_le, ◌/◌, ◌==◌, Bool, false, cond, zero, suc, List, [], ◌∷◌, ◌++◌, map, Option, Some, None}
 use Rattle.std.specs.List.{filter_map}
 use Rattle.std.specs.Option.{option_map, option_map_or}

@@ -1,4 +1,4 @@
--- The order of lists, and the first least of the lists of a class.
+-- Promise: the order of lists, and the first least of the lists of a class.
 use Rattle.std.specs.Prelude.{◌≡◌, ℕ, false, ℤ, ◌≤ℤ◌, ◌<ℤ◌, ◌/◌, ◌<◌, ◌≤◌, List, [], ◌∷◌, length, reverse, Some, neg_ℤ, pos, negsuc}
 use Rattle.std.specs.declared.cmp.Ordering.{Ordering}
 use Rattle.std.specs.Ordering.{nat_cmp, is_gt}

@@ -1,4 +1,4 @@
--- What a call needs of columns that it looks at together with prices.
+-- Promise: what a call needs of columns that it looks at together with prices.
 use Rattle.std.specs.Prelude.{ℕ, ◌<◌, ◌≤◌, List, [], ◌∷◌}
 use Rattle.cover_core.specs.declared.Column.{Column}
 use Rattle.cover_core.specs.Cover.{Rises, AllBelow}

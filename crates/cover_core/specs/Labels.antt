@@ -1,4 +1,4 @@
--- Labels of lists: a label is made from one item, carried over one item more, and says enough of its list.
+-- Promise: labels of lists: a label is made from one item, carried over one item more, and says enough of its list.
 use Rattle.std.specs.Prelude.{◌≡◌, ℕ, ℤ, ◌≤ℤ◌, ◌<ℤ◌, ◌⊎◌, List, [], ◌∷◌, ◌++◌, Option, Some, None}
 use Rattle.cover_core.specs.FirstLeast.{IsNotAfter}
 

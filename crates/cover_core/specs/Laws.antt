@@ -1,4 +1,4 @@
--- What holds of every problem: the statements of the public laws.
+-- Promise: what holds of every problem: the statements of the public laws.
 use Rattle.std.specs.Prelude.{◌≡◌, ℕ, ℤ, pos, ◌+ℤ◌, ◌≤ℤ◌, ◌<ℤ◌, ◌⊎◌, ◌<◌, ◌≤◌, List, [], ◌++◌, length, sum, Option, Some, None}
 use Rattle.std.specs.declared.cmp.Ordering.TheVariants.{Equal}
 use Rattle.plan_core.specs.declared.Price.{Price}

@@ -1,4 +1,4 @@
--- Parts of plans: some columns, in which no item stands twice and no class has more than its cap.
+-- Promise: parts of plans: some columns, in which no item stands twice and no class has more than its cap.
 use Rattle.std.specs.Prelude.{ℕ, ◌<◌, ◌≤◌, ◌==◌, nat_lt, Bool, List, [], length, slice_index, slice_index_or}
 use Rattle.cover_core.specs.declared.Column.{Column}
 use Rattle.cover_core.specs.Cover.{Problem}

@@ -1,4 +1,4 @@
--- Plans, costs, prices and bounds.
+-- Promise: plans, costs, prices and bounds.
 use Rattle.std.specs.Prelude.{◌≡◌, ◌==◌, ◌≢◌, ℕ, ℤ, pos, negsuc, ◌+ℤ◌, ◌-ℤ◌, ◌*ℤ◌, ◌≤ℤ◌, ◌+◌, ◌*◌, ◌/◌, ◌<◌, ◌≤◌, cond, suc, zero, List, [], ◌∷◌, ◌++◌, length, Some, slice_index}
 use Rattle.plan_core.specs.declared.Price.{Price}
 use Rattle.cover_core.specs.declared.Column.{Column}

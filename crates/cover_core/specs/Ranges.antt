@@ -1,4 +1,4 @@
--- Ranges that hold throughout a problem.
+-- Promise: ranges that hold throughout a problem.
 use Rattle.std.specs.Prelude.{ℕ, ◌<◌, ◌≤◌, List, length, All, IfSome}
 use Rattle.cover_core.specs.Cover.{Problem}
 

@@ -1,4 +1,4 @@
--- Prices: where they start, how a turn moves them, and how a column lowers them.
+-- Promise: Prices: where they start, how a turn moves them, and how a column lowers them.
 use Rattle.std.specs.Prelude.{ℕ, ℤ, pos, neg_ℤ, ◌+ℤ◌, ◌-ℤ◌, ◌*ℤ◌, int_lt, int_div, unsigned_abs, ◌+◌, ◌-◌, ◌*◌, ◌/◌, min, Bool, cond, ◌&&◌, ◌==◌, nat_lt, zero, suc, List, [], ◌∷◌, length, Option, Some, None, unwrap_or, slice_index}
 use Rattle.std.specs.List.{sum_by, count_by}
 use Rattle.std.specs.Ordering.{nat_cmp, int_cmp, then_cmp, on, is_lt}

@@ -1,5 +1,6 @@
--- How planning ends, as it is defined: from a problem with each worth 1 and one with costs, and from numbers of rounds and steps. There are
--- two methods: that of fixed rounds is defined step by step, and ends in one way alone; climbing is told by what it promises.
+-- Promise: how planning ends, as it is defined: from a problem with each worth 1 and one with costs, and from numbers of rounds and
+-- steps. There are two methods: that of fixed rounds is defined step by step, and ends in one way alone; climbing is told by what it
+-- promises.
 use Rattle.std.specs.Prelude.{◌≡◌, ℕ, ◌<◌, ◌≤◌, Bool, true, false, List, Option, Some, None, sum}
 use Rattle.cover_core.specs.declared.Column.{Column}
 use Rattle.cover_core.specs.Cover.{Problem}

@@ -1,4 +1,4 @@
--- What planning gives, and why it gives no plan.
+-- Promise: what planning gives, and why it gives no plan.
 use Rattle.std.specs.Prelude.{◌≡◌, ℕ, ◌≤◌, List, length}
 use Rattle.cover_core.specs.declared.Column.{Column}
 use Rattle.cover_core.specs.Cover.{Problem}

@@ -1,4 +1,4 @@
--- What holds between the steps of planning.
+-- Inner: what holds between the steps of planning.
 use Rattle.std.specs.Prelude.{ℕ}
 use Rattle.cover_core.specs.declared.Plan.{Plan}
 use Rattle.cover_core.specs.Cover.{Problem}

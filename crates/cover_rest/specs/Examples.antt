@@ -1,4 +1,4 @@
--- A rest of six items, of which two columns have begun, computed.
+-- Promise: a rest of six items, of which two columns have begun, computed.
 use Rattle.std.specs.Prelude.{◌≡◌, ◌+◌, ℕ, Bool, true, false, cond, not, nat_eq, List, [], ◌∷◌, Option, Some, None, length, refl}
 use Rattle.cover_core.specs.declared.Column.{Column}
 use Rattle.cover_core.specs.Cover.{Problem}

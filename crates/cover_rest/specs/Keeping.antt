@@ -1,4 +1,4 @@
--- Plans that keep what has begun.
+-- Promise: plans that keep what has begun.
 use Rattle.std.specs.Prelude.{◌≡◌, ◌≢◌, ℕ, ◌≤◌, Bool, true, List, [], ◌∷◌, ◌++◌, Some, slice_get}
 use Rattle.cover_core.specs.declared.Column.{Column}
 use Rattle.cover_core.specs.Cover.{Problem, AllBelow}

@@ -1,4 +1,4 @@
--- The plans of a rest, written out, are the plans that keep what has begun.
+-- Promise: the plans of a rest, written out, are the plans that keep what has begun.
 use Rattle.std.specs.Prelude.{◌≡◌, ◌≢◌, ◌<◌, ◌≤◌, ℕ, Bool, List, [], length}
 use Rattle.cover_core.specs.declared.Column.{Column}
 use Rattle.cover_core.specs.Cover.{Problem, AllBelow}

@@ -1,4 +1,4 @@
--- Marks of the items that have begun.
+-- Inner: marks of the items that have begun.
 use Rattle.std.specs.Prelude.{ℕ, Bool, true, cond, suc, List, [], ◌∷◌, slice_set}
 use Rattle.cover_rest.specs.declared.begun.Begun.{Begun}
 

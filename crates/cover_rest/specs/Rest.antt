@@ -1,4 +1,4 @@
--- The rest of a set partitioning problem, of which some columns have begun.
+-- Promise: the rest of a set partitioning problem, of which some columns have begun.
 use Rattle.std.specs.Prelude.{ℕ, ◌==◌, nat_lt, nat_le, nat_eq, Bool, true, false, cond, ◌&&◌, ◌||◌, not, zero, suc, List, [], ◌∷◌, ◌++◌, length, Option, Some, None, slice_get}
 use Rattle.cover_core.specs.declared.Column.{Column}
 use Rattle.cover_core.specs.Cover.{Problem}

@@ -1,4 +1,4 @@
--- A problem of three items, on which examples are worked by hand.
+-- Inner: a problem of three items, on which examples are worked by hand.
 use Rattle.std.specs.Prelude.{ℕ, ◌+◌, ◌<◌, nat_lt, ◌&&◌, cond, List, [], ◌∷◌, Option, Some, None}
 use Rattle.std.proofs.Common.{arith}
 use Rattle.std.proofs.lemmas.Bool.Decides.{nat_tests}

@@ -1,4 +1,4 @@
--- Numbers that a field can hold.
+-- Inner: numbers that a field can hold.
 use Rattle.std.specs.Prelude.{◌<◌, ◌^◌, List, [], ◌∷◌}
 use Rattle.day_maker.specs.declared.cells.Cell.{Cell}
 use Rattle.day_maker.specs.declared.cells.Cell.TheVariants.{Number, Variant, Nothing}

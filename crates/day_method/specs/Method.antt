@@ -1,5 +1,5 @@
--- How a day is planned, as it is defined: its blocks, and then duties over the pieces of the blocks. Four passes are made, and the first
--- that gives no plan ends the planning. No worker occurs here.
+-- Promise: how a day is planned, as it is defined: its blocks, and then duties over the pieces of the blocks. Four passes are made, and
+-- the first that gives no plan ends the planning. No worker occurs here.
 use Rattle.std.specs.Prelude.{◌≡◌, ℕ, Bool, true, false, List, Option}
 use Rattle.cover_core.specs.declared.Column.{Column}
 use Rattle.cover_core.specs.Cover.{Problem}

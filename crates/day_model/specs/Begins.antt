@@ -1,4 +1,4 @@
--- Trips by the points at which they begin and end, and by the time.
+-- Promise: trips by the points at which they begin and end, and by the time.
 use Rattle.std.specs.Prelude.{◌≡◌, ◌<◌, ◌≤◌, ◌*◌, ◌≤ℤ◌, ℕ, ℤ, pos, List, Some, length, slice_get, slice_index}
 use Rattle.trip_times.specs.declared.trip.Trip.{Trip}
 

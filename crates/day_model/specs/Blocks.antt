@@ -1,4 +1,4 @@
--- What a list of trips is worth as a block of a pool (multi-depot vehicle scheduling).
+-- Promise: what a list of trips is worth as a block of a pool (multi-depot vehicle scheduling).
 use Rattle.std.specs.Prelude.{ℕ, ◌+◌, ◌*◌, Bool, true, cond, ◌&&◌, nat_lt, List, [], ◌∷◌, Option, Some, None, option_and_then, slice_get}
 use Rattle.vdv452_tables.specs.Keys.{point_eq}
 use Rattle.trip_times.specs.declared.trip.Trip.{Trip}

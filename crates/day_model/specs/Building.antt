@@ -1,4 +1,4 @@
--- The day of a network, or the first reason why there is none.
+-- Promise: the day of a network, or the first reason why there is none.
 use Rattle.std.specs.Prelude.{◌≡◌, ℕ, ◌≤◌, nat_lt, List, [], ◌∷◌, length, Option, Some, None, Result, Ok, Err, slice_get, if◌then◌else◌}
 use Rattle.vdv452_tables.specs.declared.net.Net.{Net}
 use Rattle.vdv452_rows.specs.declared.rows.TripRow.{TripRow}

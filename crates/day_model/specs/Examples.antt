@@ -1,4 +1,4 @@
--- Worked examples, computed: two trips, from A to B and back, with a depot D and one pool.
+-- Promise: worked examples, computed: two trips, from A to B and back, with a depot D and one pool.
 use Rattle.std.specs.Prelude.{◌≡◌, ℕ, ◌+◌, pos, true, false, [], ◌∷◌, Some, None, refl}
 use Rattle.plan_core.specs.declared.types.Piece.{Piece}
 use Rattle.plan_core.specs.declared.types.Point.{Point}

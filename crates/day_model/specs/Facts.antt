@@ -1,4 +1,4 @@
--- A day as its rules see it.
+-- Promise: a day as its rules see it.
 use Rattle.std.specs.Prelude.{ℕ, Bool, List, Option}
 use Rattle.plan_core.specs.declared.types.Point.{Point}
 use Rattle.day_calendar.specs.declared.day.DayKind.{DayKind}

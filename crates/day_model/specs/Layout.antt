@@ -1,4 +1,4 @@
--- The times of deadheads, the admissions and the relief points of a day, laid out flat.
+-- Inner: the times of deadheads, the admissions and the relief points of a day, laid out flat.
 use Rattle.std.specs.Prelude.{◌≡◌, ℕ, Bool, List, Some, length, map, slice_get, slice_index}
 use Rattle.std.specs.List.{flat_map}
 use Rattle.trip_times.specs.declared.trip.Trip.{Trip}

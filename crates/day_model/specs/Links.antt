@@ -1,4 +1,4 @@
--- The links between trips and the pulls of pools (multi-depot vehicle scheduling).
+-- Promise: the links between trips and the pulls of pools (multi-depot vehicle scheduling).
 use Rattle.std.specs.Prelude.{ℕ, ℤ, pos, negsuc, ◌-ℤ◌, Bool, ◌&&◌, nat_le, Option, Some, None, option_and_then, slice_get, is_some, if◌then◌else◌}
 use Rattle.trip_times.specs.declared.trip.Trip.{Trip}
 use Rattle.plan_params.specs.declared.rows.pool.Pool.{Pool}

@@ -1,4 +1,4 @@
--- The numbers of a day are in their ranges.
+-- Promise: the numbers of a day are in their ranges.
 use Rattle.std.specs.Prelude.{pos, ◌≤◌, ◌≤ℤ◌, ◌≡◌, All, length}
 use Rattle.trip_times.specs.declared.trip.Trip.{Trip}
 use Rattle.plan_params.specs.Limits.{HaveRanges}

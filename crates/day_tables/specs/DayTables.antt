@@ -1,4 +1,4 @@
--- The tables that tell of a day: what it is, and its trips.
+-- Promise: the tables that tell of a day: what it is, and its trips.
 use Rattle.std.specs.Prelude.{ℕ, List, [], ◌∷◌, length, map, Option, Some, option_and_then, slice_get, codes}
 use Rattle.std.specs.List.{zip}
 use Rattle.vdv451_text.specs.declared.table.Table.{Table}

@@ -1,4 +1,4 @@
--- How long moves without passengers take.
+-- Promise: how long moves without passengers take.
 use Rattle.std.specs.Prelude.{◌≡◌, ℕ, List, Option, Some, if◌then◌else◌}
 use Rattle.indexmap.specs.IndexMap.{IndexMap, get}
 use Rattle.plan_core.specs.declared.types.Point.{Point}

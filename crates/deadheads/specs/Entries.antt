@@ -1,4 +1,4 @@
--- Times by the ends of moves.
+-- Promise: times by the ends of moves.
 use Rattle.std.specs.Prelude.{ℕ, Bool, ◌&&◌, List, Option}
 use Rattle.std.specs.Map.{lookup}
 use Rattle.vdv452_tables.specs.Keys.{point_eq}

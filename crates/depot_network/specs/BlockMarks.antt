@@ -1,4 +1,4 @@
--- The marks of open blocks: lists of trips that may go on, with the driving since the last cut and the value so far.
+-- Promise: the marks of open blocks: lists of trips that may go on, with the driving since the last cut and the value so far.
 use Rattle.std.specs.Prelude.{ℕ, ℤ, pos, ◌+ℤ◌, ◌-ℤ◌, int_le, ◌+◌, ◌*◌, Bool, cond, ◌&&◌, nat_lt, nat_le, nat_eq, List, length, Option, Some, None, option_and_then, slice_get, if◌then◌else◌}
 use Rattle.plan_core.specs.declared.Price.{Price}
 use Rattle.plan_core.specs.declared.types.Point.{Point}

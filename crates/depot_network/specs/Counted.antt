@@ -1,4 +1,4 @@
--- Blocks that are counted are those that have costs, each worth 1.
+-- Inner: blocks that are counted are those that have costs, each worth 1.
 use Rattle.std.proofs.Common.{◌≡◌, ℕ, Bool, true, false, cond, List, Option, Some, None, refl, slice_get}
 use Rattle.std.specs.Prelude.{option_and_then}
 use Rattle.cover_core.specs.Laws.{IsCountOf}

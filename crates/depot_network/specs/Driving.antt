@@ -1,4 +1,4 @@
--- The driving of a block, trip by trip: since the last cut, or since the begin of the pull-out.
+-- Promise: the driving of a block, trip by trip: since the last cut, or since the begin of the pull-out.
 use Rattle.std.specs.Prelude.{ℕ, ◌+◌, ◌-ℤ◌, Bool, false, cond, ◌&&◌, ◌||◌, nat_le, List, [], ◌∷◌, Option, Some, option_and_then, is_some}
 use Rattle.std.specs.Int.RustNames.{unsigned_abs}
 use Rattle.std.specs.Option.{option_map_or}

@@ -1,4 +1,4 @@
--- A list of trips that is a block is not empty, rises, and has trips of the day alone.
+-- Promise: a list of trips that is a block is not empty, rises, and has trips of the day alone.
 use Rattle.std.proofs.Common.{◌≡◌, ◌≢◌, ℕ, ◌<◌, ◌&&◌, Bool, true, false, cond, nat_lt, List, [], ◌∷◌, length, Option, Some, None, refl, sym, ap, subst, arith, slice_get}
 use Rattle.std.specs.Prelude.{option_and_then, unwrap_or}
 use Rattle.std.proofs.lemmas.Bool.Decides.{nat_tests}

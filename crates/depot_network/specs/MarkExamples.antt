@@ -1,4 +1,4 @@
--- The marks of a day with two trips, from A to B and back, one pool at D and a relief point at B, computed.
+-- Promise: the marks of a day with two trips, from A to B and back, one pool at D and a relief point at B, computed.
 use Rattle.std.specs.Prelude.{◌≡◌, ℕ, pos, negsuc, true, false, List, [], ◌∷◌, ◌+◌, Some, None, refl}
 use Rattle.plan_core.specs.declared.Price.{Price}
 use Rattle.plan_core.specs.declared.types.Point.{Point}

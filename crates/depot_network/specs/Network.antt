@@ -1,4 +1,4 @@
--- The blocks of a day as columns: trips are items, pools are classes.
+-- Promise: the blocks of a day as columns: trips are items, pools are classes.
 use Rattle.std.specs.Prelude.{ℕ, Bool, true, false, List, length, map}
 use Rattle.cover_core.specs.declared.Worth.{Worth as WorthKind}
 use Rattle.cover_core.specs.declared.Worth.TheVariants.{Count, Cost}

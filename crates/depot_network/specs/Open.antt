@@ -1,4 +1,4 @@
--- Open blocks: lists of trips that may still go on. Their labels have the last trip, the driving at its end, and the value so far.
+-- Promise: open blocks: lists of trips that may still go on. Their labels have the last trip, the driving at its end, and the value so far.
 use Rattle.std.specs.Prelude.{ℕ, ℤ, pos, neg_ℤ, ◌+ℤ◌, ◌-ℤ◌, ◌≤ℤ◌, int_le, ◌+◌, ◌*◌, ◌<◌, ◌≤◌, Bool, cond, ◌&&◌, nat_eq, nat_le, List, Option}
 use Rattle.std.specs.Option.{option_map}
 use Rattle.plan_core.specs.declared.Price.{Price}

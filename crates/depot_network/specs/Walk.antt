@@ -1,4 +1,4 @@
--- The cost and the driving of a block, trip by trip.
+-- Promise: the cost and the driving of a block, trip by trip.
 use Rattle.std.specs.Prelude.{ℕ, ℤ, pos, ◌+◌, ◌*◌, ◌+ℤ◌, ◌*ℤ◌, ◌≤ℤ◌, nat_lt, List, [], ◌∷◌, Option, Some, None, option_and_then, is_some, slice_get}
 use Rattle.std.specs.Option.{option_map}
 use Rattle.trip_times.specs.declared.trip.Trip.{Trip}

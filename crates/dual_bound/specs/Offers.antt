@@ -1,4 +1,4 @@
--- Offers of prices: their class prices, their bounds, and which of two is kept.
+-- Promise: offers of prices: their class prices, their bounds, and which of two is kept.
 use Rattle.std.specs.Prelude.{ℕ, ℤ, nat_lt, cond, List}
 use Rattle.plan_core.specs.declared.Price.{Price}
 use Rattle.cover_core.specs.Plans.{bound_of}

@@ -1,4 +1,4 @@
--- Ranges of least values and class prices.
+-- Promise: ranges of least values and class prices.
 use Rattle.std.specs.Prelude.{ℤ, ◌≤ℤ◌, List, [], ◌∷◌}
 
 -- each number is at least a given one

@@ -1,4 +1,4 @@
--- Duties that are counted are those that have costs, each worth 1.
+-- Inner: duties that are counted are those that have costs, each worth 1.
 use Rattle.std.proofs.Common.{◌≡◌, ℕ, ℤ, ◌-ℤ◌, Bool, true, false, List, [], ◌∷◌, Option, Some, None, refl, ap, subst, slice_get}
 use Rattle.std.specs.Prelude.{option_and_then}
 use Rattle.plan_core.specs.declared.types.Piece.{Piece}

@@ -1,4 +1,4 @@
--- What is known of a list of pieces once it was walked.
+-- Promise: what is known of a list of pieces once it was walked.
 use Rattle.std.specs.Prelude.{◌≡◌, ℕ, ℤ, ◌<◌, ◌≤◌, nat_lt, List, [], ◌∷◌, ◌++◌, ◌-ℤ◌, length, Option, Some, option_and_then, slice_get}
 use Rattle.std.specs.Option.{option_map}
 use Rattle.plan_core.specs.declared.types.Piece.{Piece}

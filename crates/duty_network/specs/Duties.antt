@@ -1,4 +1,4 @@
--- Pauses between pieces, and which lists of pieces are lawful duties of a group (Regulation (EC) 561/2006).
+-- Promise: pauses between pieces, and which lists of pieces are lawful duties of a group (Regulation (EC) 561/2006).
 use Rattle.std.specs.Prelude.{ℕ, ℤ, pos, ◌+ℤ◌, ◌-ℤ◌, ◌+◌, ◌*◌, Bool, true, false, cond, ◌&&◌, nat_eq, map, List, [], ◌∷◌, length, Option, Some, None, option_and_then, slice_get}
 use Rattle.plan_core.specs.declared.types.Piece.{Piece}
 use Rattle.cover_core.specs.declared.Worth.{Worth}

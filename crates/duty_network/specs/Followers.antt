@@ -1,4 +1,4 @@
--- From which pieces on those that begin at a point can follow a piece.
+-- Promise: from which pieces on those that begin at a point can follow a piece.
 use Rattle.std.specs.Prelude.{◌≡◌, ◌≢◌, ℕ, zero, suc, ◌+◌, ◌<◌, ◌≤◌, List, [], ◌∷◌, Some, false, length, slice_get}
 use Rattle.plan_core.specs.declared.types.Piece.{Piece}
 use Rattle.plan_params.specs.declared.rows.ParamRows.{ParamRows}

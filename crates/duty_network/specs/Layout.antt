@@ -1,4 +1,4 @@
--- The ways of drivers between the points of a day, laid out flat.
+-- Inner: the ways of drivers between the points of a day, laid out flat.
 use Rattle.std.specs.Prelude.{◌≡◌, ℕ, List, Some, length, slice_get, slice_index}
 use Rattle.plan_core.specs.declared.types.Piece.{Piece}
 use Rattle.plan_params.specs.declared.rows.ParamRows.{ParamRows}

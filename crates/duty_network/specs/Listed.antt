@@ -1,4 +1,4 @@
--- A list of pieces that is a duty is not empty, rises, and has pieces of the net alone.
+-- Promise: a list of pieces that is a duty is not empty, rises, and has pieces of the net alone.
 use Rattle.std.proofs.Common.{◌≡◌, ◌≢◌, ℕ, ℤ, ◌<◌, ◌&&◌, ◌-ℤ◌, Bool, true, false, nat_lt, List, [], ◌∷◌, length, Option, Some, None, refl, sym, ap, subst, arith, slice_get}
 use Rattle.std.specs.Prelude.{option_and_then, unwrap_or}
 use Rattle.std.proofs.lemmas.Bool.Decides.{nat_tests}

@@ -1,4 +1,4 @@
--- The marks of open lists of pieces, and covers.
+-- Promise: the marks of open lists of pieces, and covers.
 use Rattle.std.specs.Prelude.{◌≡◌, ℕ, ℤ, pos, ◌+ℤ◌, ◌-ℤ◌, ◌*ℤ◌, ◌≤ℤ◌, int_le, ◌+◌, ◌≤◌, Bool, true, false, cond, ◌&&◌, ◌||◌, nat_eq, not, nat_le, nat_lt, List, Option, Some, option_and_then, slice_get}
 use Rattle.plan_core.specs.declared.types.Price.{Price}
 use Rattle.cover_core.specs.Plans.{price_at, number_at}

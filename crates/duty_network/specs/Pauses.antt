@@ -1,4 +1,4 @@
--- The pauses between the pieces of a net, worked out once.
+-- Inner: the pauses between the pieces of a net, worked out once.
 use Rattle.std.specs.Prelude.{◌≡◌, ℕ, ◌<◌, cond, nat_eq, List, Option, Some, None, length, slice_get}
 use Rattle.duty_network.specs.Duties.{DutyFacts, pause_at}
 use Rattle.duty_network.specs.Followers.{entry_at}

@@ -1,4 +1,4 @@
--- The ranges of the numbers of pieces and marks.
+-- Promise: the ranges of the numbers of pieces and marks.
 use Rattle.std.specs.Prelude.{ℕ, ℤ, pos, neg_ℤ, ◌≤◌, ◌<◌, ◌≤ℤ◌, ◌+◌, ◌*◌, ◌-ℤ◌, ◌*ℤ◌, Bool, cond, All, List, [], ◌∷◌, length}
 use Rattle.plan_core.specs.declared.types.Piece.{Piece}
 use Rattle.cover_core.specs.declared.marks.Mark.{Mark}

@@ -1,4 +1,4 @@
--- Numbers of seconds, and values that are there where a test holds.
+-- Promise: numbers of seconds, and values that are there where a test holds.
 use Rattle.std.specs.Prelude.{ℕ, ℤ, pos, negsuc, Bool, true, ◌&&◌, nat_lt, List, [], ◌∷◌, Option, Some, None, if◌then◌else◌}
 
 -- a number of seconds that is not below 0

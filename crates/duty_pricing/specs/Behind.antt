@@ -1,4 +1,4 @@
--- The row of a piece lowered to what going on with the later pieces adds: with the one that follows directly, and with those of each
+-- Inner: the row of a piece lowered to what going on with the later pieces adds: with the one that follows directly, and with those of each
 -- number.
 use Rattle.std.specs.Prelude.{◌≡◌, ◌≢◌, ℕ, ℤ, pos, neg_ℤ, ◌*◌, ◌<◌, ◌≤◌, ◌≤ℤ◌, ◌+ℤ◌, ◌-ℤ◌, List, Some, length}
 use Rattle.plan_core.specs.declared.types.Price.{Price}

@@ -1,4 +1,4 @@
--- Completion bounds of duties: what the rest of a list adds to its value at least, for each amount of driving that is left.
+-- Promise: completion bounds of duties: what the rest of a list adds to its value at least, for each amount of driving that is left.
 use Rattle.std.specs.Coded.{Unit-prop}
 use Rattle.std.proofs.Props.{props}
 use Rattle.std.specs.Prelude.{◌≡◌, ◌≢◌, cond, nat_le, ℕ, zero, suc, ℤ, pos, neg_ℤ, ◌*◌, ◌/◌, ◌-◌, ◌<◌, ◌≤◌, ◌≤ℤ◌, ◌+ℤ◌, ◌-ℤ◌, List, [], ◌∷◌, length, Some, slice_get}

@@ -1,4 +1,4 @@
--- Units of driving that are left of a day's.
+-- Promise: units of driving that are left of a day's.
 use Rattle.std.proofs.Common.{◌≡◌, ℕ, ◌+◌, ◌-◌, ◌/◌, ◌<◌, ◌≤◌, Bool, true, false, sym, subst, arith}
 use Rattle.std.proofs.Math.Nat.{add-mul, div-mul-le_self}
 use Rattle.std.proofs.lemmas.Nat.{le-div}

@@ -1,4 +1,4 @@
--- Heads and rests of a day with four pieces, all from the depot to the depot but for the last point of the third, computed.
+-- Promise: heads and rests of a day with four pieces, all from the depot to the depot but for the last point of the third, computed.
 use Rattle.std.specs.Prelude.{◌≡◌, ℕ, pos, true, false, List, [], ◌∷◌, Some, None, refl}
 use Rattle.plan_core.specs.declared.types.Piece.{Piece}
 use Rattle.plan_core.specs.declared.types.Point.{Point}

@@ -1,4 +1,4 @@
--- What of an earlier plan's duties has begun before a moment.
+-- Promise: what of an earlier plan's duties has begun before a moment.
 use Rattle.std.specs.Prelude.{ℕ, pos, int_lt, ◌-◌, nat_eq, Bool, true, false, cond, ◌&&◌, ◌||◌, zero, suc, List, [], ◌∷◌, ◌++◌, length, Option, Some, None, option_and_then, slice_get}
 use Rattle.std.specs.Option.{option_map, option_map_or}
 use Rattle.plan_core.specs.declared.types.Piece.{Piece}

@@ -1,4 +1,4 @@
--- What holds of the heads of plans of duties.
+-- Promise: what holds of the heads of plans of duties.
 use Rattle.std.specs.Prelude.{◌≡◌, ℕ, ◌+◌, ◌≤◌, ◌&&◌, ◌||◌, Bool, true, false, cond, not, List, [], ◌∷◌, ◌++◌, Option, Some, slice_get}
 use Rattle.std.specs.Option.{option_map_or}
 use Rattle.plan_core.specs.declared.types.Piece.{Piece}

@@ -1,4 +1,4 @@
--- The lists of a rest.
+-- Promise: the lists of a rest.
 use Rattle.cover_core.specs.Plans.{HasListedColumns}
 use Rattle.duty_network.specs.Duties.{duties}
 use Rattle.cover_rest.proofs.Lists.{rest-listed}

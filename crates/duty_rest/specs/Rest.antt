@@ -1,4 +1,4 @@
--- The rest of the duties of a day.
+-- Promise: the rest of the duties of a day.
 use Rattle.std.specs.Prelude.{◌≡◌, ℕ, Bool, true, List, [], ◌∷◌, length}
 use Rattle.cover_core.specs.Cover.{Problem}
 use Rattle.duty_network.specs.Duties.{DutyFacts, duties}

@@ -1,4 +1,4 @@
--- Full breaks, and the verdict of articles 6 to 8 of Regulation (EC) 561/2006 on the drives of a duty.
+-- Promise: full breaks, and the verdict of articles 6 to 8 of Regulation (EC) 561/2006 on the drives of a duty.
 use Rattle.std.specs.Prelude.{◌≡◌, ℕ, ◌+◌, ◌<◌, ◌≤◌, ◌⊎◌, Bool, true, false, cond, ◌||◌, ◌&&◌, nat_le, zero, suc, List, [], ◌∷◌, length, take, drop}
 use Rattle.eu561_rules.specs.declared.rules.Drive.{Drive}
 use Rattle.eu561_rules.specs.declared.rules.Limits.{Limits}

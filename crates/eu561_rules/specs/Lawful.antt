@@ -1,4 +1,4 @@
--- Whether a duty is lawful, as a test over all its intervals.
+-- Promise: whether a duty is lawful, as a test over all its intervals.
 use Rattle.std.specs.Prelude.{◌≡◌, ℕ, ◌+◌, ◌≤◌, Bool, true, false, ◌||◌, ◌&&◌, not, nat_le, cond, zero, suc, List, [], ◌∷◌, length, None}
 use Rattle.eu561_rules.specs.declared.rules.Drive.{Drive}
 use Rattle.eu561_rules.specs.declared.rules.Limits.{Limits}

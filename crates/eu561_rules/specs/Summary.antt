@@ -1,4 +1,4 @@
--- What a tally keeps of the drives of a duty, and which drives it stands for.
+-- Promise: what a tally keeps of the drives of a duty, and which drives it stands for.
 use Rattle.std.specs.Prelude.{◌≡◌, ℕ, ◌+◌, ◌*◌, ◌-◌, ◌<◌, ◌≤◌, ◌⊎◌, Bool, true, false, cond, ◌||◌, ◌&&◌, nat_le, nat_lt, is_none, List, [], ◌∷◌, length, drop, Option, Some, None}
 use Rattle.eu561_rules.specs.declared.rules.Drive.{Drive}
 use Rattle.eu561_rules.specs.declared.rules.Limits.{Limits}

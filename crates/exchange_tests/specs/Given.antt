@@ -1,4 +1,4 @@
--- Plans of five items, on which exchanges are worked by hand.
+-- Inner: plans of five items, on which exchanges are worked by hand.
 use Rattle.std.specs.Prelude.{ℕ, List, [], ◌∷◌}
 use Rattle.cover_core.specs.declared.Column.{Column}
 

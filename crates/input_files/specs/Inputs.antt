@@ -1,4 +1,4 @@
--- What files hold, the tables that they spell, and their first fault of text.
+-- Promise: what files hold, the tables that they spell, and their first fault of text.
 --
 -- Files are read one after another, and the first fault refuses all. So whether a fault of text is the first one is said of the files
 -- up to it alone, whatever the names behind it hold or hide: a fault of file n has its cause in what is held under the names 1 to n.

@@ -1,4 +1,4 @@
--- A line on standard error, written part by part.
+-- Promise: a line on standard error, written part by part.
 use Rattle.std.specs.Prelude.{◌≡◌, ℕ, ◌≤◌, Bool, true, false, ◌++◌, ◌⊎◌, List, [], ◌∷◌, Option, Some, IfSome, codes}
 use Rattle.plan_core.specs.Outside.{Rose}
 use Rattle.vdv451_text.specs.declared.fault.TextKind.{TextKind}

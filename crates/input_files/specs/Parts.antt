@@ -1,4 +1,4 @@
--- The tables of several files, one file after another.
+-- Promise: the tables of several files, one file after another.
 use Rattle.std.specs.Prelude.{List}
 use Rattle.std.specs.List.{flat_map}
 use Rattle.vdv451_text.specs.declared.table.Table.{Table}

@@ -1,4 +1,4 @@
--- What the next file is, how many bytes it may have, and what follows behind it.
+-- Promise: what the next file is, how many bytes it may have, and what follows behind it.
 use Rattle.std.specs.Prelude.{ℕ, zero, suc, ◌-◌, ◌<◌, ◌≤◌, ◌^◌}
 use Rattle.input_files.specs.declared.stage.Stage.{Stage}
 use Rattle.input_files.specs.declared.stage.Stage.TheVariants as stages

@@ -1,4 +1,4 @@
--- The marks of open lists of pieces, in all classes, and their order.
+-- Promise: the marks of open lists of pieces, in all classes, and their order.
 use Rattle.std.specs.Prelude.{ℕ, List, length}
 use Rattle.std.specs.declared.cmp.Ordering.{Ordering}
 use Rattle.std.specs.Ordering.{nat_cmp, int_cmp, bool_cmp, ordering_then}

@@ -1,4 +1,4 @@
--- Marks with numbers that are wide enough, as marks.
+-- Promise: marks with numbers that are wide enough, as marks.
 use Rattle.std.specs.Prelude.{ℤ, ◌-ℤ◌}
 use Rattle.cover_core.specs.declared.marks.Mark.{Mark}
 use Rattle.label_cover.specs.declared.open_mark.OpenMark.{OpenMark}

@@ -1,4 +1,4 @@
--- What dives hold.
+-- Inner: what dives hold.
 use Rattle.label_dive.specs.declared.dive.Reached.{Reached}
 
 -- the label's numbers fit

@@ -1,4 +1,4 @@
--- The parts of a row of places belong together.
+-- Inner: the parts of a row of places belong together.
 use Rattle.std.specs.Prelude.{◌≡◌, ℕ, length}
 use Rattle.label_region.specs.declared.raw.Base.{Base}
 use Rattle.label_region.specs.declared.raw.Cells.{Cells}

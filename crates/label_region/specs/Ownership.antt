@@ -1,4 +1,4 @@
--- What the owner of the places owns and lends, at labels of the row R.
+-- Inner: what the owner of the places owns and lends, at labels of the row R.
 use Rattle.std.specs.Prelude.{ℕ, ◌+◌, ◌*◌, ◌^◌, List, [], ◌∷◌, length, Option, Some, None}
 use Rattle.std.specs.Mem.{type_size}
 use base.Fraction.{full_share}

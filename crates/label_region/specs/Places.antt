@@ -1,4 +1,4 @@
--- Places that are empty or hold a value.
+-- Inner: places that are empty or hold a value.
 use Rattle.std.specs.Prelude.{◌≡◌, ℕ, List, [], ◌∷◌, get_or, Option, Some, None}
 
 module _ {X : Type 0} where

@@ -1,4 +1,4 @@
--- Labels in one block of memory.
+-- Inner: labels in one block of memory.
 use Rattle.std.specs.Prelude.{◌≡◌, ℕ, ◌≤◌, List, [], map, length, take, Option, Some, None, refl}
 use Rattle.std.specs.Coded.{Coded, code_by, coded×, coded_list, coded_ℕ}
 use Rattle.label_region.specs.Places.{values}

@@ -1,4 +1,4 @@
--- Labels by number, with the numbers that were given back.
+-- Promise: labels by number, with the numbers that were given back.
 use Rattle.std.specs.Prelude.{ℕ, ◌+◌, ◌-◌, ◌<◌, ◌≤◌, ◌==◌, List, [], ◌∷◌, length, Option, None, IsSome, slice_get, if◌then◌else◌, refl, All}
 use Rattle.std.specs.Coded.{Coded, code_by, coded×, coded_list, coded_ℕ}
 

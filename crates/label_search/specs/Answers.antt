@@ -1,4 +1,4 @@
--- What a search answers.
+-- Promise: what a search answers.
 use Rattle.std.specs.Prelude.{◌≡◌, ℕ, ℤ, ◌<ℤ◌, List, Option, Some}
 use Rattle.cover_core.specs.Labels.{Labelling, label_of, IsFirstClosed}
 

@@ -1,4 +1,5 @@
--- The laws of a labelling, beside those of cover_core (a label that is at least as good stays so, and closes with no greater value).
+-- Promise: the laws of a labelling, beside those of cover_core (a label that is at least as good stays so, and closes with no greater
+-- value).
 use Rattle.std.specs.Prelude.{◌≡◌, ℕ, ℤ, ◌<◌, ◌≤ℤ◌, Bool, true, Option, Some}
 use Rattle.cover_core.specs.Labels.{Labelling}
 

@@ -1,4 +1,4 @@
--- The nodes of a search, level by level: those of an item stand together.
+-- Promise: the nodes of a search, level by level: those of an item stand together.
 use Rattle.std.specs.Prelude.{◌≡◌, ℕ, ℤ, pos, ◌≤ℤ◌, ◌<ℤ◌, ◌≤◌, ◌-◌, List, [], ◌∷◌, ◌++◌, length, take, drop, Bool, None, fold}
 use Rattle.cover_core.specs.Labels.{Labelling}
 use Rattle.label_search.specs.declared.node.Node.{Node}

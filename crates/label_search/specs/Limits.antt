@@ -1,4 +1,4 @@
--- Labels that may still close within a limit.
+-- Promise: labels that may still close within a limit.
 use Rattle.std.specs.Prelude.{ℤ, int_le, Bool, cond, Option, Some, None}
 use Rattle.cover_core.specs.Labels.{Labelling}
 

@@ -1,4 +1,4 @@
--- The nodes that a search by labels keeps.
+-- Promise: the nodes that a search by labels keeps.
 use Rattle.std.specs.Prelude.{ℕ, ℤ, ◌+◌, int_lt, Bool, cond, not, ◌&&◌, zero, suc, List, [], ◌∷◌, ◌++◌, Option, Some, None, drop, filter, fold, take}
 use Rattle.std.specs.List.{list_any}
 use Rattle.label_search.specs.declared.node.Node.{Node}

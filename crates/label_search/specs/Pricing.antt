@@ -1,4 +1,4 @@
--- From labels to columns: the labels of a class and group, and what ties them to worths.
+-- Promise: from labels to columns: the labels of a class and group, and what ties them to worths.
 use Rattle.std.specs.Prelude.{◌≡◌, ℕ, ℤ, pos, neg_ℤ, ◌+ℤ◌, ◌≤ℤ◌, ◌*◌, ◌/◌, nat_eq, nat_le, nat_lt, Bool, ◌&&◌, cond, Contains, List, Option, Some, None}
 use Rattle.std.specs.Option.{option_map}
 use Rattle.plan_core.specs.declared.Price.{Price}

@@ -1,4 +1,4 @@
--- What the items after each item can take off a value at most.
+-- Promise: what the items after each item can take off a value at most.
 use Rattle.std.specs.Prelude.{ℕ, ℤ, pos, negsuc, neg_ℤ, ◌-ℤ◌, ◌≤ℤ◌, List, [], ◌∷◌}
 use Rattle.cover_core.specs.Plans.{number_at}
 use Rattle.plan_core.specs.declared.Price.{Price}

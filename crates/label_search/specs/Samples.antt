@@ -1,4 +1,4 @@
--- Two small labellings, on which the search is tried: ways from the first item to the last, and lists under a load.
+-- Inner: two small labellings, on which the search is tried: ways from the first item to the last, and lists under a load.
 use Rattle.std.specs.Prelude.{◌≡◌, ℕ, ℤ, pos, neg_ℤ, ◌+ℤ◌, ◌-ℤ◌, ◌≤ℤ◌, ◌<ℤ◌, ◌+◌, ◌*◌, ◌%◌, ◌<◌, ◌≤◌, Bool, true, false, cond, ◌&&◌, nat_lt, nat_eq, int_le, List, [], ◌∷◌, Option, Some, None, refl, unwrap_or}
 use Rattle.std.proofs.Common.{arith, ap, sym, ◌∙◌, subst}
 use Rattle.std.proofs.lemmas.Bool.Decides.{nat_tests}

@@ -1,4 +1,4 @@
--- Labels that are kept, and labels that may still be taken out again, in the cells of a region.
+-- Promise: labels that are kept, and labels that may still be taken out again, in the cells of a region.
 use Rattle.std.specs.Prelude.{◌≢◌, ℕ, List, [], ◌∷◌, ◌++◌, refl}
 use Rattle.std.specs.List.{filter_map}
 use Rattle.std.specs.Coded.{Coded, code_by, coded×, coded_list}

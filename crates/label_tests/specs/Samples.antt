@@ -1,4 +1,4 @@
--- A small problem on which covers are tried: every list that rises is worth 1 in each of two classes.
+-- Inner: a small problem on which covers are tried: every list that rises is worth 1 in each of two classes.
 use Rattle.std.specs.Prelude.{◌≡◌, ℕ, ℤ, pos, neg_ℤ, zero, suc, ◌+◌, ◌≤◌, ◌-ℤ◌, ◌≤ℤ◌, ◌<◌, ◌*◌, Bool, true, false, cond, ◌&&◌, nat_lt, nat_eq, int_le, List, [], ◌∷◌, length, Option, Some, None, refl, unwrap_or}
 use Rattle.std.proofs.Common.{arith, ap, sym, ◌∙◌, subst}
 use Rattle.std.proofs.lemmas.Bool.Decides.{nat_tests}

@@ -1,4 +1,4 @@
--- Which columns of a pool are chosen at some prices, and what a class asks for a place.
+-- Promise: which columns of a pool are chosen at some prices, and what a class asks for a place.
 use Rattle.std.specs.Prelude.{◌≡◌, ◌&&◌, ◌==◌, ℕ, ℤ, pos, neg_ℤ, ◌+ℤ◌, ◌≤ℤ◌, ◌<ℤ◌, int_lt, nat_lt, ◌+◌, ◌<◌, ◌≤◌, Bool, true, false, cond, suc, ◌*◌, List, [], ◌∷◌, length, Option, Some, None, slice_get, slice_index, slice_index_or, slice_set, not}
 use Rattle.std.specs.Ordering.{nat_cmp, int_cmp, then_cmp, on, is_lt}
 use Rattle.std.specs.List.Sorted.{IsPermutation, IsSortedBy}

@@ -1,4 +1,4 @@
--- The ranges of a climb.
+-- Promise: the ranges of a climb.
 use Rattle.std.specs.Prelude.{◌≡◌, ℕ, ℤ, pos, neg_ℤ, ◌≤ℤ◌, ◌<◌, ◌≤◌, List, [], ◌∷◌, length}
 use Rattle.cover_core.specs.declared.Prices.{Prices}
 use Rattle.cover_core.specs.FirstLeast.{AllWithin}

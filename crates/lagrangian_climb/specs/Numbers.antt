@@ -1,4 +1,4 @@
--- The numbers of a turn.
+-- Inner: the numbers of a turn.
 use Rattle.std.specs.Prelude.{ℕ, ℤ, pos, ◌+ℤ◌, ◌-ℤ◌, ◌*ℤ◌, int_div, int_lt, Bool, cond, ◌*◌, ◌/◌, min}
 use Rattle.std.specs.Int.{int_max}
 

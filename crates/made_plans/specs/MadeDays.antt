@@ -1,4 +1,4 @@
--- The day of the tables that are made from a seed.
+-- Promise: the day of the tables that are made from a seed.
 use Rattle.std.specs.Prelude.{ℕ}
 use Rattle.day_calendar.specs.Kinds.{IsKindOf}
 use Rattle.day_model.specs.Building.{IsDayOf}

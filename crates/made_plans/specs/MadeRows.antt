@@ -1,4 +1,4 @@
--- The rows of the network of a made day, as they are read.
+-- Promise: the rows of the network of a made day, as they are read.
 use Rattle.std.specs.Prelude.{ℕ, ◌+◌, ◌*◌, ◌==◌, true, false, List, [], ◌∷◌, ◌++◌, if◌then◌else◌}
 use Rattle.plan_core.specs.declared.types.Point.{Point}
 use Rattle.vdv452_tables.specs.declared.net.Net.{Net}

@@ -1,4 +1,4 @@
--- The tables of a made day have no fault, and they tell a day.
+-- Promise: the tables of a made day have no fault, and they tell a day.
 use Rattle.std.specs.Prelude.{◌≡◌, ℕ, None, Some}
 use Rattle.vdv452_tables.specs.declared.reading.Needs.TheVariants as needs
 use Rattle.vdv452_tables.specs.Calendar.{kind_on, schemas_of, version_on}

@@ -1,4 +1,4 @@
--- The rows and the trips of a made day.
+-- Inner: the rows and the trips of a made day.
 use Rattle.std.specs.Prelude.{◌≡◌, ℕ, pos, ◌-ℤ◌, ◌<◌, ◌≤◌, ◌≤ℤ◌, Bool}
 use Rattle.vdv452_rows.specs.declared.rows.TripRow.{TripRow}
 use Rattle.trip_times.specs.declared.trip.Trip.{Trip}

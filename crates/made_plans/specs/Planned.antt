@@ -1,4 +1,4 @@
--- Days that are never refused for want of places.
+-- Promise: days that are never refused for want of places.
 use Rattle.std.specs.Prelude.{◌≡◌}
 use Rattle.day_model.specs.Facts.{DayFacts}
 use Rattle.plan_command.specs.declared.fault.PlanFault.{PlanFault}

@@ -1,4 +1,4 @@
--- What a roomy day has.
+-- Promise: what a roomy day has.
 use Rattle.std.specs.Prelude.{false, List}
 use Rattle.cover_core.specs.declared.Column.{Column}
 use Rattle.cover_core.specs.Plans.{IsPlan}

@@ -1,5 +1,5 @@
--- Days on which each trip alone is a block of the first pool, each piece alone a duty of the first group, and there are as many vehicles
--- and drivers as trips.
+-- Promise: days on which each trip alone is a block of the first pool, each piece alone a duty of the first group, and there are as many
+-- vehicles and drivers as trips.
 use Rattle.std.specs.Prelude.{◌≡◌, ℕ, ◌+◌, ◌≤◌, ◌≤ℤ◌, true, length, Some, slice_get}
 use Rattle.plan_core.specs.declared.types.Point.{Point}
 use Rattle.trip_times.specs.declared.trip.Trip.{Trip}

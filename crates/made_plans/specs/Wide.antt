@@ -1,4 +1,4 @@
--- Problems in which each item has room of its own.
+-- Promise: problems in which each item has room of its own.
 use Rattle.std.specs.Prelude.{◌≡◌, List}
 use Rattle.cover_core.specs.declared.Column.{Column}
 use Rattle.cover_core.specs.Cover.{Problem}

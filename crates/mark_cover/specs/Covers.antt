@@ -1,4 +1,4 @@
--- Covers, and their gaps.
+-- Promise: covers, and their gaps.
 use Rattle.std.specs.Prelude.{◌≡◌, ℕ, ℤ, pos, neg_ℤ, ◌<◌, ◌≤◌, ◌≤ℤ◌, ◌<ℤ◌, ◌⊎◌, List, Some, slice_get, true}
 use Rattle.plan_core.specs.declared.Price.{Price}
 use Rattle.cover_core.specs.declared.marks.Gap.{Gap}

@@ -1,4 +1,4 @@
--- Marks made item by item: of those of one class and item only the ones to which no other is at least as good.
+-- Inner: marks made item by item: of those of one class and item only the ones to which no other is at least as good.
 use Rattle.std.specs.Prelude.{◌≡◌, ℕ, ◌++◌, ◌<◌, ◌⊎◌, List, [], ◌∷◌, Option, Some, None, true}
 use Rattle.mark_cover.specs.Marking.{Marking}
 use Rattle.mark_cover.specs.Covers.{StandsIn, IsMet}

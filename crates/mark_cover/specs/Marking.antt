@@ -1,4 +1,4 @@
--- How marks are made, and the laws of marks.
+-- Promise: how marks are made, and the laws of marks.
 use Rattle.std.specs.Prelude.{◌≡◌, ℕ, ℤ, ◌<◌, ◌≤ℤ◌, Bool, true, List, length, Option, Some}
 use Rattle.plan_core.specs.declared.Price.{Price}
 use Rattle.cover_core.specs.Cover.{Problem}

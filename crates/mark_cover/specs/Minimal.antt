@@ -1,4 +1,4 @@
--- The least cover: the marks of open lists to which no other mark is at least as good.
+-- Promise: the least cover: the marks of open lists to which no other mark is at least as good.
 use Rattle.std.specs.Prelude.{◌≡◌, ℕ, ◌<◌, AllPairs, List, Some, true}
 use Rattle.std.specs.List.Sorted.{IsPermutation}
 use Rattle.std.specs.declared.cmp.Ordering.{Ordering}

@@ -1,4 +1,4 @@
--- Marks by class and last item.
+-- Inner: marks by class and last item.
 use Rattle.std.specs.Prelude.{◌≡◌, ℕ, ◌+◌, ◌<◌, ◌≤◌, ◌&&◌, ◌||◌, nat_lt, nat_eq, Bool, false, true, List, Some, slice_get}
 use Rattle.mark_cover.specs.Marking.{Marking}
 

@@ -1,4 +1,4 @@
--- What the searches for gaps find.
+-- Promise: what the searches for gaps find.
 use Rattle.std.specs.Prelude.{◌≡◌, ℕ, ℤ, neg_ℤ, ◌<◌, ◌≤◌, int_lt, Bool, true, false, not, List, Option, Some, None, slice_get}
 use Rattle.std.specs.List.{list_any}
 use Rattle.cover_core.specs.declared.marks.Gap.{Gap}

@@ -1,4 +1,4 @@
--- Tables whose fields are whole numbers or nothing.
+-- Promise: tables whose fields are whole numbers or nothing.
 use Rattle.std.specs.Prelude.{◌≡◌, ℕ, ◌<◌, ◌^◌, Bool, ◌==◌, ◌&&◌, not, nat_le, pos, List, [], ◌∷◌, length, map, Option, Some, None, All, IsTrue, codes}
 use Rattle.std.specs.List.{list_all}
 use Rattle.std.specs.Borrow.{Bor}

@@ -1,5 +1,5 @@
--- Tables of whole numbers as they are read and written: their outlines, the numbers of their rows, and the first place where a table is
--- wrong.
+-- Promise: tables of whole numbers as they are read and written: their outlines, the numbers of their rows, and the first place where a
+-- table is wrong.
 use Rattle.std.specs.Prelude.{ℕ, ℤ, pos, negsuc, zero, suc, ◌+◌, ◌||◌, not, Bool, true, false, nat_lt, nat_le, nat_eq, List, [], ◌∷◌, ◌++◌, length, map, filter, Option, Some, None, option_and_then, is_none, if◌then◌else◌}
 use Rattle.std.specs.Option.{option_map}
 use Rattle.std.specs.List.{list_any, filter_map}

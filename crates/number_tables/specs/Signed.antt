@@ -1,4 +1,4 @@
--- Tables whose fields are whole numbers, which may be below 0, or nothing.
+-- Promise: tables whose fields are whole numbers, which may be below 0, or nothing.
 use Rattle.std.specs.Prelude.{◌≡◌, ℕ, ℤ, List, length, map, Option, Some, None, All, IsTrue}
 use Rattle.vdv451_text.specs.declared.table.Field.{Field}
 use Rattle.vdv451_text.specs.declared.table.Field.TheVariants.{Num, Empty}

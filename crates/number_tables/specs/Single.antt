@@ -1,4 +1,4 @@
--- A table that stands once among others.
+-- Promise: a table that stands once among others.
 use Rattle.std.specs.Prelude.{ℕ, ◌==◌, List, Option, None, count_by, find, if◌then◌else◌}
 use Rattle.vdv451_text.specs.declared.table.Table.{Table}
 use Rattle.vdv452_rows.specs.Rows.{has_name}

@@ -1,4 +1,4 @@
--- What prices at a scale are guessed to bound, which guess is the greatest, and the prices at a scale.
+-- Promise: what prices at a scale are guessed to bound, which guess is the greatest, and the prices at a scale.
 use Rattle.std.specs.Prelude.{◌≡◌, ℕ, ℤ, pos, ◌+ℤ◌, ◌-ℤ◌, ◌*ℤ◌, ◌<ℤ◌, ◌≤ℤ◌, int_div, int_lt, cond, zero, suc, List, [], ◌∷◌, ◌++◌, map, length, slice_index, All}
 use Rattle.std.specs.Int.{int_min, int_div_euclid}
 use Rattle.plan_core.specs.declared.Price.{Price}

@@ -1,4 +1,4 @@
--- The ranges of what an estimate is made from.
+-- Promise: the ranges of what an estimate is made from.
 use Rattle.std.specs.Prelude.{ℕ, ℤ, pos, neg_ℤ, ◌≤ℤ◌, ◌≤◌, List, [], ◌∷◌}
 use Rattle.offer_estimate.specs.declared.scales.Scale.{Scale}
 

@@ -1,4 +1,4 @@
--- There is one answer.
+-- Promise: there is one answer.
 use Rattle.std.specs.Prelude.{◌≡◌, List}
 use Rattle.vdv451_text.specs.declared.table.Table.{Table}
 use Rattle.day_model.specs.Facts.{DayFacts}

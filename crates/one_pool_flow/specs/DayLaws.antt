@@ -1,4 +1,4 @@
--- The network of a day rises, and is cheap where its table says so.
+-- Inner: the network of a day rises, and is cheap where its table says so.
 use Rattle.std.proofs.Common.{◌≡◌, ℕ, ◌+◌, ◌*◌, ◌<◌, ◌≤◌, true, false, nat_lt, List, length, Option, Some, None, inl, inr, refl, sym, subst, ◌∙◌, arith}
 use Rattle.std.specs.Option.{option_map}
 use Rattle.std.specs.Prelude.{option_and_then, slice_get}

@@ -1,4 +1,4 @@
--- A day with one pool as a network whose nodes are its trips.
+-- Promise: a day with one pool as a network whose nodes are its trips.
 use Rattle.std.specs.Prelude.{◌≡◌, ℕ, ◌+◌, ◌*◌, nat_lt, cond, length, List, [], ◌∷◌, Option, Some, None, ◌<◌, ◌≤◌, slice_index_or}
 use Rattle.plan_params.specs.declared.rows.pool.Pool.{Pool}
 use Rattle.day_model.specs.Facts.{DayFacts}

@@ -1,4 +1,4 @@
--- The flow plan of a day, with prices that prove that it costs least.
+-- Promise: the flow plan of a day, with prices that prove that it costs least.
 use Rattle.std.specs.Prelude.{◌≡◌, ℕ, ℤ, pos, ◌≤ℤ◌, ◌&&◌, Bool, true, false, is_some, List, [], ◌∷◌, length}
 use Rattle.plan_core.specs.declared.Price.{Price}
 use Rattle.plan_params.specs.declared.rows.pool.Pool.{Pool}

@@ -1,4 +1,4 @@
--- Days with one pool: plans of paths, the least of them, and of several the first.
+-- Promise: days with one pool: plans of paths, the least of them, and of several the first.
 use Rattle.std.specs.Prelude.{◌≡◌, ℕ, ◌+◌, ◌*◌, ◌≤◌, Bool, false, nat_le, List, [], ◌∷◌, length, map, Option, option_and_then, unwrap_or, slice_get}
 use Rattle.plan_params.specs.declared.rows.pool.Pool.{Pool}
 use Rattle.cover_core.specs.declared.Column.{Column}

@@ -1,4 +1,4 @@
--- The walk back along an augmenting path, and how its parts are kept.
+-- Promise: the walk back along an augmenting path, and how its parts are kept.
 use Rattle.std.specs.Prelude.{List, ◌≡◌, ◌≢◌, ℕ, pos, ◌-ℤ◌, ◌<◌, ◌≤◌, true, false, None, length, slice_index, slice_index_or}
 use Rattle.std.specs.Option.{option_map}
 use Rattle.path_cover.specs.declared.growth.Falls.{Falls}

@@ -1,4 +1,4 @@
--- The first of several covers of least cost.
+-- Inner: the first of several covers of least cost.
 use Rattle.std.specs.Prelude.{◌≡◌, ℕ, ◌<◌, ◌≤◌, List, slice_index}
 use Rattle.path_cover.specs.declared.growth.Falls.{Falls}
 use Rattle.path_cover.specs.declared.placing.Placing.{Placing}

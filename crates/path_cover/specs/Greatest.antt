@@ -1,4 +1,4 @@
--- The greatest potentials of a cover.
+-- Promise: the greatest potentials of a cover.
 use Rattle.std.specs.Prelude.{ℕ, ℤ, pos, negsuc, suc, ◌≤◌, ◌≤ℤ◌, List}
 use Rattle.path_cover.specs.Nets.{Net}
 use Rattle.path_cover.specs.Potentials.{Potentials, AreFeasible, IsSlack}

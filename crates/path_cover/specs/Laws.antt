@@ -1,4 +1,4 @@
--- What holds of every network: the statements of the public laws.
+-- Promise: what holds of every network: the statements of the public laws.
 use Rattle.std.specs.Prelude.{◌≡◌, ℕ, ℤ, pos, ◌+◌, ◌*◌, ◌<◌, ◌≤◌, ◌<ℤ◌, suc, false, List, [], ◌∷◌, Some, None}
 use Rattle.plan_core.specs.declared.Price.{Price}
 use Rattle.cover_core.specs.Plans.{IsPaid, bound_of}

@@ -1,4 +1,4 @@
--- Matchings of the rows of a network with its columns.
+-- Promise: matchings of the rows of a network with its columns.
 use Rattle.std.specs.Prelude.{◌≡◌, ◌==◌, ℕ, ℤ, pos, ◌+ℤ◌, ◌+◌, ◌<◌, ◌≤◌, Bool, cond, List, Some}
 use Rattle.cover_core.proofs.Sums.{sum_first}
 use Rattle.cover_core.specs.Cover.{Rises}

@@ -1,4 +1,4 @@
--- Networks whose nodes are covered by paths.
+-- Promise: networks whose nodes are covered by paths.
 use Rattle.std.specs.Prelude.{◌≡◌, ◌==◌, ℕ, ◌+◌, ◌*◌, ◌<◌, ◌≤◌, Bool, true, cond, ◌&&◌, nat_lt, List, [], ◌∷◌, map, Option, Some, None, option_and_then, unwrap_or}
 use Rattle.std.specs.Option.{option_map}
 use Rattle.cover_core.specs.declared.Column.{Column}

@@ -1,4 +1,4 @@
--- What a step of a search comes to.
+-- Inner: what a step of a search comes to.
 use Rattle.std.specs.Prelude.{◌≡◌, ◌+◌}
 use Rattle.path_cover.specs.declared.growth.Falls.{Falls}
 use Rattle.path_cover.specs.declared.growth.Growth.{Growth}

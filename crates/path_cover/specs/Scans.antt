@@ -1,4 +1,4 @@
--- What a row offers the columns, and what they keep of it. Potentials are kept as how far they are below 0.
+-- Promise: what a row offers the columns, and what they keep of it. Potentials are kept as how far they are below 0.
 use Rattle.std.specs.Prelude.{◌≡◌, ◌⊎◌, ℕ, ◌+◌, ◌-◌, ◌<◌, ◌≤◌, Bool, true, false, cond, nat_lt, List, Option, Some, None, length, slice_index, slice_index_or}
 use Rattle.std.specs.Option.{option_map}
 

@@ -1,4 +1,4 @@
--- The state of a search for an augmenting path, as it is kept.
+-- Promise: the state of a search for an augmenting path, as it is kept.
 use Rattle.std.specs.Prelude.{List, [], ◌∷◌, ◌≡◌, ◌≢◌, ℕ, ℤ, pos, ◌<ℤ◌, ◌+◌, ◌<◌, ◌≤◌, Bool, true, false, cond, Option, Some, length, slice_index, slice_index_or, slice_set}
 use Rattle.path_cover.specs.declared.growth.Falls.{Falls}
 use Rattle.path_cover.specs.declared.growth.Growth.{Growth}

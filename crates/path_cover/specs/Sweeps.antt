@@ -1,4 +1,4 @@
--- The greatest potentials of a matching, as they are kept.
+-- Inner: the greatest potentials of a matching, as they are kept.
 use Rattle.std.specs.Prelude.{◌≡◌, ℕ, pos, ◌+◌, ◌-◌, ◌-ℤ◌, ◌≤ℤ◌, ◌<◌, ◌≤◌, Bool, true, false, List, [], ◌∷◌, Some, slice_index}
 use Rattle.path_cover.specs.declared.growth.Falls.{Falls}
 use Rattle.path_cover.specs.declared.placing.Placing.{Placing}

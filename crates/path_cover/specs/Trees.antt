@@ -1,4 +1,4 @@
--- The tree of a search for an augmenting path.
+-- Promise: the tree of a search for an augmenting path.
 use Rattle.std.specs.Prelude.{◌≡◌, ◌≢◌, ℕ, ℤ, pos, ◌+ℤ◌, ◌-ℤ◌, ◌≤ℤ◌, ◌<◌, ◌≤◌, Bool, true, false, Option, Some}
 use Rattle.path_cover.specs.Nets.{Net}
 use Rattle.path_cover.specs.Potentials.{Potentials}

@@ -1,4 +1,4 @@
--- Paths that follow a matching.
+-- Promise: paths that follow a matching.
 use Rattle.std.specs.Prelude.{◌≡◌, ◌==◌, ℕ, ◌<◌, cond, zero, suc, List, [], ◌∷◌, ◌++◌}
 
 -- each node is followed by its column, and the last one by the end

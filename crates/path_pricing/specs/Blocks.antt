@@ -1,4 +1,4 @@
--- The labels of the open blocks of a pool whose first trips are a range, and what no continuation of them adds less than.
+-- Promise: the labels of the open blocks of a pool whose first trips are a range, and what no continuation of them adds less than.
 use Rattle.std.specs.Prelude.{◌≡◌, ℕ, ℤ, pos, neg_ℤ, ◌-◌, ◌*◌, ◌<◌, ◌≤◌, ◌+ℤ◌, ◌-ℤ◌, ◌≤ℤ◌, Bool, List, [], ◌∷◌, length, Some}
 use Rattle.std.specs.Coded.{Unit-prop}
 use Rattle.std.proofs.Props.{props}

@@ -1,4 +1,4 @@
--- Numbers that no later rest less its price is lower than.
+-- Inner: numbers that no later rest less its price is lower than.
 use Rattle.std.specs.Prelude.{ℕ, ℤ, ◌<◌, ◌≤◌, ◌-ℤ◌, ◌≤ℤ◌, List}
 use Rattle.plan_core.specs.declared.Price.{Price}
 use Rattle.cover_core.specs.Plans.{number_at, price_at}

@@ -1,4 +1,4 @@
--- Going on from a trip, point by point: what going on with one of the trips that begin there adds at least.
+-- Inner: going on from a trip, point by point: what going on with one of the trips that begin there adds at least.
 use Rattle.std.specs.Prelude.{◌≡◌, ℕ, ℤ, pos, ◌+◌, ◌*◌, ◌<◌, ◌+ℤ◌, ◌-ℤ◌, ◌≤ℤ◌, Bool, cond, List, Option, Some, None, ◌⊎◌, slice_get, slice_index}
 use Rattle.std.specs.Int.RustNames.{unsigned_abs}
 use Rattle.plan_core.specs.declared.Price.{Price}

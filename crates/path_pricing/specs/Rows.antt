@@ -1,4 +1,4 @@
--- Running minima by the points at which trips begin.
+-- Inner: running minima by the points at which trips begin.
 use Rattle.std.specs.Prelude.{◌≡◌, ℕ, ℤ, pos, neg_ℤ, ◌+◌, ◌-◌, ◌*◌, ◌<◌, ◌≤◌, ◌≤ℤ◌, List, length, slice_index}
 use Rattle.cover_core.specs.Plans.{number_at}
 

@@ -1,4 +1,4 @@
--- How far a trip goes.
+-- Promise: how far a trip goes.
 use Rattle.std.specs.Prelude.{ℕ, List, [], ◌∷◌, Option, Some, None, is_some, sum_by, unwrap_or, if◌then◌else◌}
 use Rattle.std.specs.List.{list_all}
 use Rattle.plan_core.specs.declared.types.Point.{Point}

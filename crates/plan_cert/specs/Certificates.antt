@@ -1,4 +1,4 @@
--- The certificate that tables say, or the first place where they say none.
+-- Promise: the certificate that tables say, or the first place where they say none.
 use Rattle.std.specs.Prelude.{ℤ, List, [], ◌∷◌, map, Result, Ok}
 use Rattle.plan_core.specs.declared.types.Price.{Price}
 use Rattle.vdv451_text.specs.declared.table.Table.{Table}

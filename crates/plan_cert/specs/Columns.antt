@@ -1,4 +1,4 @@
--- Where the columns of the tables of a certificate stand; of two columns of one name the first counts.
+-- Promise: where the columns of the tables of a certificate stand; of two columns of one name the first counts.
 use Rattle.std.specs.Prelude.{ℕ, List, Option, Some, codes}
 use Rattle.vdv451_text.specs.declared.table.Head.{Head}
 use Rattle.vdv452_rows.specs.Rows.{place_of}

@@ -1,4 +1,4 @@
--- What the rows of marks say.
+-- Promise: what the rows of marks say.
 use Rattle.std.specs.Prelude.{ℕ, ℤ, ◌+◌, ◌==◌, List, Option, Some, None, if◌then◌else◌}
 use Rattle.vdv451_text.specs.declared.table.Field.{Field}
 use Rattle.number_tables.specs.Outlines.{word}

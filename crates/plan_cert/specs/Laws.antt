@@ -1,4 +1,4 @@
--- A certificate's tables stand for it.
+-- Promise: a certificate's tables stand for it.
 use Rattle.std.specs.Prelude.{◌≡◌, ℕ, pos, neg_ℤ, ◌<◌, ◌≤◌, ◌≤ℤ◌, List, [], ◌∷◌, length, All, AllPairs, Ok}
 use Rattle.plan_core.specs.declared.types.Price.{Price}
 use Rattle.cover_core.specs.declared.marks.Mark.{Mark}

@@ -1,4 +1,4 @@
--- The tables X_MARKE and X_UMARKE, read.
+-- Promise: the tables X_MARKE and X_UMARKE, read.
 use Rattle.std.specs.Prelude.{◌++◌, ◌∷◌, [], List, Option, Some, None, Result, Ok, if◌then◌else◌}
 use Rattle.std.specs.List.{filter_map}
 use Rattle.vdv451_text.specs.declared.table.Field.{Field}

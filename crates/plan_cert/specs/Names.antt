@@ -1,4 +1,4 @@
--- The names of the tables of a certificate and of their columns.
+-- Promise: the names of the tables of a certificate and of their columns.
 use Rattle.std.specs.Prelude.{ℕ, List, [], ◌∷◌, codes}
 use Rattle.plan_cert.specs.declared.fault.CertTable.{CertTable}
 use Rattle.plan_cert.specs.declared.fault.CertTable.TheVariants as which

@@ -1,4 +1,4 @@
--- The numbers that the fields of a certificate spell, each in its range.
+-- Promise: the numbers that the fields of a certificate spell, each in its range.
 use Rattle.std.specs.Prelude.{ℕ, ℤ, pos, negsuc, neg_ℤ, ◌-◌, ◌&&◌, ◌||◌, ◌==◌, Bool, int_le, List, Option, Some, None, if◌then◌else◌, option_and_then, slice_get, position}
 use Rattle.vdv451_text.specs.declared.table.Field.{Field}
 use Rattle.vdv452_rows.specs.Cells.{whole_number}

@@ -1,4 +1,4 @@
--- The first place where tables are no certificate.
+-- Promise: the first place where tables are no certificate.
 use Rattle.std.specs.Prelude.{◌≡◌, ℕ, ◌+◌, List, Option, Some, None, Result, Ok, Err, is_none, position}
 use Rattle.std.specs.Borrow.{Bor}
 use Rattle.vdv451_text.specs.declared.table.Field.{Field}

@@ -1,4 +1,4 @@
--- The tables X_PREIS and X_KLASSENPREIS, read.
+-- Promise: the tables X_PREIS and X_KLASSENPREIS, read.
 use Rattle.std.specs.Prelude.{List, [], Result, Ok}
 use Rattle.std.specs.List.{filter_map}
 use Rattle.vdv451_text.specs.declared.table.Field.{Field}

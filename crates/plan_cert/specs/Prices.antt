@@ -1,4 +1,4 @@
--- The prices that the rows of X_PREIS and X_KLASSENPREIS give.
+-- Promise: the prices that the rows of X_PREIS and X_KLASSENPREIS give.
 use Rattle.std.specs.Prelude.{ℕ, ℤ, ◌+◌, ◌&&◌, Bool, nat_eq, List, [], ◌∷◌, ◌++◌, length, map, Option, Some, None, is_some, if◌then◌else◌, slice_index_or, slice_set, codes}
 use Rattle.std.specs.List.{filter_map, list_all, range_with_len}
 use Rattle.vdv451_text.specs.declared.table.Field.{Field}

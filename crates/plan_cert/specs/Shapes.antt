@@ -1,4 +1,4 @@
--- The four passes of a certificate: how many items they have, and the numbers of their classes.
+-- Promise: the four passes of a certificate: how many items they have, and the numbers of their classes.
 use Rattle.std.specs.Prelude.{ℕ, ◌≤◌, List, length, map}
 use Rattle.plan_params.specs.declared.rows.group.Group.{Group}
 use Rattle.plan_params.specs.declared.rows.pool.Pool.{Pool}

@@ -1,4 +1,4 @@
--- Prices that were not read, and a price that is set.
+-- Inner: prices that were not read, and a price that is set.
 use Rattle.std.specs.Prelude.{ℕ, ℤ, Bool, List, map, Option, Some, None, slice_set, if◌then◌else◌}
 use Rattle.std.specs.List.{range_with_len}
 

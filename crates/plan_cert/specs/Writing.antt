@@ -1,4 +1,4 @@
--- The tables of a certificate.
+-- Promise: the tables of a certificate.
 use Rattle.std.specs.Prelude.{◌≡◌, ℕ, ℤ, pos, ◌+◌, ◌<◌, Bool, true, false, List, [], ◌∷◌, ◌++◌, length, map, All, Option, Some, slice_index}
 use Rattle.plan_core.specs.declared.types.Price.{Price}
 use Rattle.vdv451_text.specs.declared.table.Table.{Table}

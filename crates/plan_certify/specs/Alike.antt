@@ -1,4 +1,4 @@
--- Two days that are alike have the same certificates.
+-- Promise: two days that are alike have the same certificates.
 use Rattle.std.specs.Prelude.{ℕ, List}
 use Rattle.day_model.specs.Facts.{DayFacts}
 use Rattle.plan_command.specs.Planning.{Asked}

@@ -1,4 +1,4 @@
--- The certificate of a planned day, and its text.
+-- Promise: the certificate of a planned day, and its text.
 use Rattle.std.specs.Prelude.{◌≡◌, ℕ, Bool, true, false, List, [], ◌∷◌}
 use Rattle.vdv451_text.specs.Plain.{text}
 use Rattle.cover_core.specs.declared.Column.{Column}

@@ -1,4 +1,4 @@
--- The numbers of statuses.
+-- Promise: the numbers of statuses.
 use Rattle.std.specs.Prelude.{ℕ}
 use Rattle.plan_chart.specs.declared.status.Status.{Status}
 use Rattle.plan_chart.specs.declared.status.Status.TheVariants as statuses

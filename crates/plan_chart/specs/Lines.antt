@@ -1,4 +1,4 @@
--- The line on standard error that each refusal has.
+-- Promise: the line on standard error that each refusal has.
 use Rattle.std.specs.Prelude.{ℕ, List, [], ◌∷◌, codes, decimal}
 use Rattle.plan_rows.specs.Names.{name_of}
 use Rattle.plan_chart.specs.declared.status.Status.{Status}

@@ -1,4 +1,4 @@
--- What a run answers, from what the file holds and from the counts of faults.
+-- Promise: what a run answers, from what the file holds and from the counts of faults.
 use Rattle.std.specs.Prelude.{◌≡◌, ℕ, ◌⊎◌, List, ◌++◌, Option, Some, IfSome, Ok, Err}
 use Rattle.plan_core.specs.Outside.{Rose}
 use Rattle.vdv451_text.specs.declared.table.Table.{Table}

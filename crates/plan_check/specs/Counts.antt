@@ -1,4 +1,4 @@
--- Counts of numbers in a list, and the first of some numbers that passes a test.
+-- Inner: counts of numbers in a list, and the first of some numbers that passes a test.
 use Rattle.std.specs.Prelude.{◌≡◌, ℕ, ◌+◌, ◌<◌, ◌^◌, Bool, true, false, List, length, Option, Some, None, slice_index}
 use Rattle.cover_core.specs.Plans.{times}
 

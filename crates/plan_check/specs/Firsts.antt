@@ -1,4 +1,4 @@
--- The first item that does not stand once, and the first list that is no column, each by itself.
+-- Promise: the first item that does not stand once, and the first list that is no column, each by itself.
 use Rattle.std.specs.Prelude.{ℕ, List, length, Option, Some, None}
 use Rattle.cover_core.specs.declared.Column.{Column}
 use Rattle.cover_core.specs.Cover.{Problem}

@@ -1,4 +1,4 @@
--- The steps of a verdict: lists with their worths, then the classes.
+-- Inner: the steps of a verdict: lists with their worths, then the classes.
 use Rattle.std.specs.Prelude.{ℕ, ◌<◌, List, length, map, Option, Some, None}
 use Rattle.cover_core.specs.declared.Column.{Column}
 use Rattle.cover_core.specs.Cover.{Problem}

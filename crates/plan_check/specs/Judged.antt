@@ -1,4 +1,4 @@
--- The verdict on lists, computed.
+-- Promise: the verdict on lists, computed.
 use Rattle.std.specs.Prelude.{ℕ, ◌+◌, Bool, not, nat_eq, nat_lt, zero, suc, List, [], ◌∷◌, length, map, Option, Some, None, unwrap_or, slice_index, if◌then◌else◌}
 use Rattle.cover_core.specs.declared.Column.{Column}
 use Rattle.cover_core.specs.Cover.{Problem}

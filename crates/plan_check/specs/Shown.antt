@@ -1,4 +1,4 @@
--- What a plan and paid prices show together.
+-- Promise: what a plan and paid prices show together.
 use Rattle.std.specs.Prelude.{◌≡◌, ℕ, ℤ, ◌≤◌, List, length}
 use Rattle.plan_core.specs.declared.Price.{Price}
 use Rattle.cover_core.specs.declared.Column.{Column}

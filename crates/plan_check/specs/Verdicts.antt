@@ -1,4 +1,4 @@
--- Whether lists are a plan, and if not, why: the first cause by its kind and numbers.
+-- Promise: whether lists are a plan, and if not, why: the first cause by its kind and numbers.
 use Rattle.std.specs.Prelude.{◌≡◌, ◌≢◌, ℕ, ◌<◌, ◌≤◌, List, [], ◌∷◌, length, Some, slice_get, slice_index}
 use Rattle.cover_core.specs.declared.Column.{Column}
 use Rattle.cover_core.specs.Cover.{Problem}

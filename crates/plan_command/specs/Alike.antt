@@ -1,4 +1,4 @@
--- Two days that are alike have the same texts and the same causes for a refusal.
+-- Promise: two days that are alike have the same texts and the same causes for a refusal.
 use Rattle.std.specs.Prelude.{◌≡◌, ℕ, List}
 use Rattle.plan_core.specs.declared.types.Point.{Point}
 use Rattle.vdv451_text.specs.declared.table.Table.{Table}

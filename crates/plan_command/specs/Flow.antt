@@ -1,4 +1,5 @@
--- The blocks of a day that are known before any pass with costs: those of the flow plan of a day with one pool, where the words ask for it.
+-- Promise: the blocks of a day that are known before any pass with costs: those of the flow plan of a day with one pool, where the words
+-- ask for it.
 use Rattle.std.specs.Prelude.{◌≡◌, ◌⊎◌, ℕ, ℤ, Bool, true, false, List, [], ◌∷◌, Option, Some, None, unwrap_or}
 use Rattle.plan_core.specs.declared.Price.{Price}
 use Rattle.cover_core.specs.declared.Column.{Column}

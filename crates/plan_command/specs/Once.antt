@@ -1,4 +1,4 @@
--- A day that is planned by fixed rounds has one text, or one cause.
+-- Promise: a day that is planned by fixed rounds has one text, or one cause.
 use Rattle.std.specs.Prelude.{◌≡◌, ◌⊎◌, ℕ, false, List}
 use Rattle.vdv451_text.specs.declared.table.Table.{Table}
 use Rattle.day_method.specs.Method.{DayEnding}

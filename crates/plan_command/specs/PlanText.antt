@@ -1,4 +1,4 @@
--- The text of the plan of a day.
+-- Promise: the text of the plan of a day.
 use Rattle.std.specs.Prelude.{◌≡◌, ◌<◌, ◌≤◌, ◌^◌, ℕ, false, All, List, [], ◌∷◌, length, map}
 use Rattle.vdv451_text.specs.declared.table.Table.{Table}
 use Rattle.vdv451_text.specs.Plain.{text}

@@ -1,4 +1,4 @@
--- The plan of a day, and why a day has none.
+-- Promise: the plan of a day, and why a day has none.
 use Rattle.std.specs.Prelude.{◌≡◌, ℕ, Bool, true, false, List, Option, None, IsSomeAnd, length, slice_get}
 use Rattle.plan_core.specs.declared.types.Piece.{Piece as WorkPiece}
 use Rattle.cover_core.specs.declared.Column.{Column}

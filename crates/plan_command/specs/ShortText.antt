@@ -1,4 +1,4 @@
--- The short text of the plan of a day.
+-- Promise: the short text of the plan of a day.
 use Rattle.std.specs.Prelude.{◌≡◌, ℕ, List, [], ◌∷◌, length, Option, Some, codes}
 use Rattle.vdv451_text.specs.declared.table.Table.{Table}
 use Rattle.vdv451_text.specs.Plain.{text}

@@ -1,4 +1,4 @@
--- What holds between the steps of planning a day.
+-- Inner: what holds between the steps of planning a day.
 use Rattle.std.specs.Prelude.{◌≡◌, ℕ, ◌<◌, List, Option, Some, None, IsSomeAnd, slice_get}
 use Rattle.plan_core.specs.declared.types.Piece.{Piece as WorkPiece}
 use Rattle.cover_plan.specs.declared.fault.PlanFault.{PlanFault as CoverFault}

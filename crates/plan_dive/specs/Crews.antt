@@ -1,4 +1,4 @@
--- Workers.
+-- Promise: workers.
 use Rattle.std.specs.Prelude.{ℕ}
 use Rattle.plan_dive.specs.declared.crew.Workers.{Workers}
 

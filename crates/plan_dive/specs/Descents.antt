@@ -1,4 +1,4 @@
--- What a dive keeps, and what it leaves.
+-- Promise: what a dive keeps, and what it leaves.
 use Rattle.std.specs.Prelude.{Option, Some, None}
 use Rattle.cover_core.specs.Cover.{Problem}
 use Rattle.cover_core.specs.declared.Plan.{Plan}

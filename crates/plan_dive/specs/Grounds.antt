@@ -1,4 +1,4 @@
--- What a climb over a problem stands on.
+-- Promise: what a climb over a problem stands on.
 use Rattle.std.specs.Prelude.{◌≡◌, ◌≤◌, length}
 use Rattle.cover_core.specs.Cover.{Problem}
 use Rattle.column_weave.specs.Webs.{IsWeb}

@@ -1,4 +1,4 @@
--- The faults of the settings, in their order.
+-- Promise: the faults of the settings, in their order.
 use Rattle.std.specs.Prelude.{◌≡◌, ℕ, ◌+◌, min, not, nat_lt, ◌==◌, ◌&&◌, ◌⊎◌, List, [], ◌∷◌, ◌++◌, length, map, Option, Some, slice_index, codes}
 use Rattle.std.specs.List.{flat_map}
 use Rattle.vdv452_tables.specs.declared.net.Net.{Net}

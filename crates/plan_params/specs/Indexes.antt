@@ -1,4 +1,4 @@
--- The indexes of the settings give what its rows give.
+-- Inner: the indexes of the settings give what its rows give.
 use Rattle.std.specs.Prelude.{ℕ, ◌==◌}
 use Rattle.plan_core.specs.declared.types.Point.{Point}
 use Rattle.vdv452_tables.specs.Keys.{IsIndex, point_eq}

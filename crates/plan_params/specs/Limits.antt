@@ -1,4 +1,4 @@
--- The ranges of the settings.
+-- Promise: the ranges of the settings.
 use Rattle.std.specs.Prelude.{◌≤◌, All, AllPairs, length}
 use Rattle.vdv452_tables.specs.Ranges.{IsTime}
 use Rattle.plan_params.specs.declared.rows.ParamRows.{ParamRows}

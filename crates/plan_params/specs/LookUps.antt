@@ -1,4 +1,4 @@
--- What the settings tell of lines, points and ways.
+-- Promise: what the settings tell of lines, points and ways.
 use Rattle.std.specs.Prelude.{ℕ, Bool, not, ◌==◌, ◌&&◌, ◌||◌, Option, Some, if◌then◌else◌}
 use Rattle.std.specs.List.{find, list_any}
 use Rattle.std.specs.Option.{option_map}

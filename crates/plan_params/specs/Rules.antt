@@ -1,4 +1,4 @@
--- What is tested in the tables of this project.
+-- Promise: what is tested in the tables of this project.
 use Rattle.std.specs.Prelude.{ℕ, Bool, true, false, List, [], ◌∷◌, codes}
 use Rattle.plan_params.specs.declared.rule.Reference.{Reference}
 use Rattle.plan_params.specs.declared.rule.Reference.TheVariants.{PointAt, TypeAt}

@@ -1,4 +1,4 @@
--- What the tables of this project say.
+-- Promise: what the tables of this project say.
 use Rattle.std.specs.Prelude.{ℕ, ◌==◌, nat_lt, List, [], ◌∷◌, map, slice_index, if◌then◌else◌, codes}
 use Rattle.plan_core.specs.declared.types.Point.{Point}
 use Rattle.vdv452_tables.specs.declared.net.Net.{Net}

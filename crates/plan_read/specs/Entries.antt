@@ -1,4 +1,4 @@
--- What the rows of a plan's tables say.
+-- Inner: what the rows of a plan's tables say.
 use Rattle.std.specs.Prelude.{ℕ, ℤ, ◌+◌, ◌==◌, ◌&&◌, nat_lt, List, [], ◌∷◌, Option, Some, None, position, if◌then◌else◌}
 use Rattle.std.specs.List.{list_any}
 use Rattle.plan_params.specs.declared.rows.group.Group.{Group}

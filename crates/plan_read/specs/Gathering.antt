@@ -1,4 +1,4 @@
--- Trips by their blocks and pieces by their duties.
+-- Inner: trips by their blocks and pieces by their duties.
 use Rattle.std.specs.Prelude.{ℕ, zero, suc, List, [], ◌∷◌, ◌++◌, slice_index_or}
 use Rattle.cover_core.specs.declared.Column.{Column}
 use Rattle.umlauf_write.specs.declared.text.DutyRow.{DutyRow}

@@ -1,4 +1,4 @@
--- Printed order.
+-- Promise: printed order.
 use Rattle.std.specs.Prelude.{◌≡◌, List}
 use Rattle.cover_core.specs.declared.Column.{Column}
 use Rattle.umlauf_write.specs.Printed.{printed}

@@ -1,4 +1,4 @@
--- The tables of a plan among others, and where their columns stand.
+-- Inner: the tables of a plan among others, and where their columns stand.
 use Rattle.std.specs.Prelude.{◌≡◌, ◌<◌, ◌^◌, ℕ, ℤ, List, [], ◌∷◌, length, map, Option, Some, Result, Ok, Err}
 use Rattle.vdv451_text.specs.declared.table.Field.{Field}
 use Rattle.vdv451_text.specs.declared.table.Head.{Head}

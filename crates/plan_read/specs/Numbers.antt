@@ -1,4 +1,4 @@
--- The numbers of a row at places among its fields.
+-- Inner: the numbers of a row at places among its fields.
 use Rattle.std.specs.Prelude.{ℕ, ℤ, Bool, List, [], ◌∷◌, Option, option_and_then, slice_get, map, is_some}
 use Rattle.vdv451_text.specs.declared.table.Field.{Field}
 use Rattle.vdv452_rows.specs.Cells.{whole_number}

@@ -1,4 +1,4 @@
--- The tables that a plan is read from, and the first place where they are wrong.
+-- Promise: the tables that a plan is read from, and the first place where they are wrong.
 use Rattle.std.specs.Prelude.{◌≡◌, ℕ, ◌+◌, List, [], ◌∷◌, ◌++◌, Option, Some, None, Result, Ok, Err, codes}
 use Rattle.number_tables.specs.Outlines.{Place as At, place}
 use Rattle.umlauf_write.specs.declared.text.PlanText.{PlanText}

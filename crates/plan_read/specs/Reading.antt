@@ -1,4 +1,4 @@
--- What the rows of the five tables of a plan say.
+-- Inner: what the rows of the five tables of a plan say.
 use Rattle.std.specs.Prelude.{◌≡◌, ◌<◌, ◌^◌, ℕ, ℤ, nat_lt, List, [], ◌++◌, length, map, Option, Some, None, Result, Ok, Err}
 use Rattle.vdv451_text.specs.declared.table.Table.{Table}
 use Rattle.vdv452_rows.specs.Rows.{first, when}

@@ -1,4 +1,4 @@
--- A plan's tables stand for it.
+-- Promise: a plan's tables stand for it.
 use Rattle.std.specs.Prelude.{◌≡◌, ◌≢◌, ℕ, ◌<◌, ◌≤◌, All, AllPairs, List, length, map, Ok, IsTrue, is_some, codes}
 use Rattle.plan_core.specs.declared.types.Piece.{Piece}
 use Rattle.vdv451_text.specs.declared.table.Table.{Table}

@@ -1,4 +1,4 @@
--- The trips of a day by FRT_FID.
+-- Inner: the trips of a day by FRT_FID.
 use Rattle.std.specs.Prelude.{ℕ, ◌+◌, nat_eq, List, [], ◌∷◌, Option, Some, None, if◌then◌else◌, slice_get}
 use Rattle.std.specs.List.{find}
 use Rattle.std.specs.List.Sorted.{IsNonDecreasingBy}

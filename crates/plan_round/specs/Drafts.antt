@@ -1,4 +1,4 @@
--- What a draft of a plan keeps beside its columns.
+-- Inner: what a draft of a plan keeps beside its columns.
 use Rattle.std.specs.Prelude.{◌≡◌, ℕ, ◌<◌, ◌≤◌, Bool, true, false, List, length, Option, Some, None, slice_index, slice_index_or}
 use Rattle.cover_core.specs.declared.Column.{Column}
 use Rattle.cover_core.specs.Cover.{Problem}

@@ -1,4 +1,4 @@
--- What a rounded pool is, and what a fault says of it.
+-- Promise: what a rounded pool is, and what a fault says of it.
 use Rattle.std.specs.Prelude.{◌≡◌, ℕ, List}
 use Rattle.plan_core.specs.declared.Price.{Price}
 use Rattle.cover_core.specs.declared.Column.{Column}

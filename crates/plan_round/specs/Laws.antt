@@ -1,4 +1,4 @@
--- What rounding gives: a plan, or an item that has no place.
+-- Promise: what rounding gives: a plan, or an item that has no place.
 use Rattle.std.specs.Prelude.{◌≡◌, ℕ, ◌<◌, ◌≤◌, false, List, [], ◌∷◌, length, slice_index, Some, None}
 use Rattle.cover_core.specs.declared.Column.{Column}
 use Rattle.cover_core.specs.Cover.{Problem}

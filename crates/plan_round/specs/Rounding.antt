@@ -1,4 +1,4 @@
--- Rounding: a plan from columns in order, or the item that is left.
+-- Promise: Rounding: a plan from columns in order, or the item that is left.
 use Rattle.std.specs.Prelude.{ℕ, pos, ◌-ℤ◌, int_lt, Bool, true, cond, ◌&&◌, nat_lt, zero, suc, List, [], ◌∷◌, ◌++◌, length, Option, Some, None, slice_set}
 use Rattle.cover_core.specs.declared.Column.{Column}
 use Rattle.cover_core.specs.Cover.{Problem}

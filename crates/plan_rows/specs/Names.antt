@@ -1,4 +1,4 @@
--- The names of the tables of a plan.
+-- Promise: the names of the tables of a plan.
 use Rattle.std.specs.Prelude.{ℕ, List, codes}
 use Rattle.plan_rows.specs.declared.fault.PlanTable.{PlanTable}
 use Rattle.plan_rows.specs.declared.fault.PlanTable.TheVariants as which

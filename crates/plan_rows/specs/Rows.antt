@@ -1,4 +1,4 @@
--- What the rows of a plan say.
+-- Promise: what the rows of a plan say.
 use Rattle.std.specs.Prelude.{ℕ, ℤ, pos, negsuc, ◌+◌, ◌-◌, ◌*◌, ◌/◌, ◌==◌, nat_le, nat_lt, List, Option, Some, None, option_and_then, if◌then◌else◌, position, codes}
 use Rattle.plan_core.specs.declared.types.LegKind.{LegKind}
 use Rattle.plan_core.specs.declared.types.LegKind.TheVariants.{PullOut, Trip, Deadhead, Stand, PullIn}

@@ -1,4 +1,4 @@
--- The tables of a plan, read as rows, or the first place where they are none.
+-- Promise: the tables of a plan, read as rows, or the first place where they are none.
 use Rattle.std.specs.Prelude.{◌≡◌, ℕ, ◌+◌, nat_lt, List, length, Option, Some, None, Result, Ok, Err, is_none, position, if◌then◌else◌}
 use Rattle.std.specs.List.{filter_map}
 use Rattle.std.specs.Borrow.{Bor}

@@ -1,4 +1,4 @@
--- The text of the command `certify`.
+-- Promise: the text of the command `certify`.
 use Rattle.std.specs.Prelude.{ℕ, List}
 use Rattle.vdv451_text.specs.declared.table.Table.{Table}
 use Rattle.day_model.specs.Facts.{DayFacts}

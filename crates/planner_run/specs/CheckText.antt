@@ -1,4 +1,4 @@
--- The line of the command `check`, and the status with which it ends.
+-- Promise: the line of the command `check`, and the status with which it ends.
 use Rattle.std.specs.Prelude.{◌≡◌, ℕ, List, [], ◌∷◌, Some, codes, decimal}
 use Rattle.vdv451_text.specs.declared.table.Table.{Table}
 use Rattle.vdv452_rows.specs.Schema as schema

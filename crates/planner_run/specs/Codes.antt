@@ -1,4 +1,4 @@
--- The number of each status.
+-- Promise: the number of each status.
 use Rattle.std.specs.Prelude.{ℕ}
 use Rattle.planner_run.specs.declared.status.Status.{Status}
 use Rattle.planner_run.specs.declared.status.Status.TheVariants as statuses

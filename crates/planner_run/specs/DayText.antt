@@ -1,4 +1,4 @@
--- The text of the command `day`.
+-- Promise: the text of the command `day`.
 use Rattle.std.specs.Prelude.{◌≡◌, ℕ, List}
 use Rattle.vdv451_text.specs.declared.table.Table.{Table}
 use Rattle.vdv451_text.specs.Plain.{text}

@@ -1,4 +1,4 @@
--- The statuses with which a text is written whole.
+-- Promise: the statuses with which a text is written whole.
 use Rattle.std.specs.Prelude.{Bool, true, false}
 use Rattle.planner_run.specs.declared.status.Status.{Status}
 use Rattle.planner_run.specs.declared.status.Status.TheVariants as statuses

@@ -1,4 +1,4 @@
--- The line on standard error that each refusal has.
+-- Promise: the line on standard error that each refusal has.
 use Rattle.std.specs.Prelude.{ℕ, ◌++◌, List, [], ◌∷◌, codes, decimal}
 use Rattle.vdv452_rows.specs.declared.fault.TableKind.{TableKind}
 use Rattle.vdv452_rows.specs.declared.fault.TableKind.TheVariants as tables

@@ -1,4 +1,4 @@
--- How planning of a made day ends.
+-- Promise: how planning of a made day ends.
 use Rattle.std.specs.Prelude.{ℕ, ◌≤◌}
 use Rattle.day_maker.specs.Made.{made_tables}
 use Rattle.plan_command.specs.Planning.{Asked}

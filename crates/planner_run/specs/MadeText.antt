@@ -1,4 +1,4 @@
--- The texts of the command `make`.
+-- Promise: the texts of the command `make`.
 use Rattle.std.specs.Prelude.{◌≡◌, ℕ, List}
 use Rattle.vdv451_text.specs.declared.table.Table.{Table}
 use Rattle.vdv451_text.specs.Plain.{text}

@@ -1,4 +1,4 @@
--- The day that the tables of all files tell, and why they tell none.
+-- Promise: the day that the tables of all files tell, and why they tell none.
 use Rattle.std.specs.Prelude.{◌≡◌, ℕ, ◌⊎◌, List, None, Some}
 use Rattle.vdv451_text.specs.declared.table.Table.{Table}
 use Rattle.vdv452_rows.specs.declared.fault.TableFault.{TableFault}

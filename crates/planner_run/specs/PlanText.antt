@@ -1,4 +1,4 @@
--- The text of the command `plan`, and why there is none.
+-- Promise: the text of the command `plan`, and why there is none.
 use Rattle.std.specs.Prelude.{◌≡◌, ◌≢◌, ℕ, ◌⊎◌, List, Some}
 use Rattle.vdv451_text.specs.declared.table.Table.{Table}
 use Rattle.vdv452_rows.specs.Schema as schema

@@ -1,4 +1,4 @@
--- The number and the name of each reason against a plan or its certificate.
+-- Promise: the number and the name of each reason against a plan or its certificate.
 use Rattle.std.specs.Prelude.{ℕ, List, codes}
 use Rattle.cert_check.specs.declared.reason.Reason.{Reason}
 use Rattle.cert_check.specs.declared.reason.Reason.TheVariants as reasons

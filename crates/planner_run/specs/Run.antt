@@ -1,4 +1,4 @@
--- What the top call answers, from the words, from what the files hold and from the counts of faults.
+-- Promise: what the top call answers, from the words, from what the files hold and from the counts of faults.
 use Rattle.std.specs.Prelude.{◌≡◌, ℕ, ◌+◌, ◌-◌, Bool, true, false, ◌&&◌, ◌⊎◌, List, [], ◌++◌, take, Option, Some, IfSome, slice_index_or}
 use Rattle.plan_core.specs.Outside.{Rose}
 use Rattle.vdv451_text.specs.declared.table.Table.{Table}

@@ -1,4 +1,4 @@
--- What a request asks for.
+-- Promise: what a request asks for.
 use Rattle.std.specs.Prelude.{ℕ, ◌-◌, Bool, true, false, ◌||◌, List, length, Option, None, Some, is_some}
 use Rattle.price_rounds.specs.declared.effort.Effort.{Effort}
 use Rattle.cover_plan.specs.Endings.{Numbers, numbers_of}

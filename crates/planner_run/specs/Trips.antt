@@ -1,4 +1,4 @@
--- The trips of a day: the table that the command writes, and why a day has none.
+-- Promise: the trips of a day: the table that the command writes, and why a day has none.
 use Rattle.std.specs.Prelude.{◌≡◌, ℕ, ◌<◌, ◌≤◌, List, [], ◌∷◌, length, map, ◌⊎◌, None, Some, IsSomeAnd, slice_index_or}
 use Rattle.vdv451_text.specs.declared.table.Field.{Field}
 use Rattle.vdv451_text.specs.declared.table.Table.{Table}

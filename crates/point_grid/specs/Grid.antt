@@ -1,4 +1,4 @@
--- Times between points, laid out flat.
+-- Promise: times between points, laid out flat.
 use Rattle.std.specs.Prelude.{◌≡◌, ℕ, ◌+◌, ◌*◌, nat_le, List, Option, Some, None, length, map, slice_get, if◌then◌else◌}
 use Rattle.std.specs.List.{flat_map}
 use Rattle.plan_core.specs.declared.types.Point.{Point}

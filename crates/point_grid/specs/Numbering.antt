@@ -1,4 +1,4 @@
--- Points by dense numbers.
+-- Promise: points by dense numbers.
 use Rattle.std.specs.Prelude.{◌≡◌, ℕ, List, Some, length, slice_get, slice_index}
 use Rattle.plan_core.specs.declared.types.Point.{Point}
 use Rattle.point_grid.specs.declared.numbering.Numbering.{Numbering}

@@ -1,4 +1,4 @@
--- How much work a plan is given.
+-- Promise: how much work a plan is given.
 use Rattle.std.specs.Prelude.{◌<◌, ◌≤◌}
 use Rattle.price_rounds.specs.declared.effort.Effort.{Effort}
 

@@ -1,4 +1,4 @@
--- Rounds of prices over a problem: which prices are offered, which columns a pool gets, and which offer is kept.
+-- Promise: rounds of prices over a problem: which prices are offered, which columns a pool gets, and which offer is kept.
 use Rattle.std.specs.Prelude.{◌≡◌, ℕ, ℤ, pos, ◌+◌, ◌<◌, ◌≤◌, zero, suc, List, [], ◌∷◌, ◌++◌, map, length, All}
 use Rattle.std.specs.List.{range_with_len}
 use Rattle.std.specs.Int.{int_max}

@@ -1,4 +1,4 @@
--- What holds between the steps of a pass.
+-- Promise: what holds between the steps of a pass.
 use Rattle.std.specs.Prelude.{◌≡◌, ℕ, neg_ℤ, pos, ◌≤◌, ◌++◌, List, length}
 use Rattle.plan_core.specs.declared.Price.{Price}
 use Rattle.cover_core.specs.declared.Column.{Column}

@@ -1,4 +1,4 @@
--- Two days that are alike have the same texts and the same causes for a refusal, when they are planned anew.
+-- Promise: two days that are alike have the same texts and the same causes for a refusal, when they are planned anew.
 use Rattle.std.specs.Prelude.{ℕ, List}
 use Rattle.vdv451_text.specs.declared.table.Table.{Table}
 use Rattle.cover_plan.specs.Endings.{Numbers}

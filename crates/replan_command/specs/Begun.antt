@@ -1,4 +1,4 @@
--- Pieces of new blocks that begin before a moment, and the duties of an earlier plan that have them.
+-- Promise: pieces of new blocks that begin before a moment, and the duties of an earlier plan that have them.
 use Rattle.std.specs.Prelude.{◌≡◌, ℕ, pos, int_lt, ◌&&◌, Bool, true, false, not, List, [], ◌∷◌, Some, slice_get}
 use Rattle.std.specs.Option.{option_map_or}
 use Rattle.plan_core.specs.declared.types.Piece.{Piece}

@@ -1,4 +1,4 @@
--- What is left of a day and is planned by fixed rounds has one text, or one cause for a refusal.
+-- Promise: what is left of a day and is planned by fixed rounds has one text, or one cause for a refusal.
 use Rattle.std.specs.Prelude.{◌≡◌, ◌⊎◌, ℕ, false, List}
 use Rattle.vdv451_text.specs.declared.table.Table.{Table}
 use Rattle.cover_plan.specs.Endings.{Numbers}

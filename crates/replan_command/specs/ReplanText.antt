@@ -1,4 +1,4 @@
--- The text of the new plan of a day from a moment on, and why there is none.
+-- Promise: the text of the new plan of a day from a moment on, and why there is none.
 use Rattle.std.specs.Prelude.{◌≡◌, ◌⊎◌, ℕ, List}
 use Rattle.vdv451_text.specs.declared.table.Table.{Table}
 use Rattle.vdv451_text.specs.Plain.{text}

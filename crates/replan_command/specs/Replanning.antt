@@ -1,4 +1,4 @@
--- What is planned anew from a moment, and why it cannot be.
+-- Promise: what is planned anew from a moment, and why it cannot be.
 use Rattle.std.specs.Prelude.{◌≡◌, ℕ, ◌≤◌, Bool, true, false, List, length, Option, None, Some, option_and_then, slice_get}
 use Rattle.std.specs.Option.{option_map}
 use Rattle.plan_core.specs.declared.types.Piece.{Piece as WorkPiece}

@@ -1,4 +1,4 @@
--- What holds between the steps of replanning a day.
+-- Inner: what holds between the steps of replanning a day.
 use Rattle.std.specs.Prelude.{◌≡◌, ◌⊎◌, ℕ, ◌<◌, true, false, All, List, Option, Some, length}
 use Rattle.vdv451_text.specs.declared.table.Table.{Table}
 use Rattle.cover_core.specs.declared.Column.{Column}

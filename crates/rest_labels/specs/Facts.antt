@@ -1,4 +1,4 @@
--- Facts with one proof, as ghost fields ask for.
+-- Promise: facts with one proof, as ghost fields ask for.
 use Rattle.std.specs.Prelude.{ℕ, List, [], ◌∷◌}
 use Rattle.std.specs.Coded.{Unit-prop}
 use Rattle.std.proofs.Props.{props}

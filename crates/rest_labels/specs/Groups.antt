@@ -1,4 +1,4 @@
--- The labels of the lists of a rest in a group, by marks.
+-- Promise: the labels of the lists of a rest in a group, by marks.
 use Rattle.std.specs.Prelude.{ℕ, ℤ, Bool, List, length, Option}
 use Rattle.cover_core.specs.Labels.{IsKept, IsValued, Labelling}
 use Rattle.label_search.specs.Laws.{GoodAs, HidesNone, IsSafe, IsStepwise}

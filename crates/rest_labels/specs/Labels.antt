@@ -1,4 +1,4 @@
--- Labels of the lists of a rest.
+-- Promise: labels of the lists of a rest.
 use Rattle.std.specs.Prelude.{◌≡◌, ℕ, Bool, true, false, cond, ◌&&◌, not, nat_eq, nat_lt, nat_le, List, [], ◌∷◌, length, Option, Some, None, slice_get, unwrap_or}
 use Rattle.std.specs.Option.{option_map}
 use Rattle.cover_core.specs.Labels.{Labelling, label_after, label_of}

@@ -1,4 +1,4 @@
--- What ties the labels of a rest to its worths.
+-- Promise: what ties the labels of a rest to its worths.
 use Rattle.std.specs.Prelude.{◌≡◌, ◌≢◌, ℕ, ℤ, ◌<◌, ◌≤◌, ◌/◌, Bool, List, [], ◌∷◌, ◌++◌, length, Option, Some, slice_get}
 use Rattle.plan_core.specs.declared.Price.{Price}
 use Rattle.cover_core.specs.Cover.{Problem}

@@ -1,4 +1,4 @@
--- Marks of the items of a rest.
+-- Inner: marks of the items of a rest.
 use Rattle.std.specs.Prelude.{ℕ, nat_eq, Bool, List, [], ◌∷◌}
 use Rattle.cover_rest.specs.declared.begun.Begun.{Begun}
 

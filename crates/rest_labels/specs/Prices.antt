@@ -1,4 +1,4 @@
--- Prices of items, from prices of the items of a rest.
+-- Promise: prices of items, from prices of the items of a rest.
 use Rattle.std.specs.Prelude.{◌≡◌, ℕ, pos, true, List, [], ◌∷◌, length, slice_set}
 use Rattle.plan_core.specs.declared.Price.{Price}
 use Rattle.cover_core.specs.Plans.{price_of}

@@ -1,4 +1,4 @@
--- A problem of two items, on which the examples of the tests are worked by hand.
+-- Inner: a problem of two items, on which the examples of the tests are worked by hand.
 use Rattle.std.specs.Prelude.{ℕ, ◌≤◌, ◌==◌, ◌&&◌, nat_lt, cond, List, [], ◌∷◌, Option, Some, None}
 use Rattle.std.proofs.Common.{◌≡◌, ◌<◌, arith}
 use Rattle.std.proofs.lemmas.Bool.Decides.{nat_tests}

@@ -1,4 +1,4 @@
--- The problem of the pricer that tests use.
+-- Inner: the problem of the pricer that tests use.
 use Rattle.std.proofs.Common.{◌≡◌, ℕ, ◌+◌, ◌%◌, ◌<◌, ◌==◌, ◌&&◌, nat_lt, Bool, true, false, cond, List, [], ◌∷◌, Option, Some, None, refl, arith}
 use Rattle.std.proofs.lemmas.Bool.Decides.{nat_tests}
 use Rattle.cover_core.specs.Cover.{Problem}

@@ -1,4 +1,4 @@
--- The first place where tables are not the ones that they should be.
+-- Promise: the first place where tables are not the ones that they should be.
 use Rattle.std.specs.Prelude.{ℕ, ◌+◌, ◌&&◌, min, not, Bool, true, false, nat_eq, List, [], ◌∷◌, length, count_by, drop, take, Option, Some, None, if◌then◌else◌}
 use Rattle.std.specs.List.{find, list_all, position_from, zip}
 use Rattle.std.specs.Ordering.{int_eq}

@@ -1,4 +1,4 @@
--- Exchange steps: swaps of tails and cuts, and what the plan is after some of them.
+-- Promise: exchange steps: swaps of tails and cuts, and what the plan is after some of them.
 use Rattle.std.specs.Prelude.{◌≡◌, ◌==◌, ℕ, pos, ◌-ℤ◌, ◌+ℤ◌, ◌≤ℤ◌, ◌<ℤ◌, ◌+◌, ◌-◌, ◌≤◌, Bool, true, false, cond, ◌&&◌, not, zero, suc, List, [], ◌∷◌, ◌++◌, length, take, drop, flat_map, Option, Some, None, unwrap_or, slice_set}
 use Rattle.std.specs.List.{range_with_len, Contains, filter}
 use Rattle.rayon.specs.Lists.{IsLeast}

@@ -1,4 +1,4 @@
--- What is kept of the swaps of each column between steps.
+-- Inner: what is kept of the swaps of each column between steps.
 use Rattle.std.specs.Prelude.{◌≡◌, ◌≢◌, ◌==◌, ℕ, ◌+◌, ◌-◌, ◌<◌, nat_lt, Bool, false, ◌||◌, cond, List, [], length, Option, Some, None, IfSome, slice_index_or}
 use Rattle.std.specs.List.{Contains}
 use Rattle.std.specs.declared.cmp.Ordering.TheVariants.{Less}

@@ -1,4 +1,4 @@
--- The least of candidates that are looked at one after another.
+-- Inner: the least of candidates that are looked at one after another.
 use Rattle.std.specs.Prelude.{cond, List, [], ◌∷◌, Option, Some, None}
 use Rattle.std.specs.Ordering.{is_lt}
 use Rattle.tail_exchange.specs.declared.candidate.Candidate.{Candidate}

@@ -1,4 +1,4 @@
--- What contracts see of a board and of a desk.
+-- Promise: what contracts see of a board and of a desk.
 use Rattle.std.specs.Prelude.{◌≡◌}
 use Rattle.atomic_table.specs.Seated.{TableId}
 use Rattle.task_board.specs.declared.sheet.Extent.{Extent}

@@ -1,4 +1,4 @@
--- The board as a machine over events, for every order of the desks' steps.
+-- Promise: the board as a machine over events, for every order of the desks' steps.
 use Rattle.std.specs.Prelude.{ℕ, ℤ, pos, suc, ◌+◌, ◌-◌, ◌==◌, ◌&&◌, not, min, nat_lt, Bool, true, List, [], ◌∷◌, ◌++◌, slice_index, slice_set, if◌then◌else◌}
 use mathlib.Core.Option.{Option, none, some}
 use lib.ListN.{get_elem?}

@@ -1,4 +1,4 @@
--- What the desks of a board have done, and the state condition of a board.
+-- Promise: what the desks of a board have done, and the state condition of a board.
 use Rattle.std.specs.Prelude.{◌≡◌, ℕ, ℤ, pos, ◌+◌, ◌-◌, ◌+ℤ◌, ◌≤ℤ◌, ◌<◌, ◌≤◌, ◌⊎◌, ◌==◌, min, nat_lt, List, [], ◌∷◌, ◌++◌, length, slice_index, replicate, Contains, All, if◌then◌else◌}
 use mathlib.Core.Option.{some}
 use lib.ListN.{get_elem?}

@@ -1,4 +1,4 @@
--- Inner: the laws of labels stay where the items from an end on are left out, since a step over an item before the end is the same.
+-- Promise: the laws of labels stay where the items from an end on are left out, since a step over an item before the end is the same.
 use Rattle.std.proofs.Common.{ℕ, ℤ, ◌<◌, Bool, cond, nat_lt, ap, ◌∙◌, arith}
 use Rattle.std.specs.Prelude.{Option, None}
 use Rattle.std.proofs.lemmas.Bool.Decides.{nat_tests}

@@ -1,4 +1,4 @@
--- Courses: the points of a variant of a line, in their order.
+-- Promise: Courses: the points of a variant of a line, in their order.
 use Rattle.std.specs.Prelude.{List, [], ◌∷◌}
 use Rattle.plan_core.specs.declared.types.Point.{Point}
 

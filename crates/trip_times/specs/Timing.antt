@@ -1,4 +1,4 @@
--- When a trip begins and ends.
+-- Promise: when a trip begins and ends.
 use Rattle.std.specs.Prelude.{◌≡◌, ℕ, ◌+◌, ◌≤ℤ◌, pos, List, [], ◌∷◌, Option, Some, None, Result, Ok, Err, find, is_none, nat_le, sum_by, unwrap_or, if◌then◌else◌}
 use Rattle.plan_core.specs.declared.types.Point.{Point}
 use Rattle.vdv452_tables.specs.declared.net.Net.{Net}

@@ -1,4 +1,4 @@
--- The tables of a whole answer: blocks with their legs, duties with their pieces, and bounds.
+-- Promise: the tables of a whole answer: blocks with their legs, duties with their pieces, and bounds.
 use Rattle.std.specs.Prelude.{false, ◌≡◌, ◌<◌, ◌≤◌, ◌^◌, ℕ, ℤ, pos, ◌+◌, ◌+ℤ◌, ◌-ℤ◌, ◌≤ℤ◌, All, List, [], ◌∷◌, ◌++◌, length, Option, Some, None, option_and_then, slice_get, slice_index_or, codes}
 use Rattle.std.specs.Option.{option_map}
 use Rattle.plan_core.specs.declared.types.Leg.{Leg}

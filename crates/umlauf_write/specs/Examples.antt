@@ -1,4 +1,4 @@
--- The plan of a day with two trips, computed: read from its tables.
+-- Promise: the plan of a day with two trips, computed: read from its tables.
 use Rattle.std.specs.Prelude.{false, ◌≡◌, ℕ, pos, List, [], ◌∷◌, Option, Some, None, Ok, Err, codes, refl, map}
 use Rattle.vdv451_text.specs.declared.table.Table.{Table}
 use Rattle.cover_core.specs.declared.Column.{Column}

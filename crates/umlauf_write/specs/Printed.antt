@@ -1,4 +1,4 @@
--- Blocks in the order in which they are printed.
+-- Promise: blocks in the order in which they are printed.
 use Rattle.std.specs.Prelude.{ℕ, List, [], ◌∷◌}
 use Rattle.cover_core.specs.declared.Column.{Column}
 use Rattle.plan_params.specs.Settings.{in_order}

@@ -1,4 +1,4 @@
--- What the tables of a plan say, or the first place where they say nothing.
+-- Promise: what the tables of a plan say, or the first place where they say nothing.
 use Rattle.std.specs.Prelude.{ℕ, ℤ, pos, negsuc, ◌+◌, nat_eq, nat_lt, List, [], ◌∷◌, ◌++◌, length, map, Option, Some, None, Result, Ok, Err, if◌then◌else◌, option_and_then, codes}
 use Rattle.std.specs.Option.{option_map}
 use Rattle.std.specs.List.{filter_map, range_with_len}

@@ -1,4 +1,4 @@
--- The tables of a plan of blocks.
+-- Promise: the tables of a plan of blocks.
 use Rattle.std.specs.Prelude.{ℕ, ◌+◌, ◌==◌, pos, Bool, List, [], ◌∷◌, Option, Some, None, codes, decimal, slice_index_or, slice_set, if◌then◌else◌}
 use Rattle.std.specs.List.{list_any}
 use Rattle.vdv451_text.specs.declared.table.Field.{Field}

@@ -1,4 +1,4 @@
--- REC_FRT with the numbers of blocks: its rows are found by the version and the trip's number.
+-- Promise: REC_FRT with the numbers of blocks: its rows are found by the version and the trip's number.
 use Rattle.std.specs.Prelude.{◌≡◌, ℕ, ℤ, pos, negsuc, ◌==◌, ◌&&◌, Bool, false, List, [], length, filter, Option, Some, None, option_and_then, unwrap_or, codes}
 use Rattle.std.specs.List.{find}
 use Rattle.vdv451_text.specs.declared.table.Field.{Field}

@@ -1,4 +1,4 @@
--- The marks of one class as the labels of a search.
+-- Promise: the marks of one class as the labels of a search.
 use Rattle.std.specs.Prelude.{◌≡◌, ℕ, ℤ, ◌<◌, Bool, true, List, Some, refl}
 use Rattle.std.proofs.Common.{◌∙◌, subst, sym}
 use Rattle.std.specs.declared.cmp.Ordering.{Ordering}

@@ -1,4 +1,4 @@
--- Lists with a value below minus the price of their class.
+-- Promise: lists with a value below minus the price of their class.
 use Rattle.std.specs.Prelude.{◌≡◌, ℕ, ℤ, neg_ℤ, ◌<◌, ◌<ℤ◌, List, Some}
 use Rattle.plan_core.specs.declared.Price.{Price}
 use Rattle.cover_core.specs.declared.Column.{Column}

@@ -1,4 +1,4 @@
--- The fields of a line on which few may stand.
+-- Inner: the fields of a line on which few may stand.
 use Rattle.std.specs.Prelude.{ℕ, Bool, true, nat_le, ◌||◌, ◌&&◌, List, [], ◌∷◌, length, Option, Some, None, Result, Ok, Err, if◌then◌else◌}
 use Rattle.std.specs.List.{list_all}
 use Rattle.vdv451_text.specs.declared.fault.TextKind.{TextKind}

@@ -1,4 +1,4 @@
--- The fields of a line one after another.
+-- Inner: the fields of a line one after another.
 use Rattle.std.specs.Prelude.{ℕ, ◌+◌, Bool, true, false, ◌==◌, List, [], ◌∷◌, length, Option, Some, None, Result, Ok, Err, if◌then◌else◌}
 use Rattle.std.specs.Option.{option_map}
 use Rattle.vdv451_text.specs.declared.fault.TextKind.{TextKind}

@@ -1,4 +1,4 @@
--- The code's view of a line, as the definitions have it.
+-- Inner: the code's view of a line, as the definitions have it.
 use Rattle.std.specs.Option.{option_map}
 use Rattle.vdv451_text.specs.declared.lines.Line.{Line as SeenLine}
 use Rattle.vdv451_text.specs.declared.lines.Line.TheVariants as seen

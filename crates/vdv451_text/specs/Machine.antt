@@ -1,4 +1,4 @@
--- A machine that reads a text line by line: where it stands, and what a line makes of it.
+-- Inner: a machine that reads a text line by line: where it stands, and what a line makes of it.
 use Rattle.std.specs.Prelude.{ℕ, ◌+◌, nat_lt, Bool, true, false, ◌||◌, List, [], ◌∷◌, ◌++◌, length, map, unwrap_or, Option, Some, None, Result, Ok, Err, if◌then◌else◌}
 use Rattle.std.specs.Str.{str_to_ascii_uppercase}
 use Rattle.vdv451_text.specs.declared.table.Field.{Field}

@@ -1,4 +1,4 @@
--- What the fields of a line give, one after another.
+-- Inner: what the fields of a line give, one after another.
 use Rattle.std.specs.Prelude.{ℕ, Bool, ◌==◌, not, List, [], ◌∷◌, length, Option, Some, None, Result, Ok, Err, if◌then◌else◌}
 use Rattle.std.specs.List.{list_all}
 use Rattle.vdv451_text.specs.declared.fault.TextKind.{TextKind}

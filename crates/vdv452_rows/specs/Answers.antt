@@ -1,4 +1,4 @@
--- What an answer says of the faults.
+-- Promise: what an answer says of the faults.
 use Rattle.std.specs.Prelude.{◌≡◌, List, Some}
 use Rattle.vdv452_rows.specs.declared.fault.TableFault.{TableFault}
 use Rattle.vdv452_rows.specs.declared.fault.Refusal.{Refusal}

@@ -1,4 +1,4 @@
--- What a field means in a column.
+-- Promise: what a field means in a column.
 use Rattle.std.specs.Prelude.{ℕ, Bool, true, false, ◌==◌, nat_le, ℤ, pos, negsuc, List, Option, Some, None, if◌then◌else◌}
 use Rattle.std.specs.Cmp.Lexicographic.{pointwise}
 use Rattle.std.specs.Fmt.{signed_decimal}

@@ -1,4 +1,4 @@
--- The columns of a schema with their places in a table.
+-- Inner: the columns of a schema with their places in a table.
 use Rattle.std.specs.Prelude.{ℕ, ◌+◌, List, [], ◌∷◌, ◌++◌, map, filter, Option, slice_get}
 use Rattle.std.specs.Option.{option_and_then}
 use Rattle.vdv451_text.specs.declared.table.Field.{Field}

@@ -1,4 +1,4 @@
--- The column that an outline tells.
+-- Inner: the column that an outline tells.
 use Rattle.vdv452_rows.specs.declared.schema.Column.{Column}
 use Rattle.vdv452_rows.specs.declared.schema.Outline.{Outline}
 

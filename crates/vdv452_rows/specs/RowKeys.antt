@@ -1,4 +1,4 @@
--- Keys of rows in little room.
+-- Inner: keys of rows in little room.
 use Rattle.std.specs.Prelude.{◌≡◌, Bool, true, false, ◌==◌, ◌&&◌, ℕ, nat_le, List, [], ◌∷◌, length, map, Option, Some, None, if◌then◌else◌, slice_get}
 use Rattle.std.specs.Option.{option_map}
 use Rattle.vdv452_rows.specs.declared.cell.Cell.{Cell}

@@ -1,4 +1,4 @@
--- Rows as maps from names to values, and the first fault of the tables.
+-- Promise: rows as maps from names to values, and the first fault of the tables.
 use Rattle.std.specs.Prelude.{◌≡◌, ℕ, ◌+◌, AllPairs, Bool, true, false, not, nat_lt, List, [], ◌∷◌, ◌++◌, length, map, filter, Option, Some, None, if◌then◌else◌, is_none, unwrap_or, slice_get}
 use Rattle.std.specs.Option.{option_map, option_and_then}
 use Rattle.std.specs.List.{list_any, find, flat_map}

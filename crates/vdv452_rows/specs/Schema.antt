@@ -1,4 +1,4 @@
--- The tables and columns that are read, after VDV 452, and the tables of this project.
+-- Promise: the tables and columns that are read, after VDV 452, and the tables of this project.
 use Rattle.std.specs.Prelude.{ℕ, true, false, List, [], ◌∷◌, codes}
 use Rattle.vdv452_rows.specs.declared.schema.Column.{Column}
 use Rattle.vdv452_rows.specs.declared.schema.Domain.{Domain}

@@ -1,4 +1,4 @@
--- The typed rows of the tables, by the places of their columns.
+-- Promise: the typed rows of the tables, by the places of their columns.
 use Rattle.std.specs.Prelude.{ℕ, ◌+◌, List, [], ◌∷◌, map}
 use Rattle.plan_core.specs.declared.types.Point.{Point}
 use Rattle.vdv452_rows.specs.declared.cell.Cell.{Cell}

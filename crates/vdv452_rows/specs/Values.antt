@@ -1,4 +1,4 @@
--- The values of a row's columns, by their places in the schema.
+-- Promise: the values of a row's columns, by their places in the schema.
 use Rattle.std.specs.Prelude.{ℕ, List, [], Option, Some, None, slice_get}
 use Rattle.vdv452_rows.specs.declared.cell.Cell.{Cell}
 use Rattle.vdv452_rows.specs.declared.cell.Cell.TheVariants.{Nothing, Number, Long, Word}

@@ -1,4 +1,4 @@
--- The rows of a network, and the version and the kind of a day.
+-- Promise: the rows of a network, and the version and the kind of a day.
 use Rattle.std.specs.Prelude.{◌≡◌, ◌≤◌, ℕ, All, Contains, ◌==◌, ◌&&◌, nat_le, nat_lt, List, [], ◌∷◌, ◌++◌, Option, Some, None, if◌then◌else◌, filter}
 use Rattle.std.specs.Option.{option_map}
 use Rattle.std.specs.List.{find}

@@ -1,4 +1,4 @@
--- The indexes of a network give what its rows give.
+-- Inner: the indexes of a network give what its rows give.
 use Rattle.std.specs.Prelude.{◌≡◌, ◌++◌, ◌∷◌, List, [], Option, Some, None}
 use Rattle.indexmap.specs.IndexMap.{IndexMap, get}
 use Rattle.plan_core.specs.declared.types.Point.{Point}

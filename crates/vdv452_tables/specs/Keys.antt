@@ -1,4 +1,4 @@
--- Keys of rows, and indexes by key.
+-- Promise: keys of rows, and indexes by key.
 use Rattle.std.specs.Prelude.{◌≡◌, ℕ, Bool, true, false, refl, ◌==◌, ◌&&◌, List, Option}
 use Rattle.std.specs.Cmp.{unsigned_Decides}
 use Rattle.std.specs.Cmp.Lexicographic.{bytes_decides}

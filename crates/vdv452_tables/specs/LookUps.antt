@@ -1,4 +1,4 @@
--- What the rows of a network tell at a key.
+-- Promise: what the rows of a network tell at a key.
 use Rattle.std.specs.Prelude.{ℕ, Bool, List, [], ◌∷◌, Option, Some, None, map, filter, nat_lt, if◌then◌else◌, is_some, codes}
 use Rattle.std.specs.Str.{bytes_eq}
 use Rattle.plan_core.specs.declared.types.Point.{Point}

@@ -1,4 +1,4 @@
--- The ranges of the values in the rows of a network.
+-- Promise: the ranges of the values in the rows of a network.
 use Rattle.std.specs.Prelude.{◌≡◌, ◌≤◌, ◌<◌, ◌^◌, ℕ, List, [], Option, Some, None, All, IfSome, length, slice_get, slice_index, if◌then◌else◌, codes}
 use Rattle.std.specs.Str.{bytes_eq}
 use Rattle.vdv452_tables.specs.declared.net.Net.{Net}

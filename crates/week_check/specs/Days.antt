@@ -1,4 +1,4 @@
--- Days as YYYYMMDD of the Gregorian calendar, their numbers and their weeks.
+-- Promise: days as YYYYMMDD of the Gregorian calendar, their numbers and their weeks.
 use Rattle.std.specs.Prelude.{ℕ, ◌/◌, ◌%◌, ◌≤◌, ℤ, pos, neg_ℤ, ◌-ℤ◌, ◌≤ℤ◌}
 use Rattle.jiff_core.specs.Calendar.{days_from_civil, weekday_number, IsDate}
 use Rattle.jiff_core.specs.Date.{IsYmd}

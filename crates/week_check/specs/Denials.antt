@@ -1,4 +1,4 @@
--- What articles 6(1) to 6(3), 8(2) and 8(4) of Regulation (EC) 561/2006 deny of the duties of drivers.
+-- Promise: what articles 6(1) to 6(3), 8(2) and 8(4) of Regulation (EC) 561/2006 deny of the duties of drivers.
 use Rattle.std.specs.Prelude.{◌≡◌, ℕ, ◌+◌, nat_le, nat_lt, Bool, true, false, ◌&&◌, ◌||◌, List, [], ◌∷◌, ◌++◌, length, map, filter, if◌then◌else◌, ℤ, pos, ◌+ℤ◌, int_lt, sum_by, All, IsPermutation, IsSorted}
 use Rattle.std.specs.List.{list_any, flat_map}
 use Rattle.std.specs.Ordering.{nat_cmp, int_cmp, int_eq, ordering_then}

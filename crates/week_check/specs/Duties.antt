@@ -1,4 +1,5 @@
--- The duties of drivers, each driver's in their order, and the rests after them: articles 4(g) and 4(h) of Regulation (EC) 561/2006.
+-- Promise: the duties of drivers, each driver's in their order, and the rests after them: articles 4(g) and 4(h) of Regulation (EC)
+-- 561/2006.
 use Rattle.std.specs.Prelude.{◌≡◌, ℕ, ◌+◌, ◌≤◌, Bool, true, false, ◌==◌, ◌&&◌, not, Option, Some, None, List, [], ◌∷◌, ◌++◌, length, filter, if◌then◌else◌, ℤ, pos, ◌+ℤ◌, ◌-ℤ◌, ◌*ℤ◌, ◌≤ℤ◌, int_lt, int_le, All, AllPairs}
 use Rattle.std.specs.List.{list_any}
 use Rattle.std.specs.Int.{int_min}

@@ -1,4 +1,4 @@
--- The roster's table X_EINSATZ as duties, and its faults.
+-- Promise: the roster's table X_EINSATZ as duties, and its faults.
 use Rattle.std.specs.Prelude.{◌≡◌, ℕ, ◌+◌, ◌==◌, Bool, true, false, not, ◌&&◌, nat_le, nat_lt, List, [], ◌∷◌, ◌++◌, length, map, filter, Option, Some, None, if◌then◌else◌, is_none, unwrap_or, slice_get, ℤ, pos, neg_ℤ, ◌+ℤ◌, ◌*ℤ◌, ◌≤ℤ◌, int_le, unsigned_abs, codes, All}
 use Rattle.std.specs.List.{find, flat_map, list_any}
 use Rattle.std.specs.Option.{option_and_then}

@@ -1,4 +1,4 @@
--- What an answer says of the roster's table.
+-- Promise: what an answer says of the roster's table.
 use Rattle.std.specs.Prelude.{◌≡◌, List, [], Some, Result, Ok, Err}
 use Rattle.vdv451_text.specs.declared.table.Table.{Table}
 use Rattle.vdv452_rows.specs.declared.fault.TableFault.{TableFault}

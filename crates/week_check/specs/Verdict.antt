@@ -1,4 +1,4 @@
--- The table X_URTEIL.
+-- Promise: the table X_URTEIL.
 use Rattle.std.specs.Prelude.{ℕ, ℤ, pos, List, [], ◌∷◌, map, Option, Some, codes}
 use Rattle.vdv451_text.specs.declared.table.Table.{Table}
 use Rattle.number_tables.specs.Signed.{signed_table}

@@ -1,4 +1,4 @@
--- What the workers gather together.
+-- Promise: what the workers gather together.
 use Rattle.std.specs.Prelude.{◌≡◌, ℕ, ℤ, pos, ◌*◌, ◌/◌, ◌<◌, ◌==◌, cond, List, [], ◌∷◌, map, length, Result, IfOk}
 use Rattle.std.specs.List.{AllZip}
 use Rattle.std.specs.Int.{int_min}

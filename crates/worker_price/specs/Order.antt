@@ -1,4 +1,4 @@
--- The steps by which what was found is put into order.
+-- Inner: the steps by which what was found is put into order.
 use Rattle.std.specs.Prelude.{ℕ, ℤ, pos, ◌/◌, ◌%◌, List, Option, Some, None, slice_set, slice_index_or, ◌≡◌, ◌<◌, Contains}
 use Rattle.std.specs.Int.{int_min}
 use Rattle.plan_core.specs.declared.Price.{Price}

@@ -1,4 +1,4 @@
--- What a pricing step gives: the columns that are kept, and the least value of each class.
+-- Promise: what a pricing step gives: the columns that are kept, and the least value of each class.
 use Rattle.std.specs.Prelude.{◌≡◌, ◌<◌, ◌≤◌, neg_ℤ, ◌≤ℤ◌, ◌⊎◌, Some, ℕ, ℤ, pos, ◌+◌, ◌/◌, ◌&&◌, ◌+ℤ◌, int_lt, int_le, Bool, List, [], ◌∷◌, map, length}
 use Rattle.std.specs.List.{filter, filter_map, flat_map, range_with_len}
 use Rattle.std.specs.Int.{int_min}

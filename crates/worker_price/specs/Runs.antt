@@ -1,4 +1,4 @@
--- What workers gather in a run of the board's machine, whatever the order of their steps.
+-- Promise: what workers gather in a run of the board's machine, whatever the order of their steps.
 use Rattle.std.specs.Prelude.{◌≡◌, ℕ, ℤ, negsuc, ◌+◌, ◌*◌, ◌/◌, ◌<◌, ◌⊎◌, nat_lt, cond, List, length, Option, None, Contains}
 use Rattle.std.specs.List.{filter_map, flat_map, range_with_len}
 use mathlib.Core.Option.{some}

@@ -1,4 +1,4 @@
--- What a worker does at a board.
+-- Promise: what a worker does at a board.
 use Rattle.std.specs.Prelude.{◌≡◌, ℕ, ℤ, pos, negsuc, ◌+◌, ◌*◌, ◌/◌, ◌%◌, ◌<◌, ◌≤◌, ◌⊎◌, List, [], ◌∷◌, ◌++◌, map, max, length, Option, Some, None, IfSome, All}
 use Rattle.std.specs.List.{AllZip}
 use Rattle.std.specs.Int.{int_min}
