@@ -83,7 +83,7 @@ pub record AreFitLegs (most : ℕ) (legs : List Leg) : Type 0 where
 
 -- A block drives from trip to trip and from and to its depot, so each of its legs lies between ends of trips and the depot; each begins and
 -- ends no more than a deadhead before or after a trip, and trips lie within two days. A block of n trips has at most 4 n + 3 legs. Its cost
--- is bounded likewise, by one bound for each link and pull: a rate of at most 10,000 for at most six days.
+-- is bounded likewise, by one bound for each connection and pull: a rate of at most 10,000 for at most six days.
 module _ (day : DayFacts) (trips : AllByRecursion IsFitTrip day.trips) (short : (from to : Point) → IfSome (dead day from to) IsTime) where
   pub move_short : (from to : Point) (n : ℕ) → dead day from to ≡ Some n → IsTime n
   move_short from to n e = let P : Option ℕ → Type 0 = λ o. IfSome o IsTime in subst P e (short from to)
@@ -314,7 +314,7 @@ module _ (day : DayFacts) (trips : AllByRecursion IsFitTrip day.trips) (short : 
         order_all moment HasEnds (pieces_by_block day 1 columns)
         (All-from_recursion HasEnds (pieces_by_block day 1 columns) (blocks_ends 1 columns))
 
-  -- Costs. A link or a pull costs at most 10,000 for each of its seconds.
+  -- Costs. A connection or a pull costs at most 10,000 for each of its seconds.
   rated : (rate seconds most : ℕ) → rate ≤ 10000 → seconds ≤ most → rate * seconds ≤ 10000 * most
   rated rate seconds most h k = mul-le-mul h k
 

@@ -317,7 +317,8 @@ fid_middle trips (Some n) all = fid_at trips n all
 
 -- What is asked of a day, of the table of its trips, and of blocks and duties for their tables to be written. Each number of these tables
 -- is one of the day (32 bits), one that counts blocks, duties, pieces or legs (few), a moment or a number of seconds (of few days), a
--- cost (of few links, or of one spread), a bound (no greater than the plan's own number or cost), or a field of REC_FRT as it was read.
+-- cost (of few connections, or of one spread), a bound (no greater than the plan's own number or cost), or a field of REC_FRT as it was
+-- read.
 pub record IsWritable (facts : DayFacts) (table : Table) (blocks duties : SidePlan) : Type 0 where
   pub numbers : HasNumbers facts
   pub trips : AllByRecursion IsFitTrip facts.trips

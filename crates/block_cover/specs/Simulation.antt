@@ -1,9 +1,9 @@
 -- Promise: the marks of open blocks are the open blocks of pricing, each with its class.
 --
 -- Marks are made from the class of a mark, its trip and its driving; the open blocks of pricing from a pool, and their steps join a cost
--- and a driving. Where the class has the pool, both follow the same trips, links and cuts: so a list of trips has a mark exactly where it
--- has an open block, the mark is that block with the class, and it closes with the same value. What is proved of open blocks, above all
--- that they are tied to the worths of blocks, is then true of marks.
+-- and a driving. Where the class has the pool, both follow the same trips, connections and cuts: so a list of trips has a mark exactly
+-- where it has an open block, the mark is that block with the class, and it closes with the same value. What is proved of open blocks,
+-- above all that they are tied to the worths of blocks, is then true of marks.
 use Rattle.std.proofs.Common.{◌≡◌, ℕ, ℤ, pos, ◌+◌, ◌*◌, ◌+ℤ◌, ◌-ℤ◌, ◌&&◌, Bool, true, false, cond, nat_lt, nat_le, List, [], ◌∷◌, Option, Some, None, refl, sym, ap, ◌∙◌, slice_get, is_some}
 use Rattle.std.specs.Prelude.{option_and_then}
 use Rattle.std.specs.Option.{option_map}

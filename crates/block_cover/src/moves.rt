@@ -1,4 +1,4 @@
-//! What trips, links and pull-ins add to a block's driving and value, in numbers that are wide enough for every mark.
+//! What trips, connections and pull-ins add to a block's driving and value, in numbers that are wide enough for every mark.
 #![tactic(auto)]
 
 ghost use Rattle.std.specs.Prelude.{◌≡◌, ◌<◌, ◌≤◌, ◌+◌, ◌*◌, ◌≤ℤ◌, ◌-ℤ◌, ◌+ℤ◌, neg_ℤ, pos, true, IfSome, Some, length, slice_get};
@@ -33,7 +33,7 @@ fn charged(rate: u32, seconds: u32) -> u64
     u64::from(rate) * u64::from(seconds)
 }
 
-/// What a link to a trip costs.
+/// What a connection to a trip costs.
 fn link_cost(pool: &Pool, next: &Trip, link: Link) -> u64
     requires pool { IsPool pool.now }
     requires short { IsShort link }
@@ -133,7 +133,7 @@ fn with_cost(value: i64, counts: bool, cost: u64) -> i128
     value as i128 + added
 }
 
-/// A value with a trip more, whose link has a cost.
+/// A value with a trip more, whose connection has a cost.
 fn next_value(value: i64, counts: bool, cost: u64, prices: &[Price], item: u32) -> i128
     requires { cost ≤ 6912000000 }
     ensures { result ≡ value +ℤ scaled counts cost -ℤ price_at prices.now item }
@@ -204,7 +204,7 @@ fn driven_on(
     }
 }
 
-/// An open block with a trip more, over a link.
+/// An open block with a trip more, over a connection.
 fn extended_over(
     day: &Day,
     counts: bool,
@@ -270,7 +270,7 @@ pub(crate) fn first_made(
     })
 }
 
-/// The open block of a mark with a later trip more, which is admitted, over the link to it.
+/// The open block of a mark with a later trip more, which is admitted, over the connection to it.
 fn linked_made(
     day: &Day,
     counts: bool,

@@ -176,7 +176,7 @@ pairs_from : (ps : List Piece) → Sorted ps → AllPairs IsEarlier ps
 pairs_from [] sorted = λ i j d below within. absurd (omega (arith, within))
 pairs_from (p ∷ ps) sorted = AllPairs-cons IsEarlier p ps sorted.0 (pairs_from ps sorted.1)
 
--- the pieces of a plan by begin, block and index
+-- the pieces of a plan by start, block and index
 pub plan_ordered : (day : DayFacts) (columns : List Column) → All IsShift (pieces_by_block day 1 columns) →
     AllPairs IsEarlier (in_order moment (pieces_by_block day 1 columns))
 plan_ordered day columns shifts =

@@ -60,7 +60,7 @@ pub timed_shown : (a to : ℤ) (ls : List Leg) → AreTimed a to ls → AreTimed
 timed_shown a to [] timed = timed
 timed_shown a to (l ∷ ls) timed = timed_if (is_shown l) a to l (shown ls) timed.0 timed.1 (timed_shown l.end.0 to ls timed.2)
 
--- the legs of a link fill the time between its trips
+-- the legs of a connection fill the time between its trips
 abbrev Fills : Pool → TheTrip → TheTrip → Link → Type 0
 Fills pool t u l = AreTimed t.end.0 u.begin.0 (link_legs pool t u l)
 

@@ -24,7 +24,7 @@ pieces_by_block day number (column ∷ columns) = block_pieces day number column
 abbrev pub moment : Piece → ℕ
 moment piece = unsigned_abs piece.begin.0
 
--- The pieces of the blocks of a plan, where blocks are numbered from 1: by begin, of those that begin at one moment by block, and of
+-- The pieces of the blocks of a plan, where blocks are numbered from 1: by start, of those that begin at one moment by block, and of
 -- those by index.
 abbrev pub pieces_of_plan : DayFacts → List Column → List Piece
 pieces_of_plan day columns = in_order moment (pieces_by_block day 1 columns)
@@ -33,7 +33,7 @@ pieces_of_plan day columns = in_order moment (pieces_by_block day 1 columns)
 abbrev pub IsEarlierInBlocks : Piece → Piece → Type 0
 IsEarlierInBlocks p q = (p.block < q.block) ⊎ ((p.block ≡ q.block) × (p.index < q.index))
 
--- a piece stands before another by begin, block and index
+-- a piece stands before another by start, block and index
 abbrev pub IsEarlier : Piece → Piece → Type 0
 IsEarlier p q = (p.begin.0 <ℤ q.begin.0) ⊎ ((p.begin.0 ≡ q.begin.0) × IsEarlierInBlocks p q)
 

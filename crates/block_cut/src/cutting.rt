@@ -55,7 +55,7 @@ fn moment(piece: &Piece) -> u64
     piece.begin.0.unsigned_abs()
 }
 
-/// Pieces by their begins; of those that begin at one moment the earlier first.
+/// Pieces by their starts; of those that begin at one moment the earlier first.
 fn in_order(pieces: Seq<Piece>) -> Result<Seq<Piece>, Memory>
     ensures { IfOk result (λ sorted. sorted ≡ in_order_of moment_of pieces) }
 {
@@ -64,7 +64,7 @@ fn in_order(pieces: Seq<Piece>) -> Result<Seq<Piece>, Memory>
     Ok(Seq::from_vec(pieces))
 }
 
-/// The pieces of the blocks of a plan, by begin, of those that begin at one moment by block, and of those by index.
+/// The pieces of the blocks of a plan, by start, of those that begin at one moment by block, and of those by index.
 ///
 /// Blocks are numbered from 1 by their places in the plan, of which there are at most 3,000, and the pieces of a block from 1 in time
 /// order. A block is cut at each stand of at least the handover time that lies at a relief point or at its pool's depot; the stand belongs

@@ -82,7 +82,7 @@ fn add_trip(legs: &mut Seq<Leg>, number: u32, trip: &Trip) -> Result<(), Memory>
     add(legs, leg)
 }
 
-/// Puts behind others the legs of a link: the deadheads and the stand.
+/// Puts behind others the legs of a connection: the deadheads and the stand.
 fn add_link(
     legs: &mut Seq<Leg>,
     pool: &Pool,
@@ -127,7 +127,7 @@ fn add_link(
     }
 }
 
-/// The link between two trips of a block.
+/// The connection between two trips of a block.
 fn link_of(day: &Day, class: u32, t: u32, u: u32) -> Link
     requires class { class < length day.now.params.pools }
     requires trip { t < length day.now.trips }

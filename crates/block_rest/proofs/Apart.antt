@@ -1,5 +1,5 @@
--- The heads of a plan hold no trip twice. The trips of a head are the front of a block, and each block gives one head, at its first trip;
--- so no trip stands in heads more often than in blocks.
+-- The heads of a plan hold no trip twice. The trips of a head are the initial part of a block, and each block gives one head, at its first
+-- trip; so no trip stands in heads more often than in blocks.
 use Rattle.std.proofs.Common.{◌≡◌, ◌≢◌, ◌==◌, ℕ, ◌+◌, ◌<◌, ◌≤◌, true, false, cond, zero, suc, List, [], ◌∷◌, ◌++◌, length, refl, arith, inl, inr}
 use Rattle.std.proofs.lemmas.Bool.{cases_lt}
 use Rattle.std.proofs.lemmas.Bool.Decides.{nat_tests}
@@ -31,7 +31,7 @@ held-append i (g ∷ gs) hs =
     let part = times-append i g.trips (held gs) in
     omega arith
 
--- kept trips are a front
+-- kept trips are an initial part
 kept-times : (day : DayFacts) (moment i t : ℕ) (us : List ℕ) → times i (kept_after day moment t us) ≤ times i us
 kept-times day moment i t [] = omega arith
 kept-times day moment i t (u ∷ us) =

@@ -1,5 +1,5 @@
 -- A plan keeps what has begun exactly where its own heads are the earlier plan's. In both plans at most one block begins with a trip, so
--- the heads at a trip are those of one block. A head's trips at the front of a block are kept there too, and no more of them.
+-- the heads at a trip are those of one block. A head's trips at the start of a block are kept there too, and no more of them.
 use Rattle.std.proofs.Common.{◌≡◌, ◌≢◌, ◌==◌, ◌⊎◌, ℕ, ◌+◌, ◌<◌, ◌≤◌, Bool, true, false, cond, not, zero, suc, List, [], ◌∷◌, ◌++◌, length, Some, refl, sym, ap, subst, ◌∙◌, arith, inl, inr, slice_get}
 use Rattle.std.proofs.lemmas.Bool.{cases_lt}
 use Rattle.std.proofs.lemmas.Bool.Decides.{nat_tests}
@@ -158,7 +158,7 @@ module _ (day : DayFacts) (moment : ℕ) where
       let none = not-held first d.class d.items (omega (arith, both, few, some, here, once)) in
       ap (λ (l : List Head). l ++ heads_at day moment ds first) none ∙ only-first ds first j c ts (omega (arith, both, once)) at is
 
-  -- kept trips at the front of a list are kept, and no more
+  -- kept trips at the start of a list are kept, and no more
   kept-again : (t : ℕ) (ts more : List ℕ) → (ends_before day moment (last_trip t (kept_after day moment t ts)) ≡ true → more ≡ []) →
       kept_after day moment t (kept_after day moment t ts ++ more) ≡ kept_after day moment t ts
   kept-again t [] more ends =

@@ -29,7 +29,7 @@ enum Made {
     Marks(usize, [Option<BlockMark>; 2]),
     /// The worth of the block, and how many trips it has.
     Unpaid(u64, usize),
-    /// Want of memory.
+    /// Out of memory.
     Memory,
 }
 

@@ -108,7 +108,7 @@ two_pieces : old_pieces day two ≡ piece 2 1 (point 2 9) 28200 (point 2 9) 3330
     ∷ piece 1 1 (point 2 9) 32100 (point 2 9) 37200 5100 ∷ []
 two_pieces = refl
 
--- the pieces are numbered by their begins
+-- the pieces are numbered by their starts
 two_duties : old_duties day two ≡ block (1 ∷ []) ∷ block (0 ∷ 1 ∷ []) ∷ []
 two_duties = refl
 

@@ -30,7 +30,7 @@ pub record IsCase (c : Case) : Type 0 where
   pub plan_rows : All (λ (table : Table). length table.rows < 2 ^ 32) c.plan
   pub cert_rows : All (λ (table : Table). length table.rows < 2 ^ 32) c.cert
 
--- a step ends with a reason that holds, or for want of memory
+-- a step ends with a reason that holds, or for running out of memory
 abbrev pub IsStop : Case → Stop → Type 0
 IsStop c (Against reason) = IsReason c reason
 IsStop c Memory = Unit {0}

@@ -13,7 +13,7 @@ use std::alloc::AllocError;
 pub enum Stop {
     /// A reason against the plan or its certificate.
     Against(Reason),
-    /// Want of memory.
+    /// Out of memory.
     Memory,
 }
 

@@ -182,7 +182,7 @@ head_none sheet = none_behind (flat_map page.bound_parts sheet.duties.bounds) _ 
     ∙ none_of page.bound_parts bound_none sheet.duties.bounds
 
 -- Each part that can be a bar stands in one chart, and there in the text of one row: the head, the scales and the names have none, and
--- the text of a leg, a duty or a piece has one, at its begin and end. So the bars of a page are those of its rows, one by one.
+-- the text of a leg, a duty or a piece has one, at its start and end. So the bars of a page are those of its rows, one by one.
 pub page_bars : (sheet : Sheet) →
     bars_in (page.page_parts sheet) ≡ leg_bars sheet ++ (duty_bars sheet ++ (pause_bars sheet ++ piece_bars sheet))
 page_bars sheet =

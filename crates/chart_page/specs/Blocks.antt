@@ -37,7 +37,7 @@ kind_words legs.Deadhead = marks.DeadheadTitle
 kind_words legs.Stand = marks.StandTitle
 kind_words legs.PullIn = marks.PullInTitle
 
--- The bar of a leg: from its begin to its end, in the lane of its block.
+-- The bar of a leg: from its start to its end, in the lane of its block.
 abbrev pub leg_bar : List Lane → LegRow → Bar
 leg_bar lanes leg = record {
   kind = bar_kind leg.work.kind;

@@ -39,7 +39,7 @@ duties_text table lanes duties = flat_map (λ e. written table (duty_at lanes e)
 abbrev pub pause_kind : ℕ → BarKind
 pause_kind seconds = if nat_lt seconds 2700 then kinds.Pause else kinds.Break
 
--- The bar of a pause: from the end of a piece to the begin of the next.
+-- The bar of a pause: from the end of a piece to the start of the next.
 abbrev pub pause_bar : Span → ℕ → Bar
 pause_bar span lane = record { kind = pause_kind (length_of span); left = span.begin; right = span.end; lane = lane }
 
@@ -74,7 +74,7 @@ abbrev pub all_pauses : List Lane → List PieceRow → List Part
 all_pauses lanes [] = []
 all_pauses lanes (first ∷ pieces) = pauses lanes first pieces
 
--- The bar of a piece: from its begin to its end, in the lane of its duty.
+-- The bar of a piece: from its start to its end, in the lane of its duty.
 abbrev pub piece_bar : List Lane → PieceRow → Bar
 piece_bar lanes piece = record {
   kind = kinds.Piece;

@@ -24,7 +24,7 @@ room_of rows = min rows 3000
 abbrev pub wide_of : Hours → ℕ
 wide_of hours = 90 * hours.count
 
--- the begins of the hours of a chart, and the end of the last
+-- the starts of the hours of a chart, and the end of the last
 abbrev pub starts_of : Hours → List ℕ
 starts_of hours = range_with_len hours.first (hours.count + 1)
 
@@ -86,7 +86,7 @@ share_by name number place false = []
 abbrev pub share_parts : Mark → ℕ → Lane → List Part
 share_parts name number lane = share_by name number lane.place lane.is_first
 
--- the frame of a chart before its bars, over the begins of its hours
+-- the frame of a chart before its bars, over the starts of its hours
 abbrev pub frame_parts : Hours → List ℕ → ℕ → List Part
 frame_parts hours starts rows = open_parts hours rows ++ (lanes_parts hours rows ++ flat_map (grid_line rows) starts)
 

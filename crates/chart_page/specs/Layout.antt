@@ -8,7 +8,7 @@ use Rattle.plan_rows.specs.declared.rows.DutyRow.{DutyRow}
 use Rattle.plan_rows.specs.declared.rows.PieceRow.{PieceRow}
 use Rattle.plan_rows.specs.declared.sheet.Sheet.{Sheet}
 
--- the least of a moment and the begins of rows, and the greatest of a moment and their ends
+-- the least of a moment and the starts of rows, and the greatest of a moment and their ends
 abbrev pub first_of_legs : List LegRow → ℕ → ℕ
 first_of_legs legs least = fold (λ least (leg : LegRow). min least leg.ends.span.begin) least legs
 
@@ -31,7 +31,7 @@ last_of_pieces pieces greatest = fold (λ greatest (piece : PieceRow). max great
 abbrev pub hours_between : ℕ → ℕ → Hours
 hours_between first last = record { first = first / 3600; count = last / 3600 + 1 - first / 3600 }
 
--- the hours from the first begin to the last end of anything in a plan
+-- the hours from the first start to the last end of anything in a plan
 abbrev pub hours_of : Sheet → Hours
 hours_of sheet =
     let legs = sheet.blocks.legs in

@@ -51,7 +51,7 @@ abbrev pub charts_parts : Sheet → Hours → List ℕ → List Part
 charts_parts sheet hours starts =
     blocks.chart_parts sheet.blocks hours starts ++ (Own marks.Duties ∷ [] ++ duties.chart_parts sheet.duties hours starts)
 
--- the parts of a page, over the hours of its charts and their begins
+-- the parts of a page, over the hours of its charts and their starts
 abbrev pub page_over : Sheet → Hours → List ℕ → List Part
 page_over sheet hours starts =
     head_parts sheet ++ (charts_parts sheet hours starts ++ Own marks.Tail ∷ Own marks.Script ∷ Own marks.End ∷ [])

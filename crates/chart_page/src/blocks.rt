@@ -41,7 +41,7 @@ fn kind_words(kind: LegKind) -> Mark
     }
 }
 
-/// The bar of a leg: from its begin to its end, in the lane of its block.
+/// The bar of a leg: from its start to its end, in the lane of its block.
 fn leg_bar(lanes: &[Lane], leg: &LegRow) -> Bar
     ensures { result ≡ spec.leg_bar lanes.now leg.now }
 {

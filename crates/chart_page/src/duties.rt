@@ -84,7 +84,7 @@ fn pause_kind(seconds: u32) -> BarKind
     }
 }
 
-/// The bar of a pause: from the end of a piece to the begin of the next.
+/// The bar of a pause: from the end of a piece to the start of the next.
 fn pause_bar(span: Span, lane: usize) -> Bar
     ensures { result ≡ spec.pause_bar span lane }
 {
@@ -178,7 +178,7 @@ fn push_all_pauses(
     }
 }
 
-/// The bar of a piece: from its begin to its end, in the lane of its duty.
+/// The bar of a piece: from its start to its end, in the lane of its duty.
 fn piece_bar(lanes: &[Lane], piece: &PieceRow) -> Bar
     ensures { result ≡ spec.piece_bar lanes.now piece.now }
 {

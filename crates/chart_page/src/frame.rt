@@ -84,7 +84,7 @@ fn push_lanes(out: &mut Vec<u8>, table: &Table, hours: Hours, rows: usize) -> Re
     )
 }
 
-/// A line at the begin of an hour.
+/// A line at the start of an hour.
 fn push_grid_line(out: &mut Vec<u8>, table: &Table, rows: usize, hour: u32) -> Result<(), Memory>
     ensures { OnOk result (out.new.items ≡ out.old.items ++ written table.now (spec.grid_line rows hour)) }
 {

@@ -85,7 +85,7 @@ fn hours_between(first: u32, last: u32) -> Hours
     }
 }
 
-/// The hours from the first begin to the last end of anything in a plan.
+/// The hours from the first start to the last end of anything in a plan.
 pub(crate) fn hours_of(sheet: &Sheet) -> Hours
     ensures value { result ≡ spec.hours_of sheet.now }
     ensures first { result.first ≤ 2000000 }

@@ -135,7 +135,7 @@ fn starts_of(alloc: Global, hours: Hours) -> Result<Vec<u32>, AllocError>
     Ok(starts)
 }
 
-/// All parts of a page, over the hours of its charts and their begins.
+/// All parts of a page, over the hours of its charts and their starts.
 fn push_page(
     alloc: Global,
     out: &mut Vec<u8>,
@@ -173,7 +173,7 @@ fn page(alloc: Global, table: &Table, sheet: &Sheet) -> Result<Vec<u8>, Memory>
 /// The picture of a plan as the bytes of one page of HTML.
 ///
 /// The page shows the values of the plan with their bounds, the legs of the blocks as bars by pool, and the duties with their pieces and
-/// pauses as bars by group. A bar lies from its begin to its end: a unit along is a second. Each row of X_UMLAUF_TEIL is one bar, and so
+/// pauses as bars by group. A bar lies from its start to its end: a unit along is a second. Each row of X_UMLAUF_TEIL is one bar, and so
 /// is each row of X_DIENST and of X_DIENST_STUECK. The page needs nothing else: its style and its script are its own, and what stems
 /// from the tables stands in it as numbers and as text in which no byte is markup.
 ///
@@ -185,7 +185,7 @@ fn page(alloc: Global, table: &Table, sheet: &Sheet) -> Result<Vec<u8>, Memory>
 pub fn chart(alloc: Global, tables: &[Table]) -> Result<Bytes, RowFault>
     ensures page { Gives result (spec.chart_of tables.now) }
 
-    // Its bars are those of the legs, the duties, the pauses and the pieces, each once, from its begin to its end.
+    // Its bars are those of the legs, the duties, the pauses and the pieces, each once, from its start to its end.
     ensures drawn { IfOk result (λ page. IsDrawn tables.now page) }
 {
     let table = match table_of(tables, PlanTable::Trips, 3_000) {

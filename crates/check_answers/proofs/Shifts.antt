@@ -29,7 +29,7 @@ seconds-some : (z : ℤ) (n : ℕ) → seconds z ≡ Some n → z ≡ pos n
 seconds-some (pos m) n e = ap pos (some_same m n e)
 seconds-some (negsuc m) n e = absurd (cc)
 
--- The legs of a link fill the time between its trips.
+-- The legs of a connection fill the time between its trips.
 abbrev Fills : Pool → TheTrip → TheTrip → Link → Type 0
 Fills pool t u l = AreTimed t.end.0 u.begin.0 (link_legs pool t u l)
 
@@ -86,7 +86,7 @@ short-in None n short e = absurd (cc)
 short-in (Some m) n short e = subst IsTime (some_same m n e) short
 
 module _ (day : DayFacts) (daily : All IsDaily day.trips) (short : HasShortMoves day) where
-  -- The legs from a trip on stand one after another, from its begin on and within four days.
+  -- The legs from a trip on stand one after another, from its start on and within four days.
   from-timed : (pool : Pool) (k : ℕ) (t : TheTrip) (js : List ℕ) (ls : List Leg) → IsDaily t → legs_from day pool k t js ≡ Some ls →
       AreTimed t.begin.0 (pos 345600) ls
   from-timed pool k t [] ls own e =

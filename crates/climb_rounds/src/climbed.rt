@@ -22,6 +22,6 @@ pub enum ClimbFault {
         /// The columns beside which it is left.
         partial: Plan,
     },
-    /// Want of memory.
+    /// Out of memory.
     Memory,
 }

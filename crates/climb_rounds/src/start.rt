@@ -1,4 +1,4 @@
-//! The prices of the begin.
+//! The prices at the start.
 
 ghost use Rattle.std.specs.Prelude.{◌∷◌, [], ◌≡◌, ◌<◌, ◌≤◌, ◌≤ℤ◌, pos, neg_ℤ, length, IfOk, OnOk};
 ghost use Rattle.cover_core.specs.Cover.{AllBelow};
@@ -108,7 +108,7 @@ fn set_prices(prices: &mut Seq<Price>, spans: &[Span], list: &[u32], share: i64)
     }
 }
 
-/// The prices at the begin: each column of the plan shares its worth equally among its items.
+/// The prices at the start: each column of the plan shares its worth equally among its items.
 fn starting<C: Columns>(
     alloc: Global,
     problem: &C,

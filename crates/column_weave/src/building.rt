@@ -1,4 +1,4 @@
-//! A web at its begin: the single items of each class, and links to their nearest later items.
+//! A web at its start: the single items of each class, and links to their nearest later items.
 
 ghost use Rattle.std.specs.Prelude.{◌≡◌, ℕ, ◌*◌, ◌<◌, ◌≤◌, length, IfOk, IfSome, slice_index_or};
 ghost use Rattle.column_weave.specs.Webs.{IsWeb, AreLinks, IsSingle};

@@ -83,6 +83,6 @@ pub enum CoverFault {
         /// That list.
         column: Column,
     },
-    /// Want of memory.
+    /// Out of memory.
     Memory,
 }

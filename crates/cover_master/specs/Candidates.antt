@@ -1,4 +1,4 @@
--- Inner: which columns a turn need look at: of each class those up to a limit, so that no chosen one is left out.
+-- Inner: which columns a price step need look at: of each class those up to a limit, so that no chosen one is left out.
 use Rattle.std.specs.Prelude.{◌≡◌, ◌==◌, ◌&&◌, ◌⊎◌, ℕ, ℤ, negsuc, int_le, ◌<◌, ◌≤◌, Bool, cond, List, [], ◌∷◌, length, filter, slice_index}
 use Rattle.std.specs.List.{count_by}
 use Rattle.std.specs.List.Sorted.{IsPermutation}

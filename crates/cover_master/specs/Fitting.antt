@@ -1,4 +1,4 @@
--- Inner: the order in which a turn goes through a pool, and which columns it looks at.
+-- Inner: the order in which a price step goes through a pool, and which columns it looks at.
 use Rattle.std.specs.Prelude.{ℕ, pos, int_lt, ◌≤◌, Bool, Option, Some, None}
 use Rattle.std.specs.Ordering.{nat_cmp, then_cmp, on, is_lt}
 use Rattle.std.specs.declared.cmp.Ordering.{Ordering}

@@ -1,4 +1,4 @@
--- Promise: Prices: where they start, how a turn moves them, and how a column lowers them.
+-- Promise: Prices: where they start, how a price step moves them, and how a column lowers them.
 use Rattle.std.specs.Prelude.{ℕ, ℤ, pos, neg_ℤ, ◌+ℤ◌, ◌-ℤ◌, ◌*ℤ◌, int_lt, int_div, unsigned_abs, ◌+◌, ◌-◌, ◌*◌, ◌/◌, min, Bool, cond, ◌&&◌, ◌==◌, nat_lt, zero, suc, List, [], ◌∷◌, length, Option, Some, None, unwrap_or, slice_index}
 use Rattle.std.specs.List.{sum_by, count_by}
 use Rattle.std.specs.Ordering.{nat_cmp, int_cmp, then_cmp, on, is_lt}
@@ -31,7 +31,7 @@ abbrev pub clamped : ℤ → ℤ
 clamped z =
     cond (int_lt (pos 10000000000000) z) (pos 10000000000000) (cond (int_lt z (neg_ℤ (pos 10000000000000))) (neg_ℤ (pos 10000000000000)) z)
 
--- the size of the turns of a round: the greatest start price divided by one more than the round, rounded down, and at least 1
+-- the size of the price steps of a round: the greatest start price divided by one more than the round, rounded down, and at least 1
 abbrev pub step_size_of : ℤ → ℕ → ℤ
 step_size_of greatest round = let part = int_div greatest (pos (round + 1)) in cond (int_lt part (pos 1)) (pos 1) part
 
@@ -71,7 +71,7 @@ times_chosen pool prices caps item = sum_by (chosen_times pool (keys_of prices p
 abbrev pub moved_price : List Price → ℤ → List ℕ → ℕ → ℤ
 moved_price prices size cover item = clamped (price_at prices item +ℤ (size *ℤ (pos 1 -ℤ pos (slice_index cover item))))
 
--- the price of an item after a turn
+-- the price of an item after a price step
 abbrev pub turned_price : List Column → List Price → List ℕ → ℤ → ℕ → ℤ
 turned_price pool prices caps size item =
     clamped (price_at prices item +ℤ (size *ℤ (pos 1 -ℤ pos (times_chosen pool prices caps item))))
@@ -85,7 +85,7 @@ prices_from (suc n) k rule = record { 0 = rule k } ∷ prices_from n (suc k) rul
 abbrev pub starting_prices : Problem → List Price
 starting_prices p = prices_from p.items 0 (start_price p)
 
--- all prices after a turn
+-- all prices after a price step
 abbrev pub turned_prices : List Column → List Price → List ℕ → ℤ → List Price
 turned_prices pool prices caps size = prices_from (length prices) 0 (turned_price pool prices caps size)
 

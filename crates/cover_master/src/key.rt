@@ -5,7 +5,7 @@
 pub struct Key {
     /// Its class.
     pub class: u32,
-    /// Its value under the prices of a turn.
+    /// Its value under the prices of a price step.
     pub value: i64,
     /// Its place in the pool.
     pub place: u32,

@@ -1,7 +1,7 @@
-//! Price rounds over a pool of columns: where prices start, how large the steps of a round are, how a turn moves prices, and how a
+//! Price rounds over a pool of columns: where prices start, how large the price steps of a round are, how one moves prices, and how a
 //! column lowers them.
 //!
-//! Prices are in thousandths of a cost unit. A turn is a step of the subgradient method for the Lagrangian dual of set partitioning:
+//! Prices are in thousandths of a cost unit. A price step is a step of the subgradient method for the Lagrangian dual of set partitioning:
 //! the price of an item that no chosen column has rises, that of an item that more than one has falls. Prices stay from
 //! -10,000,000,000,000 to 10,000,000,000,000.
 #![tactic(auto)]
@@ -20,8 +20,8 @@ pub use lowering::{lower, lower_items, share};
 pub use start::start_prices;
 pub use turns::turn;
 
-/// The size of the turns of a round, counted from 1: the greatest start price divided by one more than the round, rounded down, and at
-/// least 1. The greatest start price is from 0 to 10,000,000,000,000 and the round at most 200.
+/// The size of the price steps of a round, counted from 1: the greatest start price divided by one more than the round, rounded down, and
+/// at least 1. The greatest start price is from 0 to 10,000,000,000,000 and the round at most 200.
 pub fn step_size(greatest: i64, round: u32) -> i64
     requires low { pos 0 ≤ℤ greatest }
     requires high { greatest ≤ℤ pos 10000000000000 }

@@ -1,5 +1,5 @@
-//! The columns that a turn need look at: of each class those up to the value of the last one that may be chosen. So no more than these are
-//! brought into order.
+//! The columns that a price step need look at: of each class those up to the value of the last one that may be chosen. So no more than
+//! these are brought into order.
 
 ghost use Rattle.std.specs.Prelude.{◌≡◌, ◌≤◌, length, filter, IfOk};
 ghost use Rattle.cover_core.specs.Plans.{number_at};

@@ -93,7 +93,7 @@ fn zeros(alloc: Global, len: usize) -> Result<Seq<u32>, Memory>
     }
 }
 
-/// By how much a turn moves the price of an item that so many chosen columns have.
+/// By how much a price step moves the price of an item that so many chosen columns have.
 fn change(size: i64, times: u32) -> i64
     requires size_low { pos 0 ≤ℤ size }
     requires size_high { size ≤ℤ pos 10000000000000 }
@@ -105,7 +105,7 @@ fn change(size: i64, times: u32) -> i64
     size * (1 - times as i64)
 }
 
-/// The price of such an item after the turn.
+/// The price of such an item after the price step.
 fn moved(price: i64, size: i64, times: u32) -> i64
     requires low { neg_ℤ (pos 10000000000000) ≤ℤ price }
     requires high { price ≤ℤ pos 10000000000000 }
@@ -164,10 +164,10 @@ fn cover(
     Ok(cover)
 }
 
-/// The prices after a turn of a size, from 0 to 10,000,000,000,000. Chosen are, of each class, the first cap columns of the pool by value
-/// and then by place, of those whose value is below 0. Each item's price rises by the size times one less the number of chosen columns
-/// that have the item. All values are those before the turn. The pool has at most 200,000 columns, each of which rises, has items that
-/// there are, is worth at most 4,000,000,000 and is of a class that there is. `Memory` is the only error.
+/// The prices after a price step of a size, from 0 to 10,000,000,000,000. Chosen are, of each class, the first cap columns of the pool by
+/// value and then by place, of those whose value is below 0. Each item's price rises by the size times one less the number of chosen
+/// columns that have the item. All values are those before the price step. The pool has at most 200,000 columns, each of which rises, has
+/// items that there are, is worth at most 4,000,000,000 and is of a class that there is. `Memory` is the only error.
 pub fn turn(
     alloc: Global,
     pool: &[Column],
@@ -194,7 +194,7 @@ pub fn turn(
     Ok(Prices { items })
 }
 
-/// The prices of all items after a turn, where cover tells how many chosen columns have each item.
+/// The prices of all items after a price step, where cover tells how many chosen columns have each item.
 fn moved_prices(
     alloc: Global,
     prices: &Prices,

@@ -31,7 +31,7 @@ IsCountCause counted costed numbers (faults.NoPlan bound places) = HasNoPlan cou
 IsCountCause counted costed numbers (faults.NotPlaced item partial) = ⊥
 IsCountCause counted costed numbers faults.Memory = Unit {0}
 
--- why there is no plan; want of memory needs no cause
+-- why there is no plan; running out of memory needs no cause
 abbrev pub IsCause : Problem → Problem → Numbers → PlanFault → Type 0
 IsCause counted costed numbers (faults.NoPlan bound places) = HasNoPlan counted numbers bound places × HasNone costed
 IsCause counted costed numbers (faults.NotPlaced item partial) =

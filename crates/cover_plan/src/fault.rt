@@ -19,6 +19,6 @@ pub enum PlanFault {
         /// The columns beside which it is left.
         partial: Plan,
     },
-    /// Want of memory.
+    /// Out of memory.
     Memory,
 }

@@ -112,7 +112,7 @@ abbrev first_or : ℕ → List ℕ → ℕ
 first_or x [] = x
 first_or x (y ∷ ys) = y
 
--- the first item of a list stands in a front of it
+-- the first item of a list stands in an initial part of it
 front-first : (xs more rest : List ℕ) (x : ℕ) → xs ≢ [] → x ∷ rest ≡ xs ++ more → 1 ≤ times x xs
 front-first [] more rest x some e = absurd (some refl)
 front-first (y ∷ ys) more rest x some e =
@@ -125,7 +125,7 @@ head-some [] k h some at = absurd (cc)
 head-some (g ∷ gs) zero h some at = let P : Begun → Type 0 = λ h. h.items ≢ [] in subst P (some-same g h at) some.0
 head-some (g ∷ gs) (suc k) h some at = head-some gs k h some.1 at
 
--- two lists with a common front and their items
+-- two lists with a common initial part and their items
 front-same : (xs ys more rest : List ℕ) → xs ≢ [] → ys ≢ [] → xs ++ more ≡ ys ++ rest → (x : ℕ) × (1 ≤ times x xs) × (1 ≤ times x ys)
 front-same [] ys more rest a b e = absurd (a refl)
 front-same (x ∷ xs) [] more rest a b e = absurd (b refl)

@@ -75,7 +75,7 @@ fn links_of_a_new_web(rt: HostRuntime) -> Result<(), Fail> {
 }
 
 /// Whether a column's neighbours are joined once, behind the links that were there: 0 and 4, and then 4 and 5, which were joined from the
-/// begin.
+/// start.
 fn neighbours_are_joined(alloc: Global) -> Result<bool, Memory> {
     let mut web = Web::new(alloc, &Line)?;
     let old = [link(1, 3000), link(2, 2000), link(3, 1000)];

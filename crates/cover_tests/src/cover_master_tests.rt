@@ -1,4 +1,4 @@
-//! Start prices, step sizes, turns and lowered prices, worked by hand.
+//! Start prices, step sizes, price steps and lowered prices, worked by hand.
 
 ghost use Rattle.std.specs.Prelude.{◌≡◌, ◌≢◌, ◌≤◌, [], length};
 ghost use Rattle.cover_core.specs.Cover.{AllBelow, Rises};
@@ -39,7 +39,7 @@ fn step_sizes(rt: HostRuntime) {
     assert_eq!(rt; step_size(10000000000000, 200), 49751243781);
 }
 
-/// Whether each price rises by the size of a turn with an empty pool.
+/// Whether each price rises by the size of a price step with an empty pool.
 fn empty_pool_raises(alloc: Global) -> Result<bool, Memory> {
     let empty: Vec<Column> = Vec::new(alloc);
     let low = prices(alloc, [Price(1000), Price(10000000000000)].as_slice())?;
@@ -48,7 +48,7 @@ fn empty_pool_raises(alloc: Global) -> Result<bool, Memory> {
     Ok(raised.items.as_slice() == wanted.as_slice())
 }
 
-/// Two prices of 2,000 after a turn over a column of item 1 and one of item 0, both worth 1, in a class with so many places.
+/// Two prices of 2,000 after a price step over a column of item 1 and one of item 0, both worth 1, in a class with so many places.
 fn turned(alloc: Global, places: u32) -> Result<Prices, Memory> {
     let equal = prices(alloc, [Price(2000), Price(2000)].as_slice())?;
     let pool = vec![in alloc;

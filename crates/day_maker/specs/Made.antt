@@ -83,14 +83,14 @@ places = 1 ∷ 2 ∷ 3 ∷ 4 ∷ 5 ∷ 6 ∷ 7 ∷ 8 ∷ 101 ∷ 102 ∷ []
 abbrev pub shares : List ℕ
 shares = 1 ∷ 2 ∷ []
 
--- a link of a line: 30,000 and 500 metres for each number, 2,400 and 60 seconds for each number
+-- a section of a line: 30,000 and 500 metres for each number, 2,400 and 60 seconds for each number
 abbrev pub length_row : ℕ → ℕ → ℕ → List Cell
 length_row line from to = Number 1 ∷ Number 1 ∷ Number 1 ∷ Number from ∷ Number to ∷ Number 1 ∷ Number (30000 + 500 * line) ∷ []
 
 abbrev pub time_row : ℕ → ℕ → ℕ → List Cell
 time_row line from to = Number 1 ∷ Number 1 ∷ Number 1 ∷ Number 1 ∷ Number from ∷ Number to ∷ Number 1 ∷ Number (2400 + 60 * line) ∷ []
 
--- one link of a line, as the tables of times and of lengths have it
+-- one section of a line, as the tables of times and of lengths have it
 abbrev pub link_row : Bool → ℕ → ℕ → ℕ → List Cell
 link_row timed line from to = if timed then time_row line from to else length_row line from to
 

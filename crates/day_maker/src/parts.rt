@@ -160,7 +160,7 @@ fn add_ways(
     Ok(())
 }
 
-/// Puts behind others the row of a link of a line, as the table of lengths or of times has it.
+/// Puts behind others the row of a section of a line, as the table of lengths or of times has it.
 fn add_link(
     alloc: Global,
     rows: &mut Seq<Seq<Field>>,
@@ -216,7 +216,7 @@ fn add_stop(
     )
 }
 
-/// Puts behind others the rows of the two links of a variant.
+/// Puts behind others the rows of the two sections of a variant.
 fn add_links(
     alloc: Global,
     rows: &mut Seq<Seq<Field>>,

@@ -10,7 +10,7 @@ use Rattle.day_model.specs.declared.fault.DayModelFault.TheVariants as faults
 use Rattle.day_model.specs.Facts.{DayFacts}
 use Rattle.day_model.specs.Building.{HasDayCause, IsDayOf, day_fault, most_trips}
 
--- a fault other than want of memory is the first one
+-- a fault other than running out of memory is the first one
 pub cause_of : (net : Net) (kind : DayKind) (rows : List ℕ) (fault : DayModelFault) → AreDayRows net.trips kind.version kind.kind rows →
     (fault ≡ faults.Memory) ⊎ (day_fault net kind rows ≡ Some fault) → HasDayCause net kind fault
 cause_of net kind rows faults.Memory are h = tt
@@ -36,7 +36,7 @@ faultless net kind day is =
 same_fault : (a b : DayModelFault) → Some a ≡ Some b → a ≡ b
 same_fault a b e = let f : Option DayModelFault → DayModelFault = λ o. unwrap_or o a in ap f e
 
--- where there is a first fault it is answered, or want of memory
+-- where there is a first fault it is answered, or running out of memory
 pub exact_of : (net : Net) (kind : DayKind) (rows : List ℕ) (answer : Result DayFacts DayModelFault) →
     IfOk answer (IsDayOf net kind) → IfOk answer (λ day. day.rows ≡ rows) →
     IfErr answer (λ fault. (fault ≡ faults.Memory) ⊎ (day_fault net kind rows ≡ Some fault)) →

@@ -24,7 +24,7 @@ abbrev pub all_admitted : DayFacts → Pool → List Trip → Bool
 all_admitted day pool [] = true
 all_admitted day pool (t ∷ ts) = admits day t.line pool.typ && all_admitted day pool ts
 
--- the seconds that are driven empty on a link
+-- the seconds that are driven empty on a connection
 abbrev pub dead_seconds : Link → ℕ
 dead_seconds (Direct move stand) = move
 dead_seconds (Depot inward outward stand) = inward + outward
@@ -34,11 +34,11 @@ abbrev pub stand_seconds : Pool → Trip → Link → ℕ
 stand_seconds pool u (Direct move stand) = cond (point_eq u.from pool.depot) 0 stand
 stand_seconds pool u (Depot inward outward stand) = 0
 
--- what a link to a trip costs
+-- what a connection to a trip costs
 abbrev pub link_cost : Pool → Trip → Link → ℕ
 link_cost pool u l = pool.dead_rate * dead_seconds l + pool.stand_rate * stand_seconds pool u l
 
--- the cost from a trip on: its links to the trips after it and the pull-in
+-- the cost from a trip on: its connections to the trips after it and the pull-in
 abbrev pub cost_from : DayFacts → Pool → Trip → List Trip → Option ℕ
 cost_from day pool t [] = option_and_then (λ inward. Some (pool.dead_rate * inward)) (pull_in day pool t)
 cost_from day pool t (u ∷ us) =
@@ -53,7 +53,7 @@ block_cost day pool (t ∷ ts) =
     (pull_out day pool t))
 
 -- The worth of a list of trips as a block of a pool: its cost, or 1 where blocks are counted. A list has one where it is not empty and
--- rises, each trip's line admits the pool's type, the pull-out leaves at 0 or later, the pull-in is there, neighbours have links, and
+-- rises, each trip's line admits the pool's type, the pull-out leaves at 0 or later, the pull-in is there, neighbours have connections, and
 -- each piece that it is cut into has a driving of at most 16,200 seconds.
 abbrev pub block_worth : DayFacts → Bool → ℕ → List ℕ → Option ℕ
 block_worth day counts class list =

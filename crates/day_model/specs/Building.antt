@@ -76,7 +76,7 @@ pub record HasDayFault (net : Net) (kind : DayKind) (fault : DayModelFault) : Ty
   pub rows : AreDayRows net.trips kind.version kind.kind places
   pub is : day_fault net kind places ≡ Some fault
 
--- why there is no day; want of memory needs no cause
+-- why there is no day; running out of memory needs no cause
 abbrev pub HasDayCause : Net → DayKind → DayModelFault → Type 0
 HasDayCause net kind faults.Memory = Unit {0}
 HasDayCause net kind (faults.TooManyTrips count) = HasDayFault net kind (faults.TooManyTrips count)

@@ -56,7 +56,7 @@ counted = refl
 falling : block_worth (day_with 33000 36600) false 0 (1 ∷ 0 ∷ []) ≡ None
 falling = refl
 
--- the turn is one second short, and the depot is too far
+-- the minimum layover is one second short, and the depot is too far
 too_short : link_at (day_with 32699 36299) 0 0 1 ≡ None
 too_short = refl
 
@@ -69,7 +69,7 @@ alone = refl
 just_enough : link_at (day_with 32700 36300) 0 0 1 ≡ Some (Direct 0 300)
 just_enough = refl
 
--- the stand is above the greatest wait, so the link goes via the depot
+-- the stand is above the greatest wait, so the connection goes via the depot
 via_depot : link_at (day_with 40000 43600) 0 0 1 ≡ Some (Depot 900 900 5800)
 via_depot = refl
 

@@ -1,4 +1,4 @@
--- Promise: the links between trips and the pulls of pools (multi-depot vehicle scheduling).
+-- Promise: the connections between trips and the pulls of pools (multi-depot vehicle scheduling).
 use Rattle.std.specs.Prelude.{ℕ, ℤ, pos, negsuc, ◌-ℤ◌, Bool, ◌&&◌, nat_le, Option, Some, None, option_and_then, slice_get, is_some, if◌then◌else◌}
 use Rattle.trip_times.specs.declared.trip.Trip.{Trip}
 use Rattle.plan_params.specs.declared.rows.pool.Pool.{Pool}
@@ -21,7 +21,7 @@ abbrev pub first_of : {A : Type 0} → Option A → Option A → Option A
 first_of (Some x) o = Some x
 first_of None o = o
 
--- The vehicle drives to the next trip at once and stands there, at least for the turn and at most for the greatest wait.
+-- The vehicle drives to the next trip at once and stands there, at least for the minimum layover and at most for the greatest wait.
 abbrev pub direct_for : Settings → ℕ → Option ℕ → Option Link
 direct_for settings move stand =
     option_and_then (λ stand. given (nat_le settings.turn stand && nat_le stand settings.max_wait) (Some (Direct move stand))) stand
@@ -45,7 +45,7 @@ depot_over t u inward outward =
 abbrev pub depot_link : DayFacts → Pool → Trip → Trip → Option Link
 depot_link day pool t u = depot_over t u (dead day t.to pool.depot) (dead day pool.depot u.from)
 
--- the link of a pool from a trip to a later one: direct where that can be, else via the depot, else none
+-- the connection of a pool from a trip to a later one: direct where that can be, else via the depot, else none
 abbrev pub link : DayFacts → Pool → Trip → Trip → Option Link
 link day pool t u = first_of (direct_link day t u) (depot_link day pool t u)
 

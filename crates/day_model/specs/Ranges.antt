@@ -21,7 +21,7 @@ pub record AreInRange (day : DayFacts) : Type 0 where
   pub daily : All IsDaily day.trips
   pub params : HaveRanges day.params
 
--- the times of a link
+-- the times of a connection
 abbrev pub IsShort : Link → Type 0
 IsShort (Direct move stand) = IsTime move × IsTime stand
 IsShort (Depot inward outward stand) = IsTime inward × IsTime outward × IsTime stand

@@ -167,7 +167,7 @@ fn day_over(
 /// # Errors
 ///
 /// `TooManyTrips` exactly where the day has more than 3,000 trips; else `Params` with the first fault of the settings; else `Trip` with
-/// the first trip, by departure and number, that has no times, and the first reason why. `Memory` comes for want of memory alone.
+/// the first trip, by departure and number, that has no times, and the first reason why. `Memory` comes only when out of memory.
 pub fn build_day(alloc: Global, net: &Network, kind: &DayKind) -> Result<Day, DayModelFault>
     ensures day { IfOk result (IsDayOf net.now kind.now) }
     ensures fault { IfErr result (HasDayCause net.now kind.now) }

@@ -24,7 +24,7 @@ use std::alloc::Global;
 use std::marker::Model;
 use trip_times::Trip;
 
-/// The trips of a day with their times, the settings, and the links and pulls between them. No call takes memory.
+/// The trips of a day with their times, the settings, and the connections and pulls between them. No call takes memory.
 #[derive(Drop)]
 pub struct Day {
     kind: DayKind,
@@ -212,8 +212,8 @@ impl Day {
         time_at(&layout.inward, from as usize, class as usize)
     }
 
-    /// How a vehicle of a pool goes from the end of a trip to the begin of another: directly where the deadhead, the turn and a stand of
-    /// at most the greatest wait fit between them; else via the depot where both deadheads fit; else not at all.
+    /// How a vehicle of a pool goes from the end of a trip to the start of another: directly where the deadhead, the minimum layover and a
+    /// stand of at most the greatest wait fit between them; else via the depot where both deadheads fit; else not at all.
     pub fn connect(&self, class: u32, t: u32, u: u32) -> Option<Link>
         requires class { class < length self.now.params.pools }
         requires trip { t < length self.now.trips }

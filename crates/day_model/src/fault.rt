@@ -23,7 +23,7 @@ pub enum DayModelFault {
         /// The first reason why it has none.
         fault: TripFault,
     },
-    /// Want of memory.
+    /// Out of memory.
     Memory,
 }
 

@@ -22,7 +22,7 @@ fn to_seconds(number: i64) -> Option<u32>
     }
 }
 
-/// The time from the end of a trip to the begin of another.
+/// The time from the end of a trip to the start of another.
 fn gap(trip: &Trip, next: &Trip) -> i64
     requires trip { IsDaily trip.now }
     requires next { IsDaily next.now }
@@ -45,7 +45,7 @@ fn after(time: i64, seconds: u32) -> i64
     time - i64::from(seconds)
 }
 
-/// The direct link, where the stand keeps its limits.
+/// The direct connection, where the stand keeps its limits.
 fn with_stand(settings: &Settings, dead: u32, stand: Option<u32>) -> Option<Link>
     requires dead { IsTime dead }
     requires stand { IfSome stand IsTime }
@@ -60,7 +60,7 @@ fn with_stand(settings: &Settings, dead: u32, stand: Option<u32>) -> Option<Link
     }
 }
 
-/// The direct link over a deadhead: the vehicle stands for at least the turn and at most the greatest wait.
+/// The direct connection over a deadhead: the vehicle stands for at least the minimum layover and at most the greatest wait.
 pub(crate) fn direct(
     settings: &Settings,
     trip: &Trip,
@@ -99,7 +99,7 @@ fn with_depot_stand(inward: u32, outward: u32, stand: Option<u32>) -> Option<Lin
     }
 }
 
-/// The link via the depot over both deadheads.
+/// The connection via the depot over both deadheads.
 pub(crate) fn by_depot(
     trip: &Trip,
     next: &Trip,

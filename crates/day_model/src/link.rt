@@ -1,13 +1,13 @@
 //! How a vehicle goes from one trip to another.
 
-/// How a vehicle of a pool goes from the end of a trip to the begin of a later one. All times are in seconds, from 0 to 172,800.
+/// How a vehicle of a pool goes from the end of a trip to the start of a later one. All times are in seconds, from 0 to 172,800.
 #[derive(Clone, Copy, Debug, PartialEq, Eq)]
 pub enum Link {
     /// It drives to the next trip at once and stands at that trip's first point.
     Direct {
         /// How long it drives.
         dead: u32,
-        /// How long it stands: at least the turn, at most the greatest wait.
+        /// How long it stands: at least the minimum layover, at most the greatest wait.
         stand: u32,
     },
     /// It drives to the depot at once, stands there, and leaves so that it arrives at the next trip's begin.

@@ -148,7 +148,7 @@ fn trip_table(alloc: Global, net: &Network, day: &Day) -> Result<Table, Memory>
 /// X_FAHRT has a row for each trip of the day, by departure and then by number: its number (FRT_FID) and line (LI_NR), its first point
 /// by type and number (VON_TYP, VON_NR) and the departure there (BEGINN), its last point (NACH_TYP, NACH_NR) and the arrival there
 /// (ENDE), both in seconds of the operating day from 0 to 172,800, and the length of its route in metres (LAENGE), which is empty where
-/// a link of the route has none.
+/// a section of the route has none.
 ///
 /// The tables are plain, so they have a spelling after VDV 451.
 ///

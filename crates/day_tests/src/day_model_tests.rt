@@ -191,7 +191,7 @@ fn trips_of_one_point_stand_one_behind_another(rt: HostRuntime) -> Result<(), Fa
     Ok(())
 }
 
-/// A link over which a vehicle stands so long, at the same point.
+/// A connection over which a vehicle stands so long, at the same point.
 fn stands(stand: u32) -> Option<Link> {
     Some(Link::Direct { dead: 0, stand })
 }

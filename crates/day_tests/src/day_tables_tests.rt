@@ -10,7 +10,7 @@ use std::test::Fail;
 use vdv451_text::write_tables;
 use vdv452_tables::{Needs, Network};
 
-/// On Wednesday, 2026-01-07, trip 1 goes from 1 to 2, and trip 2 back, over a link whose length is empty; it stands first in its
+/// On Wednesday, 2026-01-07, trip 1 goes from 1 to 2, and trip 2 back, over a section whose length is empty; it stands first in its
 /// table. Trip 3 is of another day.
 const NETWORK: &[TableRows] = &[
     ("BASIS_VER_GUELTIGKEIT", &["20260101; 1"]),

@@ -7,7 +7,7 @@ use std::test::Fail;
 use vdv452_tables::{Needs, Network};
 
 /// Variant 1 of line 1 goes from 10 to 20, variant 2 from 20 by 10 to 20 and stays there, variant 3
-/// over a link whose length is empty; variant 4 has one point, variant 5 none, and variant 6 no area.
+/// over a section whose length is empty; variant 4 has one point, variant 5 none, and variant 6 no area.
 const NETWORK: &[TableRows] = &[
     (
         "REC_SEL",

@@ -77,8 +77,7 @@ fn times_of(
 }
 
 impl Deadheads {
-    /// The times of the moves of this version, area and group of run times. The error is want of
-    /// memory.
+    /// The times of the moves of this version, area and group of run times. The error is running out of memory.
     pub fn new(
         alloc: Global,
         net: &Network,

@@ -45,7 +45,7 @@ pull_out_leaves trip o out e =
     let z = seconds_some (trip.begin.0 -ℤ pos moved.0) left.0 left.1 in
     omega (arith, ints, z, same)
 
--- a link and its stand fit between its trips
+-- a connection and its stand fit between its trips
 direct_fits : (day : DayFacts) (t u : Trip) (l : Link) → direct_link day t u ≡ Some l → pos (seconds_of l) ≤ℤ (u.begin.0 -ℤ t.end.0)
 direct_fits day t u l e =
     let moved = and_then_some (λ (m : ℕ). direct_for day.params.settings m (seconds (u.begin.0 -ℤ t.end.0 -ℤ pos m)))

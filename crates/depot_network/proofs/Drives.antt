@@ -141,7 +141,7 @@ module _ (day : DayFacts) (pool : Pool) where
       outer (nat_le 1 (unsigned_abs (end -ℤ begin))) s
       ∙ ap (λ n. cond (nat_le 1 n && test n) (nat_le d longest_driving && rest 0 legs) (rest d legs)) long
 
-  -- the stand of a link fills the time between its trips, and moves between equal points take none
+  -- the stand of a connection fills the time between its trips, and moves between equal points take none
   record IsTimed (t u : TheTrip) (l : Link) : Type 0 where
     pub stand : (u.begin.0 -ℤ t.end.0 -ℤ pos (seconds_before l) -ℤ pos (seconds_after l)) ≡ pos (stand_of l)
     pub before : point_eq t.to (stand_point pool u l) ≡ true → seconds_before l ≡ 0
@@ -164,7 +164,7 @@ module _ (day : DayFacts) (pool : Pool) where
       moved d l legs no_stand (λ out. seconds_are ∙ none (not_false (point_eq from to) (sym shows ∙ out)))
       ∙ ap (λ n. rest (d + n) legs) seconds_are
 
-  -- the legs of a link
+  -- the legs of a connection
   linked : (d : ℕ) (t u : TheTrip) (l : Link) (legs : List Leg) → IsTimed t u l →
       rest d (link_legs pool t u l ++ legs)
       ≡ cond (is_cut_on day pool u l) (nat_le (d + seconds_before l) longest_driving && rest (seconds_after l) legs)
@@ -257,7 +257,7 @@ module _ (day : DayFacts) (pool : Pool) where
   abbrev rest_of : ℕ → Option (List Leg) → Bool
   rest_of d legs = option_map_or (λ ls. rest d ls) legs false
 
-  -- one link more, over plain tests
+  -- one connection more, over plain tests
   over : (d before second : ℕ) (cut : Bool) (on : ℕ → Bool) →
       (nat_le d longest_driving
       && option_map_or on (cond cut (given (nat_le (d + before) longest_driving) (kept second)) (kept (d + before + second))) false) ≡

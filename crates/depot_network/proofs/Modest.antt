@@ -40,7 +40,7 @@ pool_at (x ∷ xs) (suc k) pool all is = pool_at xs k pool (All-tail IsPool x xs
 charged_low : (rate seconds : ℕ) → rate ≤ 10000 → rate * seconds ≤ 10000 * seconds
 charged_low rate seconds low = mul-le-mul low (le_refl seconds)
 
--- a link costs no more than its seconds at the highest rate
+-- a connection costs no more than its seconds at the highest rate
 link_low : (pool : Pool) (u : Trip) (l : Link) → IsPool pool → link_cost pool u l ≤ 10000 * seconds_of l
 link_low pool u (Direct move stand) is =
     let driven : pool.dead_rate * move ≤ 10000 * move = charged_low pool.dead_rate move is.dead_rate in
@@ -59,7 +59,7 @@ record IsSound (day : DayFacts) : Type 0 where
   pub daily : All IsDaily day.trips
   pub pools : All IsPool day.params.pools
 
--- pulls and links of a pool and of trips that are there
+-- pulls and connections of a pool and of trips that are there
 pulled_at : (day : DayFacts) (pool : Pool) (class t : ℕ) (trip : Trip) → slice_get day.params.pools class ≡ Some pool →
     slice_get day.trips t ≡ Some trip → pull_out_at day class t ≡ pull_out day pool trip
 pulled_at day pool class t trip there at = rw (there, at) refl
@@ -128,7 +128,7 @@ last_low day pool driving t more is e =
     let few : pool.dead_rate * inward ≤ 10000 * inward = charged_low pool.dead_rate inward is.dead_rate in
     omega (arith, short, few, same)
 
--- the cost of a block whose begin is cheap
+-- the cost of a block whose start is cheap
 stepped_low : (day : DayFacts) (pool : Pool) (class cost driving t : ℕ) (us : List ℕ) (total : ℕ) → IsSound day →
     slice_get day.params.pools class ≡ Some pool → IsCheapUntil day t cost →
     stepped day pool cost driving t us ≡ Some total → total ≤ 4000000000

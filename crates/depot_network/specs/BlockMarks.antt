@@ -31,7 +31,7 @@ first_mark day counts prices class k =
     (cond counts (pos 1000) (pos (1000 * (pool.fixed + pool.dead_rate * out))) -ℤ price_at prices k)))
     (pull_out day pool t))))
 
--- where a link's stand lies, how long it lasts, and the seconds that are driven empty before and behind it
+-- where a connection's stand lies, how long it lasts, and the seconds that are driven empty before and behind it
 pub record Moves : Type 0 where
   pub at : Point
   pub stand : ℕ

@@ -1,4 +1,4 @@
--- Promise: the driving of a block, trip by trip: since the last cut, or since the begin of the pull-out.
+-- Promise: the driving of a block, trip by trip: since the last cut, or since the start of the pull-out.
 use Rattle.std.specs.Prelude.{ℕ, ◌+◌, ◌-ℤ◌, Bool, false, cond, ◌&&◌, ◌||◌, nat_le, List, [], ◌∷◌, Option, Some, option_and_then, is_some}
 use Rattle.std.specs.Int.RustNames.{unsigned_abs}
 use Rattle.std.specs.Option.{option_map_or}
@@ -16,7 +16,7 @@ use Rattle.day_model.specs.Pieces.{longest_driving}
 abbrev pub trip_seconds : Trip → ℕ
 trip_seconds t = unsigned_abs (t.end.0 -ℤ t.begin.0)
 
--- how long a link is driven before its stand
+-- how long a connection is driven before its stand
 abbrev pub seconds_before : Link → ℕ
 seconds_before (Direct move stand) = move
 seconds_before (Depot inward outward stand) = inward
@@ -26,7 +26,7 @@ abbrev pub seconds_after : Link → ℕ
 seconds_after (Direct move stand) = 0
 seconds_after (Depot inward outward stand) = outward
 
--- how long the vehicle stands on a link
+-- how long the vehicle stands on a connection
 abbrev pub stand_of : Link → ℕ
 stand_of (Direct move stand) = stand
 stand_of (Depot inward outward stand) = stand
@@ -40,7 +40,7 @@ stand_point pool u (Depot inward outward stand) = pool.depot
 abbrev pub is_cut_at : DayFacts → Pool → Point → ℕ → Bool
 is_cut_at day pool at stand = nat_le 1 stand && (nat_le day.params.settings.handover stand && (is_relief day at || point_eq at pool.depot))
 
--- whether a block is cut on a link to a trip
+-- whether a block is cut on a connection to a trip
 abbrev pub is_cut_on : DayFacts → Pool → Trip → Link → Bool
 is_cut_on day pool u l = is_cut_at day pool (stand_point pool u l) (stand_of l)
 

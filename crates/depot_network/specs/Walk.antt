@@ -68,7 +68,7 @@ pub record IsCheapUntil (day : DayFacts) (t cost : ℕ) : Type 0 where
   pub so_far : pos cost ≤ℤ (pos 100000000 +ℤ (pos 10000 *ℤ end_of day t))
   pub in_time : end_of day t ≤ℤ pos 172800
 
--- the seconds of a link that may cost something
+-- the seconds of a connection that may cost something
 abbrev pub seconds_of : Link → ℕ
 seconds_of (Direct move stand) = move + stand
 seconds_of (Depot inward outward stand) = inward + outward

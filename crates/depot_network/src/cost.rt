@@ -30,7 +30,7 @@ fn charged(rate: u32, seconds: u32) -> u64
     u64::from(rate) * u64::from(seconds)
 }
 
-/// What a link to a trip costs.
+/// What a connection to a trip costs.
 fn link_cost(pool: &Pool, next: &Trip, link: Link) -> u64
     requires pool { IsPool pool.now }
     requires short { IsShort link }
@@ -154,7 +154,7 @@ pub(crate) fn first_step(day: &Day, class: u32, pool: &Pool, t: u32) -> Option<S
     })
 }
 
-/// What a later trip adds to the cost of a block, if it may follow another one as far as links go.
+/// What a later trip adds to the cost of a block, if it may follow another one as far as connections go.
 pub(crate) fn added(day: &Day, class: u32, pool: &Pool, t: u32, u: u32) -> Option<u64>
     requires pool { slice_get day.now.params.pools class ≡ Some pool.now }
     requires ranges { IsPool pool.now }

@@ -11,7 +11,7 @@ use std::marker::Model;
 
 /// The blocks of a day: lists of trips with what they are worth in each pool. A list has a worth as a block of a pool where it is not
 /// empty and rises by number, each trip's line admits the pool's type of vehicles, the pull-out leaves at 0 or later, the pull-in is
-/// there, neighbours have links, and each piece that its legs are cut into has a driving of at most 16,200 seconds.
+/// there, neighbours have connections, and each piece that its legs are cut into has a driving of at most 16,200 seconds.
 #[derive(Drop)]
 pub struct PoolNet<'d> {
     day: &'d Day,
@@ -76,8 +76,8 @@ impl Columns for PoolNet<'_> {
     }
 
     /// The worth of a list of trips as a block of a pool: its cost, or 1 where blocks are counted. The cost is the pool's fixed cost, plus
-    /// its deadhead rate times all deadhead seconds, plus its standing rate times the seconds of stands of direct links at points other
-    /// than the depot point. It takes no memory.
+    /// its deadhead rate times all deadhead seconds, plus its standing rate times the seconds of stands of direct connections at points
+    /// other than the depot point. It takes no memory.
     fn worth(&self, class: u32, list: &[u32]) -> Option<u64> {
         block_worth(self.day, self.worth, class, list)
     }

@@ -5,7 +5,7 @@
 pub struct OpenBlock {
     /// The last trip, from 0.
     pub trip: u32,
-    /// The seconds of driving at its end, since the last cut or since the begin of the pull-out.
+    /// The seconds of driving at its end, since the last cut or since the start of the pull-out.
     pub driving: u32,
     /// A thousand times the cost so far, or a thousand where blocks are counted, less the prices of the trips, in thousandths of a cost
     /// unit.

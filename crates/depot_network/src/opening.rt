@@ -141,7 +141,7 @@ impl PoolNet<'_> {
         }
     }
 
-    /// What a link of the pool to a later trip adds to a value, if there is one and the trip is admitted.
+    /// What a connection of the pool to a later trip adds to a value, if there is one and the trip is admitted.
     pub fn link_value(&self, class: u32, pool: &Pool, t: u32, u: u32) -> Option<i64>
         requires pool { slice_get self.now.day.params.pools class ≡ Some pool.now }
         requires ranges { IsPool pool.now }

@@ -5,6 +5,6 @@
 pub struct Step {
     /// Its cost in cost units: the move to it, and the stand before it; of a first trip the fixed cost and the pull-out.
     pub cost: u64,
-    /// The seconds of driving at the trip's end, since the last cut or since the begin of the pull-out: at most 16,200.
+    /// The seconds of driving at the trip's end, since the last cut or since the start of the pull-out: at most 16,200.
     pub driving: u32,
 }

@@ -118,7 +118,7 @@ impl DutyNet<'_> {
         }
     }
 
-    /// Sign-on and sign-off of a list of pieces of a group: the begin of the first piece less the way from home and the sign-on time, the
+    /// Sign-on and sign-off of a list of pieces of a group: the start of the first piece less the way from home and the sign-on time, the
     /// end of the last one plus the way home and the sign-off time. None exactly where a pause or a way is missing or the list is empty
     /// or does not rise.
     pub fn span(&self, class: u32, list: &[u32]) -> Option<(Sec, Sec)>

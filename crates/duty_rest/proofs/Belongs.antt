@@ -1,5 +1,5 @@
 -- In a plan that keeps the heads every other duty has no begun piece. A begun piece of a duty stands in the duty's head, and that head is
--- the front of some duty of the plan; each piece stands in one duty alone, so no other duty has it.
+-- the initial part of some duty of the plan; each piece stands in one duty alone, so no other duty has it.
 use Rattle.std.proofs.Common.{◌≡◌, ◌==◌, ℕ, ◌+◌, ◌-◌, ◌<◌, ◌≤◌, Bool, true, false, cond, ◌&&◌, ◌||◌, not, zero, suc, List, [], ◌∷◌, ◌++◌, length, refl, sym, ap, subst, ◌∙◌, arith, inl, inr, Option, Some, None, slice_get, nat_eq}
 use Rattle.std.specs.Option.{option_map, option_map_or}
 use Rattle.std.specs.Prelude.{option_and_then}

@@ -84,12 +84,12 @@ unspelled_cause number line T R kinds.EofCount fault = (refl, fault (λ e. cc))
 unspelled_cause number line T R kinds.Unended fault = (refl, fault (λ e. cc))
 unspelled_cause number line T R kinds.TooLarge fault = (refl, fault (λ e. cc))
 
--- a text that is refused for want of memory alone is unread
+-- a text that is refused for running out of memory alone is unread
 pub memory_unread : (number line : ℕ) (kind : TextKind) → kind ≡ kinds.Memory → IsUnread (text_fault number line kind)
 memory_unread number line kind e = rw e tt
 
--- The answer of the text is the one fault, or want of memory, and a fault that is there is no want of memory. So the answer for the file
--- is that fault with the file's number, or the file counts as unread.
+-- The answer of the text is the one fault, or running out of memory, and a fault that is there is no running out of memory. So the answer
+-- for the file is that fault with the file's number, or the file counts as unread.
 pub unspelled_exact :
     (number line line_there : ℕ) (kind kind_there : TextKind) → (kind ≡ kinds.Memory) ⊎ ((line ≡ line_there) × (kind ≡ kind_there)) →
     kind_there ≢ kinds.Memory →
@@ -109,7 +109,7 @@ unspelled_exact number line line_there kind kind_there (inr same) real =
     fault_is number line kinds.Unended real = refl
     fault_is number line kinds.TooLarge real = refl
 
--- a fault that is there is no want of memory
+-- a fault that is there is no running out of memory
 pub real_fault : (most line : ℕ) (kind : TextKind) (h : List ℕ) → HasFault most h line kind → kind ≢ kinds.Memory
 real_fault most line kinds.Memory h fault = λ e. absurd fault
 real_fault most line kinds.Keyword h fault = λ e. cc

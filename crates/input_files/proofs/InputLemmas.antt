@@ -196,7 +196,7 @@ refused_only begin contents i stage parts all bytes A at so only spell =
     only cut.0 cut.2
 
 -- A file is refused, and its own answer is exact. Where the first fault of all is said to be in it, the answer is that fault; where it
--- is said to be in a later file, this one would give tables, and then it is refused for want of memory or a failed read alone. So no
+-- is said to be in a later file, this one would give tables, and then it is refused for running out of memory or a failed read alone. So no
 -- later file takes anything away from the answer.
 pub refused_exact :
     (begin : Stage) (contents : List (List ℕ)) (i : ℕ) (stage : Stage) (parts : List (List Table)) (bytes : List ℕ) (file line : ℕ)
@@ -228,7 +228,7 @@ given_so now name bytes stage size first told found only exact =
       },
     )
 
--- a read that failed later than at the begin
+-- a read that failed later than at the start
 rose_since : (before between now : ℕ) → before ≤ between → Rose between now → Rose before now
 rose_since before between now h rose = omega (arith, h, rose)
 
@@ -281,7 +281,7 @@ right_so begin contents i stage parts ended so = record {
 }
 
 -- What is read of the first i files, beside what the first `count` of them hold: these are being read, or they are right. So it is
--- known of each front of the names by itself, and names behind that front may hide what they hold.
+-- known of each initial part of the names by itself, and names behind that part may hide what they hold.
 pub record IsReadTo (begin : Stage) (contents : List (List ℕ)) (count i : ℕ) (stage : Stage) (parts : List (List Table)) : Type 0 where
   pub so : i ≤ count → IsReadSo begin contents i stage parts
   pub right : count ≤ i → AreRight begin contents
@@ -318,8 +318,8 @@ ended_to held names contents count told few =
     let P : ℕ → Type 0 = λ k. drop k contents ≡ [] in
     subst P (length-take-le count names few) all
 
--- One more file is read, beside each front of the names. A front that ends with this file is right from here on; a shorter one was
--- right before; for a longer one the file's bytes are those held at its place.
+-- One more file is read, beside each initial part of the names. An initial part that ends with this file is right from here on; a shorter
+-- one was right before; for a longer one the file's bytes are those held at its place.
 pub next_to :
     (begin : Stage) (held now : List ℕ → Option (List ℕ)) (names contents : List (List ℕ)) (count i : ℕ) (stage next : Stage) (size : ℕ)
     (name : List ℕ) (parts : List (List Table)) (first : List Table) →

@@ -36,7 +36,7 @@ part_written old now next before f g line part rest told more later =
       omega (arith, first, later),
     )
 
--- of a further part a front is written
+-- of a further part an initial part is written
 front_taken : (old now next : Option (List ℕ)) (line done part rest : List ℕ) → done ++ (part ++ rest) ≡ line →
     IfSome old (λ bytes. now ≡ Some (bytes ++ done)) → IfSome now (λ bytes. TakesFront bytes next part) →
     IfSome old (λ bytes. TakesFront bytes next line)

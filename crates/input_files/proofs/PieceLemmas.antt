@@ -4,8 +4,8 @@ use Rattle.std.proofs.Math.Seq.{take-add}
 use Rattle.std.proofs.lemmas.List.{take-append-drop, drop-drop}
 use Rattle.plan_core.specs.Outside.{ReadsAt, Takes}
 
--- One more piece is taken. What was taken so far is the front of the text up to a place, and the piece stands there, so the bytes of it
--- that are taken make the front longer by as many, and none is left out or taken twice.
+-- One more piece is taken. What was taken so far is the initial part of the text up to a place, and the piece stands there, so the bytes of
+-- it that are taken make that part longer by as many, and none is left out or taken twice.
 pub piece_taken :
     (E : Type 0) (taken now next : Option (List ℕ)) (text piece : List ℕ) (at count : ℕ) → piece ≡ drop at text →
     IfSome taken (λ old. now ≡ Some (old ++ take at text)) → Takes {E = E} now next piece (Ok count) →
@@ -17,8 +17,8 @@ piece_taken E (Some old) now next text piece at count p so_far takes =
     ap (λ (t : List ℕ). take at text ++ take count t) p ∙ sym (take-add at count text) in
     step ∙ ap (λ (t : List ℕ). Some t) (append_assoc old (take at text) (take count piece) ∙ ap (λ (t : List ℕ). old ++ t) longer)
 
--- One more piece is read. What was read so far and what the file holds from there on are what it holds; the piece is the front of the
--- latter, and so the two still are what it holds after the piece has gone from one to the other.
+-- One more piece is read. What was read so far and what the file holds from there on are what it holds; the piece is the initial part of
+-- the latter, and so the two still are what it holds after the piece has gone from one to the other.
 pub piece_read :
     (first now : Option (List ℕ)) (bytes buf : List ℕ) (at count : ℕ) → now ≡ first → IfSome first (λ held. bytes ++ drop at held ≡ held) →
     IfSome now (λ held. ReadsAt held at count buf) → IfSome first (λ held. (bytes ++ take count buf) ++ drop (at + count) held ≡ held)

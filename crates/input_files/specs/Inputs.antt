@@ -69,7 +69,7 @@ IsUnread (faults.Text file fault) = ⊥
 abbrev pub refused_text : ℕ → ℕ → TextKind → FileFault
 refused_text file line kind = faults.Text file (record { line = line; kind = kind })
 
--- why a file is refused: its text has that first fault, or the count of faults rose; want of memory needs no cause
+-- why a file is refused: its text has that first fault, or the count of faults rose; running out of memory needs no cause
 abbrev pub IsFileCause : (ℕ → ℕ → TextKind → Type 0) → (ℕ → Type 0) → FileFault → Type 0
 IsFileCause text read faults.Memory = Unit {0}
 IsFileCause text read (faults.Read file) = read file

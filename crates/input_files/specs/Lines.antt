@@ -22,7 +22,7 @@ abbrev pub joined : List (List ℕ) → List ℕ
 joined [] = []
 joined (part ∷ parts) = part ++ joined parts
 
--- a line was written whole, or a front of it, and then the count of faults rose
+-- a line was written whole, or an initial part of it, and then the count of faults rose
 abbrev pub IsTold : Option (List ℕ) → Option (List ℕ) → ℕ → ℕ → List ℕ → Type 0
 IsTold old new before now line =
     IfSome old (λ bytes. TakesFront bytes new line) × (IfSome old (λ bytes. new ≡ Some (bytes ++ line)) ⊎ Rose before now)

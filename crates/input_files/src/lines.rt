@@ -26,7 +26,7 @@ pub fn text_kind(kind: TextKind) -> &'static [u8]
 }
 
 /// Writes a further part of a line, unless a part before it failed: a line of parts begins with `true`. It tells whether all parts so far
-/// are there; so what a sink took is a front of the line, and where its last part is there, the whole.
+/// are there; so what a sink took is an initial part of the line, and where its last part is there, the whole.
 pub fn write_part<E: Sink>(err: &mut E, is_whole: bool, part: &[u8]) -> bool
     ensures { (old : Option (List ℕ)) (faults : ℕ) (line rest : List ℕ) → IsTelling old (E.taken err.old) faults (E.faults err.old) line (part.now ++ rest) is_whole
         → IsTelling old (E.taken err.new) faults (E.faults err.new) line rest result }

@@ -118,11 +118,11 @@ pub fn read_whole<F: Files>(
 ///
 /// # Errors
 ///
-/// [`Failed`] where a write failed, which is not tried again; a front of the text was taken.
+/// [`Failed`] where a write failed, which is not tried again; an initial part of the text was taken.
 pub fn write_whole<O: Sink>(out: &mut O, text: &[u8]) -> Result<(), Failed>
     ensures taken { OnOk result (IfSome (O.taken out.old) (λ old. O.taken out.new ≡ Some (old ++ text.now))) }
 
-    // After a fault some front of the text was taken, and the count of faults rose.
+    // After a fault some initial part of the text was taken, and the count of faults rose.
     ensures front { IfSome (O.taken out.old) (λ old. TakesFront old (O.taken out.new) text.now) }
     ensures fault { OnErr result (Rose (O.faults out.old) (O.faults out.new)) }
     ensures later { O.faults out.old ≤ O.faults out.new }

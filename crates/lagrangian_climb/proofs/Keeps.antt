@@ -1,4 +1,4 @@
--- Numbers of a turn.
+-- Numbers of a price step.
 use Rattle.std.proofs.Common.{◌≡◌, ℤ, ap, ◌∙◌}
 use Rattle.lagrangian_climb.specs.Numbers.{kept_within}
 

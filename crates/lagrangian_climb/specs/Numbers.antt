@@ -1,4 +1,4 @@
--- Inner: the numbers of a turn.
+-- Inner: the numbers of a price step.
 use Rattle.std.specs.Prelude.{ℕ, ℤ, pos, ◌+ℤ◌, ◌-ℤ◌, ◌*ℤ◌, int_div, int_lt, Bool, cond, ◌*◌, ◌/◌, min}
 use Rattle.std.specs.Int.{int_max}
 
@@ -6,7 +6,7 @@ use Rattle.std.specs.Int.{int_max}
 abbrev pub lack_of : Bool → ℕ → ℤ
 lack_of fixed times = cond fixed (pos 0) (pos 1 -ℤ pos times)
 
--- a direction in eighths: six eighths of the one before, and two of this turn
+-- a direction in eighths: six eighths of the one before, and two of this price step
 abbrev pub direction_of : ℤ → ℤ → ℤ
 direction_of old lack = int_div ((pos 6 *ℤ old) +ℤ (pos 16 *ℤ lack)) (pos 8)
 
@@ -14,7 +14,7 @@ direction_of old lack = int_div ((pos 6 *ℤ old) +ℤ (pos 16 *ℤ lack)) (pos 
 abbrev pub gap_of : ℤ → ℤ → ℤ
 gap_of aim bound = int_max (int_max (aim -ℤ bound) (int_div aim (pos 2048))) (pos 1)
 
--- the size of a turn, in 1,024ths
+-- the size of a price step, in 1,024ths
 abbrev pub unit_of : ℕ → ℕ → ℕ → ℕ
 unit_of pace gap square = min ((8 * pace) * gap / square) 1000000000000
 
@@ -22,6 +22,6 @@ unit_of pace gap square = min ((8 * pace) * gap / square) 1000000000000
 abbrev pub kept_within : ℤ → ℤ → ℤ → ℤ
 kept_within low high z = cond (int_lt z low) low (cond (int_lt high z) high z)
 
--- a price after a turn
+-- a price after a price step
 abbrev pub moved_of : ℤ → ℤ → ℤ → ℤ → ℤ → ℤ
 moved_of low high unit direction price = kept_within low high (price +ℤ int_div (unit *ℤ direction) (pos 1024))

@@ -1,4 +1,4 @@
-//! The climb: turns, the greatest Lagrangian, and the way back to it.
+//! The climb: price steps, the greatest Lagrangian, and the way back to it.
 
 ghost use Rattle.std.specs.Prelude.{◌≡◌, ℕ, ◌<◌, ◌≤◌, ◌≤ℤ◌, pos, neg_ℤ, length, IfOk, OnOk};
 ghost use Rattle.cover_core.specs.FirstLeast.{AllWithin};
@@ -43,11 +43,11 @@ pub struct Peak {
 /// A climb on its way.
 #[derive(Drop)]
 struct Ascent {
-    /// The prices of the next turn.
+    /// The prices of the next price step.
     prices: Prices,
     /// The direction of each price, in eighths.
     directions: Seq<i64>,
-    /// How many turns brought nothing since the last that did, or since the climb went back.
+    /// How many price steps brought nothing since the last that did, or since the climb went back.
     idle: u32,
     /// 1,024 times the factor of Polyak's step.
     pace: u32,
@@ -55,7 +55,7 @@ struct Ascent {
     peak: Peak,
     /// How often each column was chosen.
     counts: Seq<u32>,
-    /// Whether no turn is left.
+    /// Whether no price step is left.
     over: bool,
 }
 
@@ -64,11 +64,11 @@ struct Ascent {
 pub struct Climbed {
     /// The prices of the greatest Lagrangian.
     pub peak: Peak,
-    /// In how many turns each column of the pool was chosen, by place.
+    /// In how many price steps each column of the pool was chosen, by place.
     pub counts: Seq<u32>,
 }
 
-/// A climb at its begin.
+/// A climb at its start.
 fn begin(
     alloc: Global,
     prices: &Prices,
@@ -125,7 +125,7 @@ fn back(alloc: Global, ascent: Ascent) -> Result<Ascent, Memory>
     })
 }
 
-/// Keeps prices as the peak where their Lagrangian is above that of the peak, and answers 0; else one turn more than were idle.
+/// Keeps prices as the peak where their Lagrangian is above that of the peak, and answers 0; else one price step more than were idle.
 fn rise(
     alloc: Global,
     peak: &mut Peak,
@@ -158,7 +158,7 @@ fn rise(
     Ok(0)
 }
 
-/// A turn along its direction.
+/// A price step along its direction.
 fn go_on(
     alloc: Global,
     pool: &[Column],
@@ -216,7 +216,7 @@ fn go_on(
     })
 }
 
-/// A turn of a climb over the columns at some places, those in play.
+/// A price step of a climb over the columns at some places, those in play.
 fn turn(
     alloc: Global,
     pool: &[Column],
@@ -279,18 +279,18 @@ fn turn(
     go_on(alloc, pool, rest, spans, places.as_slice(), bound, ascent)
 }
 
-/// Climbs from prices, at most 100 turns, and gives the prices of the greatest Lagrangian that was met, the first ones on ties.
+/// Climbs from prices, at most 100 price steps, and gives the prices of the greatest Lagrangian that was met, the first ones on ties.
 ///
-/// A turn chooses columns at its prices ([`choose`](crate::choose)). Where the Lagrangian is above the greatest so far, prices and class
-/// prices are kept; after 20 turns without that the climb goes back to the kept prices, with no direction and at two thirds of its pace.
-/// Else each item's direction, in eighths, becomes six eighths of the one before and two of how far the item is from being covered once,
-/// and the price moves along it by 8 * pace * gap / S / 1,024: the gap is the distance to the aim, at least its 2,048th part and 1, and S
-/// the sum of all squared directions. The climb ends where no pace or no direction is left. Its contract says the ranges of what it gives
-/// and no more: what a turn chooses and each of its numbers is exact by `choose` and the functions of a turn.
+/// A price step chooses columns at its prices ([`choose`](crate::choose)). Where the Lagrangian is above the greatest so far, prices and
+/// class prices are kept; after 20 price steps without that the climb goes back to the kept prices, with no direction and at two thirds of
+/// its pace. Else each item's direction, in eighths, becomes six eighths of the one before and two of how far the item is from being
+/// covered once, and the price moves along it by 8 * pace * gap / S / 1,024: the gap is the distance to the aim, at least its 2,048th part
+/// and 1, and S the sum of all squared directions. The climb ends where no pace or no direction is left. Its contract says the ranges of
+/// what it gives and no more: what a price step chooses and each of its numbers is exact by `choose` and the functions of a price step.
 ///
 /// The pool has at most 200,000 columns; there are at most 3,000 items and 32 classes. Each item has a price and a span from
-/// -10,000,000,000,000 to 10,000,000,000,000 thousandths of a cost unit, between whose ends its price is kept from the first turn on. The
-/// pace is at most 512. Which columns are in play is looked up once; time is that of 100 choices among these.
+/// -10,000,000,000,000 to 10,000,000,000,000 thousandths of a cost unit, between whose ends its price is kept from the first price step on.
+/// The pace is at most 512. Which columns are in play is looked up once; time is that of 100 choices among these.
 ///
 /// # Errors
 ///

@@ -14,7 +14,7 @@ pub fn lack(fixed: bool, times: u32) -> i64
     if fixed { 0 } else { 1 - times as i64 }
 }
 
-/// The direction of a price after a turn, in eighths: six eighths of the one before and two of this turn (heavy ball).
+/// The direction of a price after a price step, in eighths: six eighths of the one before and two of this price step (heavy ball).
 pub fn direction(old: i64, lack: i64) -> i64
     requires old_low { neg_ℤ (pos 1600000) ≤ℤ old }
     requires old_high { old ≤ℤ pos 1600000 }
@@ -61,7 +61,7 @@ fn at_least_one(number: i128) -> u128
     if number < 1 { 1 } else { number as u128 }
 }
 
-/// The size of a turn, in 1,024ths: eight times pace and gap, divided by the sum of squares (Polyak's step), at most 10^12.
+/// The size of a price step, in 1,024ths: eight times pace and gap, divided by the sum of squares (Polyak's step), at most 10^12.
 pub fn unit(pace: u32, gap: u128, square: u64) -> i64
     requires pace { pace ≤ 512 }
     requires gap { gap ≤ 20000000000000000000000 }
@@ -78,7 +78,7 @@ pub fn unit(pace: u32, gap: u128, square: u64) -> i64
     }
 }
 
-/// By how much a turn moves a price, in 1,024ths.
+/// By how much a price step moves a price, in 1,024ths.
 fn way(unit: i64, direction: i64) -> i64
     requires unit_low { pos 0 ≤ℤ unit }
     requires unit_high { unit ≤ℤ pos 1000000000000 }
@@ -91,7 +91,7 @@ fn way(unit: i64, direction: i64) -> i64
     unit * direction
 }
 
-/// By how much a turn moves a price.
+/// By how much a price step moves a price.
 fn step(unit: i64, direction: i64) -> i64
     requires unit_low { pos 0 ≤ℤ unit }
     requires unit_high { unit ≤ℤ pos 1000000000000 }
@@ -120,7 +120,7 @@ fn keep(low: i64, high: i64, number: i64) -> i64
     }
 }
 
-/// A price after a turn.
+/// A price after a price step.
 pub fn moved(low: i64, high: i64, unit: i64, direction: i64, price: i64) -> i64
     requires limits { low ≤ℤ high }
     requires price_low { neg_ℤ (pos 10000000000000) ≤ℤ price }

@@ -1,4 +1,4 @@
-//! Directions and prices of all items: the steps of a turn as vectors.
+//! Directions and prices of all items: the numbers of a price step as vectors.
 
 ghost use Rattle.std.specs.Prelude.{◌≡◌, ℕ, ◌<◌, ◌≤◌, ◌≤ℤ◌, pos, neg_ℤ, length, slice_index, IfOk};
 ghost use Rattle.cover_core.specs.FirstLeast.{AllWithin};
@@ -61,7 +61,7 @@ fn span_at(spans: &[Span], item: usize) -> Span
     spans[item]
 }
 
-/// The directions after a turn in which the items were covered so often.
+/// The directions after a price step in which the items were covered so often.
 pub fn turned_heading(
     alloc: Global,
     old: &[i64],
@@ -91,7 +91,7 @@ pub fn turned_heading(
     })
 }
 
-/// The prices after a turn.
+/// The prices after a price step.
 pub fn moved_prices(
     alloc: Global,
     prices: &Prices,

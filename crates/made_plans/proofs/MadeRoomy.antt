@@ -211,7 +211,7 @@ module _ (trips : ℕ) (day : DayFacts) (made : IsMade trips day) where
         short = omega (arith, seconds_are, short, out_short, in_short);
       }
 
-  -- each link has a cut
+  -- each connection has a cut
   module _ (class : ℕ) (q : Pool) (t u : Trip) (q_is : slice_get day.params.pools class ≡ Some q) (trip : IsMadeTrip t)
       (next : IsMadeTrip u) where
     abbrev Cut : Link → Type 0
@@ -265,7 +265,7 @@ module _ (trips : ℕ) (day : DayFacts) (made : IsMade trips day) where
     out_is = dead_is q.depot u.from pool.d next.from (beside pool.p next.from) pool.depot_is next.from_is
         (pool.depot.out next.from next.from_there)
 
-    -- where there is no direct link the vehicle stands long at the depot
+    -- where there is no direct connection the vehicle stands long at the depot
     stands_long : (s : ℕ) → direct_link day t u ≡ None →
         (u.begin.0 -ℤ t.end.0 -ℤ pos (beside pool.p trip.to) -ℤ pos (beside pool.p next.from)) ≡ pos s → 300 ≤ s
     stands_long s none is =

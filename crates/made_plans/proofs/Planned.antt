@@ -1,4 +1,4 @@
--- Planning of a roomy day is refused for want of memory alone.
+-- Planning of a roomy day is refused for running out of memory alone.
 use Rattle.std.proofs.Common.{ℕ, ◌≤◌, false, List, refl}
 use Rattle.cover_core.specs.declared.Column.{Column}
 use Rattle.cover_core.specs.Cover.{Problem}

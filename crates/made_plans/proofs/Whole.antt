@@ -39,7 +39,7 @@ not_false : (b : Bool) → not b ≡ false → b ≡ true
 not_false true e = refl
 not_false false e = absurd (cc)
 
--- the parts of a link: its stand fills the time between its trips, and moves between equal points take none
+-- the parts of a connection: its stand fills the time between its trips, and moves between equal points take none
 record IsFilled (pool : Pool) (t u : TheTrip) (l : Link) : Type 0 where
   pub stand : (u.begin.0 -ℤ t.end.0 -ℤ pos (seconds_before l) -ℤ pos (seconds_after l)) ≡ pos (stand_of l)
   pub before : point_eq t.to (stand_point pool u l) ≡ true → seconds_before l ≡ 0
@@ -156,7 +156,7 @@ module _ (day : DayFacts) (pool : Pool) (group : Group) (way : ℕ) where
         to = near;
       }
 
-  -- the legs of a link that has a cut
+  -- the legs of a connection that has a cut
   link_whole : (t u : TheTrip) (l : Link) → IsFilled pool t u l → is_cut_on day pool u l ≡ true → Near t.to → Near u.from →
       Near pool.depot → AreWhole day pool group way t.end.0 u.begin.0 (link_legs pool t u l)
   link_whole t u (Direct move stand) filled cut near_to near_from near_depot =

@@ -33,9 +33,9 @@ pub record IsAlone (day : DayFacts) (pool : Pool) (t : Trip) : Type 0 where
   pub in_is : pull_in day pool t ≡ Some inward
   pub short : out + trip_seconds t + inward ≤ longest_driving
 
--- A day with this first pool and this first group. Each trip can be driven alone by the pool, each link of any pool has a cut, so that no
--- piece has a stand in it, and each point at which a piece may begin or end is near the group's home: four and a half hours of driving,
--- the ways, sign-on and sign-off are within thirteen hours.
+-- A day with this first pool and this first group. Each trip can be driven alone by the pool, each connection of any pool has a cut, so
+-- that no piece has a stand in it, and each point at which a piece may begin or end is near the group's home: four and a half hours of
+-- driving, the ways, sign-on and sign-off are within thirteen hours.
 pub record IsRoomyWith (day : DayFacts) (pool : Pool) (group : Group) (way : ℕ) : Type 0 where
   pub pool_is : slice_get day.params.pools 0 ≡ Some pool
   pub group_is : slice_get day.params.groups 0 ≡ Some group

@@ -13,7 +13,7 @@ use Rattle.cover_plan.specs.Ends.{IsCause}
 abbrev pub HasPlan : Problem → Type 0
 HasPlan p = HasRoomForEach p → (columns : List Column) × IsPlan p columns
 
--- where each item has room of its own, planning is refused for want of memory alone
+-- where each item has room of its own, planning is refused for running out of memory alone
 abbrev pub IsNotRefused : Problem → Problem → Type 0
 IsNotRefused counted costed =
     HasRoomForEach costed → (numbers : Numbers) (fault : PlanFault) → IsCause counted costed numbers fault → fault ≡ faults.Memory

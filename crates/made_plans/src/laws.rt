@@ -12,21 +12,21 @@ ghost use Rattle.made_plans.specs.Wide.{HasPlan, IsNotRefused};
 use cover_core::Columns;
 
 /// A problem in which each item alone has a worth in a class that has as many places as there are items has a plan. So planning of it is
-/// refused for want of memory alone, by either method.
+/// refused for running out of memory alone, by either method.
 pub fn wide_problems_have_plans<C: Columns>()
     ensures plan { (columns : C) → HasPlan (C.problem columns) }
     ensures refusal { (counted costed : C) → IsNotRefused (C.problem counted) (C.problem costed) }
 {}
 
 /// On a roomy day each trip has room of its own, and so has each piece of the blocks of any plan. So planning of the day is refused for
-/// want of memory alone, by either method, with or without the flow.
+/// running out of memory alone, by either method, with or without the flow.
 pub fn roomy_days_are_planned()
     ensures trips { (facts : DayFacts) → IsRoomy facts → HasRoomForTrips facts }
     ensures pieces { (facts : DayFacts) → IsRoomy facts → HasRoomForPieces facts }
     ensures refusal { (facts : DayFacts) → IsRoomy facts → IsRefusedForMemory facts }
 {}
 
-/// A day that is made from a seed, with at most 3,000 trips, is roomy. So planning of it is refused for want of memory alone.
+/// A day that is made from a seed, with at most 3,000 trips, is roomy. So planning of it is refused for running out of memory alone.
 pub fn made_days_are_planned()
     ensures roomy { (seed trips day : ℕ) (facts : DayFacts) → trips ≤ 3000 → IsMadeDay seed trips day facts → IsRoomy facts }
     ensures refusal { (seed trips day : ℕ) (facts : DayFacts) → trips ≤ 3000 → IsMadeDay seed trips day facts → IsRefusedForMemory facts }

@@ -6,7 +6,7 @@ use Rattle.depot_network.specs.Walk.{added, begun, ended}
 use Rattle.path_cover.specs.Nets.{Net, IsCover, cover_cost}
 use Rattle.one_pool_flow.specs.Paths.{IsPathPlan, plan_cost}
 
--- Links between trips, pull-outs where an arc begins with the store, pull-ins where it ends with the end, and a vehicle that stays.
+-- Connections between trips, pull-outs where an arc begins with the store, pull-ins where it ends with the end, and a vehicle that stays.
 abbrev pub arc_of : DayFacts → Pool → ℕ → ℕ → Option ℕ
 arc_of day pool x v =
     cond (nat_lt x (length day.trips))

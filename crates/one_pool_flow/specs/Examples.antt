@@ -69,8 +69,8 @@ two_paths = refl
 successors : map (successor 2 ((0 ∷ 1 ∷ []) ∷ [])) (0 ∷ 1 ∷ []) ≡ 1 ∷ 2 ∷ []
 successors = refl
 
--- what links and pulls add: with the store and the end at -1,600, the trips at 0 and 0 as they are entered and at 0 and -2,200 as they are
--- left no potential can be greater
+-- what connections and pulls add: with the store and the end at -1,600, the trips at 0 and 0 as they are entered and at 0 and -2,200 as
+-- they are left no potential can be greater
 link_of_both : arc_of dear (pool_with 2 1000 0) 0 1 ≡ Some 0
 link_of_both = refl
 
@@ -101,6 +101,6 @@ two_vehicles = refl
 bound_of_two_vehicles : bound_of (price (pos 1500000) ∷ price (pos 1500000) ∷ []) (pos 0 ∷ []) (2 ∷ []) ≡ 3000
 bound_of_two_vehicles = refl
 
--- where the turn is one second short there is no link, and one vehicle is not enough
+-- where the minimum layover is one second short there is no connection, and one vehicle is not enough
 no_link : path_cost (day_with (pool_with 1 1000 0) 32699 36299) 0 (0 ∷ 1 ∷ []) ≡ None
 no_link = refl

@@ -13,12 +13,13 @@ use Rattle.one_pool_flow.specs.DayNets.{net_of}
 use Rattle.one_pool_flow.specs.Paths.{IsFlowPlan, IsPathPlan, columns_of, paths_of, plan_cost}
 
 -- The flow prices of a plan: those of the greatest potentials of the day's network that go with it (linear programming's complementary
--- slackness). Each trip has two potentials, one as a link or a pull-out enters it and one as a link or a pull-in leaves it; the store and
--- the end have one each. None is above 0. The potential where a link, the pull-out of an admitted trip or a pull-in ends is above the one
--- where it begins by no more than that adds to the cost of a path, and the end's is not above the store's, as a vehicle that stays in the
--- store costs nothing. There is equality where the plan uses a link or a pull, or leaves a vehicle in the store. The greatest potentials
--- are unique. The price of a trip is a thousand times how far its first potential is above its second one, the class price a thousand
--- times how far the store's is above the end's. Where there is a plan, each trip is admitted, so a pull-in asks no admission.
+-- slackness). Each trip has two potentials, one as a connection or a pull-out enters it and one as a connection or a pull-in leaves it; the
+-- store and the end have one each. None is above 0. The potential where a connection, the pull-out of an admitted trip or a pull-in ends is
+-- above the one where it begins by no more than that adds to the cost of a path, and the end's is not above the store's, as a vehicle that
+-- stays in the store costs nothing. There is equality where the plan uses a connection or a pull, or leaves a vehicle in the store. The
+-- greatest potentials are unique. The price of a trip is a thousand times how far its first potential is above its second one, the class
+-- price a thousand times how far the store's is above the end's. Where there is a plan, each trip is admitted, so a pull-in asks no
+-- admission.
 abbrev pub AreFlowPrices : DayFacts → List (List ℕ) → List Price → ℤ → Type 0
 AreFlowPrices day lists prices class_price =
     (pool : Pool) × (day.params.pools ≡ pool ∷ []) × (p : Potentials) × AreGreatest (net_of day pool) lists p

@@ -19,7 +19,7 @@ abbrev pub is_flow_day : DayFacts → Bool
 is_flow_day day = is_flow_of (length day.trips) day.params.pools
 
 -- A path is a list of trips that is not empty and rises, whose lines admit the pool's type, whose pull-out leaves at 0 or later, whose
--- pull-in is there and whose neighbours have links. It costs the fixed cost, its pulls and its links.
+-- pull-in is there and whose neighbours have connections. It costs the fixed cost, its pulls and its connections.
 abbrev pub path_cost : DayFacts → ℕ → List ℕ → Option ℕ
 path_cost day class list =
     given (rises list)

@@ -1,4 +1,4 @@
-//! What links and pulls add to the cost of a path.
+//! What connections and pulls add to the cost of a path.
 
 ghost use Rattle.std.specs.Prelude.{◌≡◌, ◌<◌, ◌≤◌, ◌+◌, ◌*◌, IfSome, Some, length, slice_get};
 ghost use Rattle.plan_params.specs.Limits.{IsPool};
@@ -22,7 +22,7 @@ fn charged(rate: u32, seconds: u32) -> u64
     u64::from(rate) * u64::from(seconds)
 }
 
-/// What a link to a trip costs.
+/// What a connection to a trip costs.
 fn link_cost(pool: &Pool, next: &Trip, link: Link) -> u64
     requires pool { IsPool pool.now }
     requires short { IsShort link }

@@ -55,7 +55,7 @@ times_after n to from are s r s_in r_in is t (u ∷ us) t_in follows =
     let same : here s u ≡ here r t = here_same s u r t there back in
     omega arith
 
--- one that comes from the store stands only at the front
+-- one that comes from the store stands only at the start
 times_start : (n : ℕ) (to from : ℕ → ℕ) → AreMatched n to from → (s : ℕ) → s < n → from s ≡ n → (t : ℕ) (ts : List ℕ) → t < n →
     FollowsFrom n to t ts → times s (t ∷ ts) ≡ here s t
 times_start n to from are s s_in is t [] t_in follows = omega arith

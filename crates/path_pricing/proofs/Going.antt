@@ -194,7 +194,7 @@ either P (Some m) b l first second e = first l e
 turn_kept : (turn wait stand : ℕ) → (nat_le turn stand && nat_le stand wait) ≡ true → turn ≤ stand
 turn_kept turn wait stand test = grind (arith, nat_tests)
 
--- A link is a direct way or one via the depot, so none adds less than both do.
+-- A connection is a direct way or one via the depot, so none adds less than both do.
 module _ (day : DayFacts) (counts : Bool) (prices : List Price) (pool : Pool) (rests : List ℤ) (numbers : List ℕ) where
   abbrev Adds : ℕ → Trip → ℤ → Link → Type 0
   Adds u next low l = low ≤ℤ (scaled counts (link_cost pool next l) -ℤ price_at prices u +ℤ number_at rests u)

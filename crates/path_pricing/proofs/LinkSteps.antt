@@ -1,4 +1,4 @@
--- The bound behind a trip, link by link.
+-- The bound behind a trip, connection by connection.
 use Rattle.std.proofs.Common.{◌≡◌, ℕ, ℤ, pos, neg_ℤ, ◌+◌, ◌-◌, ◌*◌, ◌+ℤ◌, ◌-ℤ◌, ◌≤ℤ◌, ◌<◌, inl, inr, Bool, List, length, Some, sym, subst, ap, ◌∙◌, arith, slice_set}
 use Rattle.std.proofs.Math.Nat.{eq-or-lt_of_le}
 use Rattle.std.proofs.lemmas.Bool.{cases_lt}
@@ -14,7 +14,7 @@ use Rattle.path_pricing.specs.Lows.{AreLows, IsLowOver}
 use Rattle.path_pricing.proofs.Cells.{number_other, number_set}
 use Rattle.path_pricing.proofs.Places.{scaled_up}
 
--- a rest over a link is deep
+-- a rest over a connection is deep
 pub deep_over : (count t u : ℕ) (least cost price rest shown sum low : ℤ) → t < u → u < count → IsDeep count t least → IsDeep count u rest →
     pos 0 ≤ℤ cost → price ≤ℤ pos 10000000000000 →
     shown ≡ rest → sum ≡ cost -ℤ price +ℤ shown → low ≤ℤ least → ((x : ℤ) → x ≤ℤ least → x ≤ℤ sum → x ≤ℤ low) → IsDeep count t low
@@ -41,8 +41,8 @@ steps_more day counts prices pool rests t end least low first here before u cost
       | inr other ↦ let old = before u cost other linked in omega (arith, ints, old, first)
     ]
 
--- What a link adds is at least 0. So where a number is at most each later rest less its price, no link to one of these trips adds less than
--- that number, with the rest behind it: the trips from there on need no look.
+-- What a connection adds is at least 0. So where a number is at most each later rest less its price, no connection to one of these trips
+-- adds less than that number, with the rest behind it: the trips from there on need no look.
 pub steps_past : (day : DayFacts) (counts : Bool) (prices : List Price) (pool : Pool) (rests : List ℤ) (t from : ℕ) (least low : ℤ) →
     least ≤ℤ low →
     IsLowOver prices rests from (length day.trips) low → StepsAbove day counts prices pool rests t from least →

@@ -97,8 +97,8 @@ rests_end day counts prices pool rests long = record {
         (slice_get day.trips t) cost e in
         slice_get_within day.trips t trip there
 
--- What is known with all points is known of all links. It is deep, since a link takes off no more than the price of its trip and what is
--- deep behind that.
+-- What is known with all points is known of all connections. It is deep, since a connection takes off no more than the price of its trip
+-- and what is deep behind that.
 pub scaled_up : (counts : Bool) (cost : ℕ) → pos 0 ≤ℤ scaled counts cost
 scaled_up true cost = omega (arith, ints)
 scaled_up false cost = omega (arith, ints)

@@ -25,7 +25,7 @@ floor_of rests a = a.value +ℤ number_at rests a.trip
 abbrev pub ClosesAbove : DayFacts → Bool → Pool → ℕ → ℤ → Type 0
 ClosesAbove day counts pool t least = (cost : ℕ) → ended day pool t ≡ Some cost → least ≤ℤ scaled counts cost
 
--- no link from a trip to one before the end adds less, with the rest behind that
+-- no connection from a trip to one before the end adds less, with the rest behind that
 abbrev pub StepsAbove : DayFacts → Bool → List Price → Pool → List ℤ → ℕ → ℕ → ℤ → Type 0
 StepsAbove day counts prices pool rests t end least =
     (u cost : ℕ) → u < end → added day pool t u ≡ Some cost → least ≤ℤ (scaled counts cost -ℤ price_at prices u +ℤ number_at rests u)
@@ -35,8 +35,8 @@ pub record IsDeep (count t : ℕ) (rest : ℤ) : Type 0 where
   pub low : neg_ℤ (pos (10000000000000 * (count - t))) ≤ℤ rest
   pub high : rest ≤ℤ pos 100000000000000000
 
--- For each trip from one on a rest that no continuation adds less than: the pull-in does not, nor does a link to a later trip with the rest
--- behind that. It knows nothing of what may be driven between two cuts.
+-- For each trip from one on a rest that no continuation adds less than: the pull-in does not, nor does a connection to a later trip with
+-- the rest behind that. It knows nothing of what may be driven between two cuts.
 pub record AreBoundsFrom (day : DayFacts) (counts : Bool) (prices : List Price) (pool : Pool) (rests : List ℤ) (from : ℕ) : Type 0 where
   pub closes : (t : ℕ) → from ≤ t → ClosesAbove day counts pool t (number_at rests t)
   pub steps : (t : ℕ) → from ≤ t → StepsAbove day counts prices pool rests t (length day.trips) (number_at rests t)

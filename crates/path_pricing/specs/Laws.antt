@@ -54,7 +54,7 @@ module _ (day : DayFacts) (counts : Bool) (prices : List Price) (pool : Pool) (f
             record { fits = safe.steps a b u fit.fits e; from = omega (arith, later, same, from) };
       }
 
-  -- a link with a trip more, in numbers
+  -- a connection with a trip more, in numbers
   record IsMore (a b : OpenBlock) (u : ℕ) : Type 0 where
     pub cost : ℕ
     pub is_cost : added day pool a.trip u ≡ Some cost
@@ -125,7 +125,7 @@ module _ (day : DayFacts) (counts : Bool) (prices : List Price) (pool : Pool) (f
               above b limit (omega (arith, ints, high a.value more_than, value, up, same))
         ] refl
 
-    -- there is no link to the trip
+    -- there is no connection to the trip
     pub none_linked : (limit : ℤ) (t u : ℕ) → added day pool t u ≡ None →
         NoneFollows (block_labels day counts prices pool first end) (IsInRange (length day.trips) first) (λ a. a.trip)
         (is_low (floor_of rests) limit) t u
@@ -139,7 +139,7 @@ module _ (day : DayFacts) (counts : Bool) (prices : List Price) (pool : Pool) (f
               absurd (cc)
         ] refl
 
-    -- the link to the trip costs so much that no block of a value above the most stays within the limit
+    -- the connection to the trip costs so much that no block of a value above the most stays within the limit
     pub none_follows : (limit most : ℤ) (t u cost : ℕ) → added day pool t u ≡ Some cost →
         ((v : ℤ) → IsAbove most v → limit <ℤ (v +ℤ scaled counts cost -ℤ price_at prices u +ℤ number_at rests u)) →
         NoneFollowsAbove (block_labels day counts prices pool first end) (IsInRange (length day.trips) first) (λ a. a.trip) (λ a. a.value)

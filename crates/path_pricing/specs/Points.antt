@@ -20,12 +20,12 @@ by_depot (Some inward) (Some outward) = Some (inward + outward)
 abbrev pub stand_rate_at : Pool → Trip → ℕ
 stand_rate_at pool trip = cond (point_eq trip.from pool.depot) 0 pool.stand_rate
 
--- what standing from midnight to the begin of a trip would cost there
+-- what standing from midnight to the start of a trip would cost there
 abbrev pub stood_until : Bool → Pool → Option Trip → ℤ
 stood_until counts pool None = pos 0
 stood_until counts pool (Some trip) = scaled counts (stand_rate_at pool trip * unsigned_abs trip.begin.0)
 
--- what a trip and its rest add behind a link
+-- what a trip and its rest add behind a connection
 abbrev pub passed_value : List Price → List ℤ → ℕ → ℤ
 passed_value prices rests u = number_at rests u -ℤ price_at prices u
 
@@ -59,7 +59,7 @@ PointAbove day counts pool numbers stood passed t number least =
     trip.end.0 ≤ℤ next.begin.0 →
     slice_index numbers u ≡ number → least ≤ℤ passed u)
 
--- no link from a trip to one of the points before an end adds less, with the rest behind that
+-- no connection from a trip to one of the points before an end adds less, with the rest behind that
 abbrev pub PointsAbove : DayFacts → Bool → List Price → Pool → List ℤ → List ℕ → ℕ → ℕ → ℤ → Type 0
 PointsAbove day counts prices pool rests numbers t end least =
     (u cost : ℕ) → slice_index numbers u < end → added day pool t u ≡ Some cost →

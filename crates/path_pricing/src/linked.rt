@@ -1,4 +1,5 @@
-//! What the continuations of a block add at least, link by link: for days whose trips begin at too many points for rows of points.
+//! What the continuations of a block add at least, connection by connection: for days whose trips begin at too many points for rows of
+//! points.
 
 ghost use Rattle.std.specs.Prelude.{◌≡◌, ◌<◌, ◌≤◌, ◌+◌, ◌-◌, ◌*◌, ◌+ℤ◌, ◌-ℤ◌, ◌≤ℤ◌, neg_ℤ, pos, ℕ, ℤ, IfOk, Some, length, slice_get};
 ghost use Rattle.cover_core.specs.FirstLeast.{AllWithin};
@@ -17,7 +18,7 @@ use plan_core::{Memory, Price};
 use plan_params::Pool;
 use std::alloc::Global;
 
-/// What a link adds, with the rest behind it.
+/// What a connection adds, with the rest behind it.
 fn sum_over(cost: i64, price: i64, rest: i64) -> i64
     requires cost_low { pos 0 ≤ℤ cost }
     requires cost_high { cost ≤ℤ pos 3456000000000 }
@@ -81,8 +82,8 @@ fn number(numbers: &[i64], t: u32) -> i64
 }
 
 /// What the continuations behind a trip add at least, from what those behind later trips do. `lows` has for each later trip a number that
-/// neither its rest less its price nor that of a trip behind it is below: no link adds less than nothing, so once that number is no lower
-/// than what is known, the trips from there on need no look.
+/// neither its rest less its price nor that of a trip behind it is below: no connection adds less than nothing, so once that number is no
+/// lower than what is known, the trips from there on need no look.
 fn rest_behind(
     net: &PoolNet<'_>,
     class: u32,

@@ -15,10 +15,10 @@ use std::alloc::Global;
 /// The most points at which trips begin for which rows of points are made: they take 16 bytes for each trip and point.
 const MOST_POINTS: usize = 500;
 
-/// For each trip from one on what the continuations behind it add at least, as far as links go: nothing is known here of what may be driven
-/// between two cuts, nor of the greatest wait. There are at most 3,000 trips; prices are from -10,000,000,000,000 to 10,000,000,000,000.
-/// Time is in the order of the trips times the points at which they begin; where they begin at more than 500 points, of the square of the
-/// trips. It takes at most some 25 MB. `Memory` is the only error.
+/// For each trip from one on what the continuations behind it add at least, as far as connections go: nothing is known here of what may be
+/// driven between two cuts, nor of the greatest wait. There are at most 3,000 trips; prices are from -10,000,000,000,000 to
+/// 10,000,000,000,000. Time is in the order of the trips times the points at which they begin; where they begin at more than 500 points, of
+/// the square of the trips. It takes at most some 25 MB. `Memory` is the only error.
 pub fn rests_from(
     alloc: Global,
     net: &PoolNet<'_>,

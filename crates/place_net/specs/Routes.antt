@@ -6,16 +6,16 @@ use Rattle.vdv452_tables.specs.declared.net.Net.{Net}
 use Rattle.vdv452_rows.specs.declared.rows.TripRow.{TripRow}
 use Rattle.vdv452_tables.specs.LookUps.{area_on, course_on, length_on, links_from}
 
--- the links of a course
+-- the sections of a course
 abbrev pub links_of : List Point → List (Point × Point)
 links_of [] = []
 links_of (first ∷ course) = links_from first course
 
--- the length of a link in an area
+-- the length of a section in an area
 abbrev pub section_length : Net → ℕ → ℕ → Point × Point → Option ℕ
 section_length net version area link = length_on net version area link.0 link.1
 
--- the sum of the lengths of links, if each has one
+-- the sum of the lengths of sections, if each has one
 abbrev pub length_over : (Point × Point → Option ℕ) → List (Point × Point) → Option ℕ
 length_over length_of links =
     if list_all (λ link. is_some (length_of link)) links then Some (sum_by (λ link. unwrap_or (length_of link) 0) links) else None

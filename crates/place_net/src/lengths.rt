@@ -7,7 +7,7 @@ ghost use Rattle.place_net.specs.Routes.{length_over, links_of, route_metres, se
 use plan_core::Point;
 use vdv452_tables::{Network, TripRow};
 
-/// The length of the links from a point on, in metres; None where one of them has no length.
+/// The length of the sections from a point on, in metres; None where one of them has no length.
 fn length_from(
     net: &Network,
     version: u32,
@@ -33,7 +33,7 @@ fn length_from(
     Some(metres)
 }
 
-/// The length of a course in metres; None where a link has no length.
+/// The length of a course in metres; None where a section has no length.
 fn course_length(net: &Network, version: u32, area: u32, course: &[Point]) -> Option<u64>
     requires { length course.now < 2 ^ 32 }
     ensures value { result ≡ length_over (section_length net.now version area) (links_of course.now) }
@@ -45,14 +45,14 @@ fn course_length(net: &Network, version: u32, area: u32, course: &[Point]) -> Op
     }
 }
 
-/// How far a trip goes, in metres: the sum of the lengths of the links of its course (SEL_LAENGE of
-/// REC_SEL, in the area of REC_LID). Equal neighbouring points are a link, and a course of fewer
+/// How far a trip goes, in metres: the sum of the lengths of the sections of its course (SEL_LAENGE of
+/// REC_SEL, in the area of REC_LID). Equal neighbouring points are a section, and a course of fewer
 /// than two points has length 0. None exactly where REC_LID has no row of the trip's line and
-/// variant, or a link of its course has no length. It takes no memory.
+/// variant, or a section of its course has no length. It takes no memory.
 pub fn route_length(net: &Network, version: u32, row: &TripRow) -> Option<u64>
     ensures value { result ≡ route_metres net.now version row.now }
 
-    // A course has fewer than 2^32 links of at most 1,000,000 metres.
+    // A course has fewer than 2^32 sections of at most 1,000,000 metres.
     ensures range { IfSome result (λ metres. metres ≤ 1000000 * 2 ^ 32) }
 {
     match net.area(version, row.line, &row.variant) {

@@ -49,7 +49,7 @@ pub enum CertFault {
     /// The first place that is wrong: a table that is missing, stands twice or lacks a column; the first row that names no pass, class or
     /// item, has a number out of range, or gives a price that a row before it gives; or a table that lacks a price.
     Form(Place),
-    /// Want of memory.
+    /// Out of memory.
     Memory,
 }
 

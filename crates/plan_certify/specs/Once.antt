@@ -27,7 +27,7 @@ CertifiesThePlan facts =
     (table : Table) (one other : List ℕ) (plan : IsPlanTextOver facts asked table one) (cert : IsCertTextOver facts asked other) →
     (plan.blocks ≡ cert.blocks) × (plan.duties ≡ cert.duties)
 
--- a day whose certificate has a text has no cause for a refusal, but for want of memory
+-- a day whose certificate has a text has no cause for a refusal, but for running out of memory
 abbrev pub HasCertOrCause : DayFacts → Type 0
 HasCertOrCause facts =
     (asked : Asked) → asked.numbers.climb ≡ false → (bytes : List ℕ) (fault : PlanFault) → IsCertTextOver facts asked bytes →

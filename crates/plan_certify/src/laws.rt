@@ -10,7 +10,7 @@ use plan_command::day_answers_once;
 
 /// The certificate of a day is a function of the day and its plan: two certificates of the same blocks and duties are the same, by either
 /// method. A day that is planned by fixed rounds has one text of a certificate, and it certifies the plan that `plan_command::plan_text`
-/// writes. A day with such a text, or with the text of a plan, has no cause for a refusal but want of memory.
+/// writes. A day with such a text, or with the text of a plan, has no cause for a refusal but running out of memory.
 pub fn day_is_certified_once()
     ensures cert { (facts : DayFacts) → HasOneCert facts }
     ensures text { (facts : DayFacts) → HasOneCertText facts }

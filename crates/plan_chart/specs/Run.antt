@@ -45,7 +45,7 @@ pub record TakesPage (bytes : List ℕ) (taken : Option (List ℕ)) (old : List 
   pub is : IsPage bytes page
   pub whole : taken ≡ Some (old ++ page)
 
--- a front of it was added
+-- an initial part of it was added
 pub record TakesFrontOfPage (bytes : List ℕ) (taken : Option (List ℕ)) (old : List ℕ) : Type 0 where
   pub page : List ℕ
   pub is : IsPage bytes page
@@ -77,7 +77,7 @@ read_status refusals.Fault = statuses.ReadFault
 read_status refusals.TooLarge = statuses.Text (record { line = 0; kind = kinds.TooLarge })
 read_status refusals.Memory = statuses.Memory
 
--- why a file has no page: what it holds, where that is told, or a count of faults that rose; want of memory needs no cause
+-- why a file has no page: what it holds, where that is told, or a count of faults that rose; running out of memory needs no cause
 abbrev pub IsCause : Option (List ℕ) → ℕ → ℕ → Status → Type 0
 IsCause held before now statuses.Memory = Unit {0}
 IsCause held before now statuses.ReadFault = Rose before now
@@ -87,7 +87,7 @@ IsCause held before now statuses.Ok = ⊥
 IsCause held before now statuses.Usage = ⊥
 IsCause held before now statuses.WriteFault = ⊥
 
--- a page is written whole, or a front of it and then the count of faults rose
+-- a page is written whole, or an initial part of it and then the count of faults rose
 abbrev pub IsWritten : Option (List ℕ) → Option (List ℕ) → ℕ → ℕ → List ℕ → Status → Type 0
 IsWritten old new before now page statuses.Ok = IfSome old (λ bytes. new ≡ Some (bytes ++ page))
 IsWritten old new before now page statuses.WriteFault = IfSome old (λ bytes. TakesFront bytes new page) × Rose before now

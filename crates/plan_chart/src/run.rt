@@ -163,7 +163,7 @@ pub fn run<F: Files, O: Sink, E: Sink>(
     ensures read_fault { result ≡ Status.ReadFault → IfSome (asked_by words.now) (λ name. Rose (F.faults files.old name) (F.faults files.new name)) }
     ensures write_fault { result ≡ Status.WriteFault → Rose (O.faults out.old) (O.faults out.new) }
 
-    // What the sink took: the whole page and nothing else, a front of it, or nothing.
+    // What the sink took: the whole page and nothing else, an initial part of it, or nothing.
     ensures ok { result ≡ Status.Ok → IfSome (asked_by words.now) (λ name. IfSome (F.held files.old name) (λ bytes. IfSome (O.taken out.old) (spec.TakesPage bytes (O.taken out.new)))) }
     ensures front { result ≡ Status.WriteFault → IfSome (asked_by words.now) (λ name. IfSome (F.held files.old name) (λ bytes. IfSome (O.taken out.old) (spec.TakesFrontOfPage bytes (O.taken out.new)))) }
     ensures nothing { result ≢ Status.Ok → result ≢ Status.WriteFault → out.new ≡ out.old }

@@ -19,7 +19,7 @@ pub enum Status {
     Form(Place),
     /// A read of the file failed.
     ReadFault,
-    /// A write failed; what was taken before is a front of the page.
+    /// A write failed; what was taken before is an initial part of the page.
     WriteFault,
     /// Memory ran out.
     Memory,

@@ -20,14 +20,14 @@ abbrev pub HasOneText : DayFacts → Type 0
 HasOneText facts = (asked : Asked) → asked.numbers.climb ≡ false → (table : Table) (one other : List ℕ) →
     IsPlanTextOver facts asked table one → IsPlanTextOver facts asked table other → one ≡ other
 
--- two refusals of a day with a cause are the same, but for want of memory
+-- two refusals of a day with a cause are the same, but for running out of memory
 abbrev pub HasOneCause : DayFacts → Type 0
 HasOneCause facts =
     (asked : Asked) → asked.numbers.climb ≡ false → (one other : PlanFault) → IsPlanCauseOver facts asked one →
     IsPlanCauseOver facts asked other →
     (one ≡ other) ⊎ ((one ≡ faults.Memory) ⊎ (other ≡ faults.Memory))
 
--- a day that has a text has no cause for a refusal, but for want of memory
+-- a day that has a text has no cause for a refusal, but for running out of memory
 abbrev pub HasTextOrCause : DayFacts → Type 0
 HasTextOrCause facts =
     (asked : Asked) → asked.numbers.climb ≡ false → (table : Table) (bytes : List ℕ) (fault : PlanFault) →

@@ -140,7 +140,7 @@ abbrev pub IsLeftItem : DayFacts → Asked → Side → ℕ → ItemName → Lis
 IsLeftItem facts asked Vehicles item name partial = IsLeftTrip facts item name partial
 IsLeftItem facts asked Drivers item name partial = IsLeftPiece facts asked item name partial
 
--- why a day has no plan; want of memory needs no cause
+-- why a day has no plan; running out of memory needs no cause
 abbrev pub IsPlanCauseOver : DayFacts → Asked → PlanFault → Type 0
 IsPlanCauseOver facts asked (faults.NoPlan side bound places) =
     PlanEndsAs facts asked (refused side bound places) × HasNoneOf facts asked side

@@ -44,6 +44,6 @@ pub enum PlanFault {
         /// The blocks or duties beside which it is left.
         partial: Plan,
     },
-    /// Want of memory.
+    /// Out of memory.
     Memory,
 }

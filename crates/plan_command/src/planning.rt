@@ -246,7 +246,7 @@ fn duties_fault(pieces: &[Piece], fault: CoverFault) -> PlanFault
     }
 }
 
-/// The pieces that the blocks of a plan of a day are cut into, by begin, block and index. `Memory` is the only error.
+/// The pieces that the blocks of a plan of a day are cut into, by start, block and index. `Memory` is the only error.
 pub fn block_pieces(alloc: Global, model: &Day, blocks: &Plan) -> Result<Seq<Piece>, Memory>
     requires plan { IsPlan (blocks_of model.now false) blocks.now.columns }
     ensures pieces { IfOk result (λ pieces. pieces ≡ pieces_of_plan model.now blocks.now.columns) }

@@ -3,7 +3,7 @@
 //! A *dive* fixes columns of a pool one after another, those first that a climb of the prices chose most often (diving heuristics of
 //! column generation). What is fixed leaves a smaller problem: fewer items, fewer places, a lower aim. The prices climb again on the
 //! columns that are still in play, and so on until no column is left that can be fixed; then rounding places the items that are left. In
-//! a *partial* dive some columns of a plan stay from the begin on, and the rest is priced anew a few times.
+//! a *partial* dive some columns of a plan stay from the start on, and the rest is priced anew a few times.
 //!
 //! Columns are priced by workers in threads. Only [`price`] sees how many there are, and its clauses determine its answer; all other code
 //! here hands the workers, the threads and the gate on and asks them nothing. So by its form a dive gives the same plan for any number of

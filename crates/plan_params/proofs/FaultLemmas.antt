@@ -125,7 +125,7 @@ module _ (net : Net) (version : ℕ) (none : first_fault net version ≡ None) w
       (table_faults net version reliefs) _ (rest_empty
       (table_faults net version line_types) _ (rest_empty (table_faults net version depots) _ tables_right)))))
 
--- No fault of the tables is want of memory.
+-- No fault of the tables is running out of memory.
 abbrev Each : {A : Type 0} → (A → Type 0) → List A → Type 0
 Each P [] = Unit {0}
 Each P (x ∷ xs) = P x × Each P xs

@@ -52,7 +52,7 @@ param_faults net version = plan_faults net ++ flat_map (table_faults net version
 unfoldable pub first_fault : Net → ℕ → Option ParamFault
 first_fault net version = first (param_faults net version)
 
--- want of memory, which names no table
+-- running out of memory, which names no table
 abbrev pub memory_fault : ParamFault
 memory_fault = fault kinds.Memory [] 0
 
@@ -60,6 +60,6 @@ memory_fault = fault kinds.Memory [] 0
 abbrev pub fault_of : Found → ParamFault
 fault_of found = fault found.kind found.table.now found.row
 
--- want of memory, or what is found
+-- running out of memory, or what is found
 abbrev pub IsRefusal : Option ParamFault → ParamFault → Type 0
 IsRefusal found refused = (refused ≡ memory_fault) ⊎ (found ≡ Some refused)

@@ -23,13 +23,13 @@ pub enum ParamKind {
     /// A type of vehicles has no row in MENGE_FZG_TYP of the version.
     #[error("an unknown type of vehicles")]
     UnknownType,
-    /// Want of memory.
+    /// Out of memory.
     #[error("out of memory")]
     Memory,
 }
 
 /// The first fault of the settings. Rows count from 1, and those past 4,294,967,295 count as that one.
-/// The row is 0 where the fault is about the table as a whole. For want of memory the table is empty
+/// The row is 0 where the fault is about the table as a whole. For running out of memory the table is empty
 /// and the row is 0.
 #[derive(Debug, Drop)]
 pub struct ParamFault {
@@ -39,7 +39,7 @@ pub struct ParamFault {
 }
 
 impl ParamFault {
-    /// Want of memory. It takes no memory.
+    /// Out of memory. It takes no memory.
     pub(crate) fn memory(alloc: Global) -> ParamFault
         ensures { result ≡ memory_fault }
     {
@@ -57,7 +57,7 @@ fn copied_name(alloc: Global, name: &str) -> Result<Bytes, Memory>
     Ok(Bytes::from_vec(Vec::from_slice(alloc, name.as_bytes())?))
 }
 
-/// The fault that is found, or want of memory.
+/// The fault that is found, or running out of memory.
 pub(crate) fn refusal_of(alloc: Global, found: &Found<'_>) -> ParamFault
     ensures { IsRefusal (Some (fault_of found.now)) result }
 {

@@ -89,13 +89,13 @@ fn read_faultless(alloc: Global, net: &Network) -> Result<Params, Memory>
 /// order; in a table `TooMany` where X_HOF or X_FAHRER has more than 32 rows, then row by row
 /// `UnknownPoint` and `UnknownType`. In a row of X_HOF the point is tested before the type, and in a
 /// row of X_WEG the point where the way begins before the other. The lines of X_LINIE_FZG are not
-/// tested. `Memory` comes for want of memory alone.
+/// tested. `Memory` comes only when out of memory.
 pub fn read_params(alloc: Global, net: &Network, version: u32) -> Result<Params, ParamFault>
     ensures value { IfOk result (λ params. params ≡ params_of net.now) }
     ensures ranges { IfOk result HaveRanges }
     ensures faultless { OnOk result (first_fault net.now version ≡ None) }
 
-    // An error is want of memory or the first fault.
+    // An error is running out of memory or the first fault.
     ensures fault { IfErr result (λ fault. fault.kind ≢ ParamKind.Memory → first_fault net.now version ≡ Some fault) }
     ensures memory { IfErr result (λ fault. fault.kind ≡ ParamKind.Memory → fault ≡ memory_fault) }
 {

@@ -83,7 +83,7 @@ read_first text (Some p) = Err p
 abbrev pub read_places : DayFacts → List Table → Result PlanText Place
 read_places day tables = read_first (reading.said day tables) (first (reading.places_of day tables))
 
--- a fault with the name of its table, or want of memory
+-- a fault with the name of its table, or running out of memory
 abbrev pub IsNamed : ReadFault → PlanFault → Type 0
 IsNamed (Form p) (plan_faults.Form table row) = (name_of p.table ≡ table) × (p.row ≡ row)
 IsNamed Memory (plan_faults.Form table row) = ⊥

@@ -52,7 +52,7 @@ pub struct Place {
 pub enum ReadFault {
     /// The first place where the tables are wrong.
     Form(Place),
-    /// Want of memory.
+    /// Out of memory.
     Memory,
 }
 

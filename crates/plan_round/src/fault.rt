@@ -12,6 +12,6 @@ pub enum RoundFault {
         /// The columns beside which it is left: a part of a plan, without the item.
         partial: Plan,
     },
-    /// Want of memory.
+    /// Out of memory.
     Memory,
 }

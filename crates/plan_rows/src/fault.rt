@@ -13,7 +13,7 @@ pub enum RowFault {
     /// The first place that is not drawn: a table that is missing or stands twice, the first row that is one too many, or the first row
     /// that says no trip, block, leg, duty, piece or bound.
     Form(Place),
-    /// Want of memory.
+    /// Out of memory.
     Memory,
 }
 

@@ -1,4 +1,4 @@
--- A command that makes a day ends well, or for want of memory, or with a write that fails.
+-- A command that makes a day ends well, or for running out of memory, or with a write that fails.
 use Rattle.std.proofs.Common.{◌≡◌, ℕ, zero, suc, ◌≤◌, Bool, true, false, IfSome, List, [], Option, Some, refl, sym, subst, arith}
 use Rattle.std.specs.Prelude.{take}
 use Rattle.command_words.specs.Words.{asked}

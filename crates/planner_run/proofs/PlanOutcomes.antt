@@ -32,7 +32,7 @@ days_either facts = text_or_cause_of facts (planning_ends_once facts)
 short_either : (facts : DayFacts) → HasShortTextOrCause facts
 short_either facts = short_or_cause_of facts (planning_ends_once facts)
 
--- two causes, neither of which is want of memory, are one
+-- two causes, neither of which is running out of memory, are one
 same_fault : (one other : PlanFault) → (one ≡ faults.Memory → ⊥) → (other ≡ faults.Memory → ⊥) →
     (one ≡ other) ⊎ ((one ≡ faults.Memory) ⊎ (other ≡ faults.Memory)) → one ≡ other
 same_fault one other p q (inl same) = same

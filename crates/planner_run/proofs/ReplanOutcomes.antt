@@ -19,11 +19,11 @@ use Rattle.planner_run.proofs.ModelOutcomes.{days_alike, model_no_cause, one_mod
 use Rattle.planner_run.proofs.Outcomes.{some_same}
 use Rattle.planner_run.proofs.PlanOutcomes.{in_rounds}
 
--- not want of memory
+-- not running out of memory
 abbrev IsTold : ReplanFault → Type 0
 IsTold fault = fault ≡ faults.Plan plans.Memory → ⊥
 
--- two causes, neither of which is want of memory, are one
+-- two causes, neither of which is running out of memory, are one
 same_fault : (one other : ReplanFault) → IsTold one → IsTold other →
     (one ≡ other) ⊎ ((one ≡ faults.Plan plans.Memory) ⊎ (other ≡ faults.Plan plans.Memory)) → one ≡ other
 same_fault one other p q (inl same) = same

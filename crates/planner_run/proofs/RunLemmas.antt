@@ -1,4 +1,4 @@
--- Where no count rises an answer that is unread is want of memory.
+-- Where no count rises an answer that is unread is running out of memory.
 use Rattle.std.proofs.Common.{◌≡◌, ℕ, zero, suc, ◌+◌, ◌-◌, ◌<◌, ◌⊎◌, inl, inr, List, [], ◌∷◌, length, take, Option, Some, None, IfSome, IsSomeAnd, refl, sym, ◌∙◌, subst, arith, slice_index_or}
 use Rattle.std.proofs.lemmas.Bool.{cases_lt}
 use Rattle.vdv451_text.specs.declared.table.Table.{Table}

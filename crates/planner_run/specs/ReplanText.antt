@@ -47,7 +47,7 @@ IsReplanCause numbers moment tables old day status = IsModelCause tables day sta
 abbrev pub IsReplanRefused : Numbers → ℕ → List Table → List Table → ℕ → Status → Type 0
 IsReplanRefused numbers moment tables old day status = (status ≡ statuses.Memory) ⊎ IsReplanCause numbers moment tables old day status
 
--- the status for a day without a new plan, with its cause; want of memory needs none
+-- the status for a day without a new plan, with its cause; running out of memory needs none
 pub record IsReplanStatus (facts : DayFacts) (old : List Table) (moment : ℕ) (numbers : Numbers) (status : Status) : Type 0 where
   pub fault : ReplanFault
   pub cause : IsReplanCauseOver facts old moment numbers fault

@@ -125,7 +125,7 @@ IsRefusal task contents day (statuses.NotPlaced side item name partial) =
 IsRefusal task contents day (statuses.OldPlan reason) = IsTablesRefusal task contents day (statuses.OldPlan reason)
 IsRefusal task contents day _ = ⊥
 
--- why there is no text: a refusal, or a count of faults that rose; want of memory needs no cause
+-- why there is no text: a refusal, or a count of faults that rose; running out of memory needs no cause
 abbrev pub IsAnswerCause : (Status → Type 0) → (ℕ → Type 0) → Status → Type 0
 IsAnswerCause refusal read_fault statuses.Memory = Unit {0}
 IsAnswerCause refusal read_fault (statuses.ReadFault file) = read_fault file
@@ -143,14 +143,14 @@ pub record TakesAnswer (task : Task) (contents : List (List ℕ)) (day : ℕ) (e
   pub answer : IsAnswer task contents day ending bytes
   pub whole : taken ≡ Some (old ++ bytes)
 
--- a front of the text was added
+-- an initial part of the text was added
 pub record TakesFrontOfAnswer (task : Task) (contents : List (List ℕ)) (day : ℕ) (taken : Option (List ℕ)) (old : List ℕ) : Type 0 where
   pub ending : Status
   pub bytes : List ℕ
   pub answer : IsAnswer task contents day ending bytes
   pub front : TakesFront old taken bytes
 
--- a text is written whole, and then the status is the one meant; or a front of it, and then the count of faults rose
+-- a text is written whole, and then the status is the one meant; or an initial part of it, and then the count of faults rose
 abbrev pub IsWritten : Option (List ℕ) → Option (List ℕ) → ℕ → ℕ → List ℕ → Status → Status → Type 0
 IsWritten old new faults_before faults_now text ending status =
     ((status ≡ ending) × IfSome old (λ bytes. new ≡ Some (bytes ++ text))) ⊎

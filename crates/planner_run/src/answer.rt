@@ -401,7 +401,7 @@ pub fn carry_out<R: Threads + Sync, F: Files, O: Sink, G: Gate + Sync>(
     ensures read_fault { (file : ℕ) → result ≡ Status.ReadFault file → IsReadFault (stage_of (task_of request.now)) (F.held files.old) request.now.names (F.faults files.old) (F.faults files.new) file }
     ensures write_fault { result ≡ Status.WriteFault → Rose (O.faults out.old) (O.faults out.new) }
 
-    // What the sink took: the whole text, a front of it, or nothing. Only a check ends with a no.
+    // What the sink took: the whole text, an initial part of it, or nothing. Only a check ends with a no.
     ensures ok { is_done result ≡ true → IfSome (told (F.held files.old) request.now) (λ contents. IfSome (O.taken out.old) (TakesAnswer (task_of request.now) contents request.now.day result (O.taken out.new))) }
     ensures front { result ≡ Status.WriteFault → IfSome (told (F.held files.old) request.now) (λ contents. IfSome (O.taken out.old) (TakesFrontOfAnswer (task_of request.now) contents request.now.day (O.taken out.new))) }
     ensures only { (end : RunStatus) (bytes : List ℕ) → result ≡ Status.Ok → climbs (task_of request.now) ≡ false → checks (task_of request.now) ≡ false
@@ -414,8 +414,8 @@ pub fn carry_out<R: Threads + Sync, F: Files, O: Sink, G: Gate + Sync>(
     ensures same { (other : List ℕ) → F.held files.new other ≡ F.held files.old other }
     ensures unmoved { result ≢ Status.WriteFault → O.faults out.new ≡ O.faults out.old }
 
-    // Where no count rises, what the files call for is answered, or want of memory; but for which plan or refusal of planning climbing
-    // ends with.
+    // Where no count rises, what the files call for is answered, or running out of memory; but for which plan or refusal of planning
+    // climbing ends with.
     ensures refused { (status : RunStatus) → is_open (task_of request.now) status ≡ false → IsSomeAnd (told_for (F.held files.old) request.now.names status) (λ contents. IsRefusal (task_of request.now) contents request.now.day status)
         → NoneRose (names_for request.now.names status) (F.faults files.old) (F.faults files.new) → (result ≡ status) ⊎ (result ≡ Status.Memory) }
     ensures complete { climbs (task_of request.now) ≡ false → IsSomeAnd (told (F.held files.old) request.now) (λ contents. (end : RunStatus) × (bytes : List ℕ) × IsAnswer (task_of request.now) contents request.now.day end bytes)

@@ -117,7 +117,7 @@ fn tell_word<E: Sink>(err: &mut E, fid: u64, word: &[u8])
     let _ = write_part(err, is_whole, b"\n");
 }
 
-/// Writes a trip and the link that has no run time.
+/// Writes a trip and the section that has no run time.
 fn tell_gap<E: Sink>(err: &mut E, fid: u64, from: Point, to: Point)
     ensures { IsTold (E.taken err.old) (E.taken err.new) (E.faults err.old) (E.faults err.new) (joined (codes "trip " ∷ decimal fid ∷ codes ": " ∷ codes "NoRunTime " ∷ decimal from.typ ∷ codes "/" ∷ decimal from.nr ∷ codes " to " ∷ decimal to.typ ∷ codes "/" ∷ decimal to.nr ∷ codes "\n" ∷ [])) }
 {

@@ -76,8 +76,8 @@ pub fn run<R: Threads + Sync, F: Files, O: Sink, E: Sink, G: Gate + Sync>(
     ensures read_fault { (file : ℕ) → result ≡ Status.ReadFault file → IfSome (asked words.now) (λ request. IsReadFault (stage_of (task_of request)) (F.held files.old) request.names (F.faults files.old) (F.faults files.new) file) }
     ensures write_fault { result ≡ Status.WriteFault → Rose (O.faults out.old) (O.faults out.new) }
 
-    // What the sink took: the whole text, and no other unless a plan is found by climbing or checked; a front of it; or nothing. Only a check
-    // ends with a no.
+    // What the sink took: the whole text, and no other unless a plan is found by climbing or checked; an initial part of it; or nothing.
+    // Only a check ends with a no.
     ensures ok { is_done result ≡ true → IfSome (asked words.now) (λ request. IfSome (told (F.held files.old) request) (λ contents. IfSome (O.taken out.old) (TakesAnswer (task_of request) contents request.day result (O.taken out.new)))) }
     ensures front { result ≡ Status.WriteFault → IfSome (asked words.now) (λ request. IfSome (told (F.held files.old) request) (λ contents. IfSome (O.taken out.old) (TakesFrontOfAnswer (task_of request) contents request.day (O.taken out.new)))) }
     ensures only { (request : RunRequest) (end : RunStatus) (bytes : List ℕ) → result ≡ Status.Ok → asked words.now ≡ Some request → climbs (task_of request) ≡ false → checks (task_of request) ≡ false
@@ -85,7 +85,7 @@ pub fn run<R: Threads + Sync, F: Files, O: Sink, E: Sink, G: Gate + Sync>(
     ensures nothing { is_done result ≡ false → result ≢ Status.WriteFault → out.new ≡ out.old }
     ensures ending { is_done result ≡ true → IfSome (asked words.now) (λ request. IsEndingOf (task_of request) result) }
 
-    // A day that is made has a plan, whatever the seed: nothing but want of memory and a write that fails keeps its text back.
+    // A day that is made has a plan, whatever the seed: nothing but running out of memory and a write that fails keeps its text back.
     ensures made { (request : RunRequest) → asked words.now ≡ Some request → makes request.command ≡ true → IsMadeEnding result }
 
     // A count of faults moves only with the answer of that fault, and the files hold what they held.
@@ -97,8 +97,8 @@ pub fn run<R: Threads + Sync, F: Files, O: Sink, E: Sink, G: Gate + Sync>(
     ensures quiet { is_done result ≡ true → err.new ≡ err.old }
     ensures line { is_done result ≡ false → IsTold (E.taken err.old) (E.taken err.new) (E.faults err.old) (E.faults err.new) (line_of (day_said words.now) result) }
 
-    // Where no count rises, what the files call for is answered, or want of memory; but for which plan or refusal of planning climbing
-    // ends with.
+    // Where no count rises, what the files call for is answered, or running out of memory; but for which plan or refusal of planning
+    // climbing ends with.
     ensures refused { (status : RunStatus) (request : RunRequest) → asked words.now ≡ Some request → is_open (task_of request) status ≡ false → IsSomeAnd (told_for (F.held files.old) request.names status) (λ contents. IsRefusal (task_of request) contents request.day status)
         → NoneRose (names_for request.names status) (F.faults files.old) (F.faults files.new) → (result ≡ status) ⊎ (result ≡ Status.Memory) }
     ensures complete { (request : RunRequest) → asked words.now ≡ Some request → climbs (task_of request) ≡ false → IsSomeAnd (told (F.held files.old) request) (λ contents. (end : RunStatus) × (bytes : List ℕ) × IsAnswer (task_of request) contents request.day end bytes)

@@ -79,7 +79,7 @@ pub enum Status {
     ReadFault {
         file: u32,
     },
-    /// A write failed; what was taken before is a front of the text.
+    /// A write failed; what was taken before is an initial part of the text.
     WriteFault,
     /// Memory ran out.
     Memory,

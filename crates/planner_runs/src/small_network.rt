@@ -25,13 +25,13 @@ pub const ONE_VEHICLE: Change = (
     "rec; 1; 2; 9; 1; 1; 1000; 1; 0",
 );
 
-/// The turn is one second short, and the way by the depot too long.
+/// The minimum layover is one second short, and the way by the depot too long.
 pub const TOO_SOON: &[Change] = &[(SECOND, "rec; 1; 2; 32699; 1; 1; 1; 1; \"R\"; NULL")];
 
 /// The stand is longer than the greatest wait.
 pub const LATE: &[Change] = &[(SECOND, "rec; 1; 2; 40000; 1; 1; 1; 1; \"R\"; NULL")];
 
-/// The turn is just long enough.
+/// The minimum layover is just long enough.
 pub const IN_TIME: &[Change] = &[(SECOND, "rec; 1; 2; 32700; 1; 1; 1; 1; \"R\"; NULL")];
 
 /// Both trips run from A to B at one time.
@@ -124,7 +124,7 @@ pub const NO_TRIPS: &[Change] = &[
     (SECOND, "rec; 1; 2; 33000; 1; 2; 1; 1; \"R\"; NULL"),
 ];
 
-/// The link from B to A has no run time.
+/// The section from B to A has no run time.
 pub const NO_RUN_TIME: &[Change] = &[(
     "rec; 1; 1; 1; 1; 1; 2; 1; 3600\nrec; 1; 1; 1; 1; 2; 1; 1; 3600\nend; 2\n",
     "rec; 1; 1; 1; 1; 1; 2; 1; 3600\nend; 1\n",

@@ -154,7 +154,7 @@ fn reads_that_fail_are_answered(rt: HostRuntime) -> Result<(), Fail> {
     Ok(())
 }
 
-/// Whether bytes are so many pieces of 100 bytes, the front of a whole text.
+/// Whether bytes are so many pieces of 100 bytes, the initial part of a whole text.
 fn is_front(whole: &[u8], taken: &[u8], pieces: u64) -> bool {
     taken.len() % 100 == 0 && taken.len() as u64 / 100 == pieces && whole.starts_with(taken)
 }
@@ -178,7 +178,7 @@ fn end_in_writes<R: Threads + Sync>(
     )
 }
 
-/// Whether a command whose write of this number fails leaves the front of the whole text that was taken before.
+/// Whether a command whose write of this number fails leaves the initial part of the whole text that was taken before.
 fn leaves_front<R: Threads + Sync>(
     rt: &R,
     alloc: Global,

@@ -72,7 +72,7 @@ module _ (p : Problem) (round : ℕ) (s : Standing) (prices : List Price) (pool 
       (step_size_of (greatest_of (starting_prices p)) round) l) at_prices
       ∙ sym (round_prices p round s))))
 
--- the offer at the begin of a price round
+-- the offer at the start of a price round
 abbrev round_offer : Problem → ℕ → Kept
 round_offer p n = offer_at p (after_rounds p n).prices
 

@@ -1,4 +1,4 @@
--- Prices after turns and columns, and the greatest of them.
+-- Prices after price steps and columns, and the greatest of them.
 use Rattle.std.proofs.Common.{◌≡◌, ℕ, ℤ, pos, neg_ℤ, ◌+◌, ◌<◌, ◌≤◌, ◌≤ℤ◌, zero, suc, List, [], ◌∷◌, ◌++◌, drop, length, get_or, refl, sym, ap, ◌∙◌, subst, arith, add-one}
 use Rattle.std.specs.Int.{int_max}
 use Rattle.std.proofs.Math.Seq.{drop-cons}
@@ -37,7 +37,7 @@ get_high n [] i d h w = absurd (omega arith)
 get_high n (x ∷ xs) zero d h w = w.1
 get_high n (x ∷ xs) (suc i) d h w = get_high n xs i d (omega arith) w.2
 
--- the greatest of a front and of what follows
+-- the greatest of an initial part and of what follows
 pub greatest_low : (prices : List Price) → pos 0 ≤ℤ greatest_of prices
 greatest_low [] = omega (arith, ints)
 greatest_low (x ∷ xs) = omega (arith, ints, clamps, greatest_low xs)
@@ -54,7 +54,7 @@ greater_low g x m a low = omega (arith, ints, clamps)
 pub greater_high : (g x m : ℤ) → m ≡ int_max x g → x ≤ℤ pos 10000000000000 → g ≤ℤ pos 10000000000000 → m ≤ℤ pos 10000000000000
 greater_high g x m a high too = omega (arith, ints, clamps)
 
--- one turn more
+-- one price step more
 pub turned_none : (pool : List Column) (caps : List ℕ) (size : ℤ) (prices : List Price) → prices ≡ turned_often 0 pool caps size prices
 unfolding turned_often
 turned_none pool caps size prices = refl

@@ -17,7 +17,7 @@ abbrev pub pool_with : List Column → List Column → List Column
 pool_with pool [] = pool
 pool_with pool (c ∷ cs) = pool_with (pool_after pool c) cs
 
--- prices after so many turns of a size over a pool
+-- prices after so many price steps of a size over a pool
 unfoldable pub turned_often : ℕ → List Column → List ℕ → ℤ → List Price → List Price
 turned_often zero pool caps size prices = prices
 turned_often (suc n) pool caps size prices = turned_prices pool (turned_often n pool caps size prices) caps size
@@ -37,7 +37,7 @@ pub record Standing : Type 0 where
   pub prices : List Price
   pub pool : List Column
 
--- a price round, counted from 1: what is priced is added to the pool in its order, and then 16 turns are made
+-- a price round, counted from 1: what is priced is added to the pool in its order, and then 16 price steps are made
 unfoldable pub round_from : Problem → ℕ → Standing → Standing
 round_from p round s = record {
   prices = turned_often 16 (pool_with s.pool (priced_columns p s.prices)) p.caps
@@ -59,15 +59,15 @@ after_lowering p rounds (suc n) = lowered_in_order (priced_columns p (after_lowe
 abbrev pub offer_at : Problem → List Price → Kept
 offer_at p prices = offer_of prices (priced_least p prices) p.caps
 
--- the offers at the begin of each price round
+-- the offers at the start of each price round
 abbrev pub round_offers : Problem → ℕ → List Kept
 round_offers p rounds = map (λ n. offer_at p (after_rounds p n).prices) (range_with_len 0 rounds)
 
--- the offers at the begin of so many lowering rounds
+-- the offers at the start of so many lowering rounds
 abbrev pub lowering_offers : Problem → ℕ → ℕ → List Kept
 lowering_offers p rounds lower = map (λ n. offer_at p (after_lowering p rounds n)) (range_with_len 0 lower)
 
--- all offers: at the begin of each price round, at the begin of each lowering round, and one after the last of these
+-- all offers: at the start of each price round, at the start of each lowering round, and one after the last of these
 abbrev pub all_offers : Problem → ℕ → ℕ → List Kept
 all_offers p rounds lower = round_offers p rounds ++ lowering_offers p rounds (lower + 1)
 

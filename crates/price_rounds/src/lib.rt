@@ -1,8 +1,8 @@
 //! Rounds of prices over a problem: the pool of columns from which a plan is made, and the prices of the greatest bound.
 //!
 //! A *pass* begins at the start prices with an empty pool. In each price round the prices are offered, the columns of least value are
-//! added to the pool, and 16 turns move the prices. In each lowering round the prices are offered, and the columns of least value lower
-//! them one after another. The prices are offered once more, and of all offers the first one with the greatest bound is kept. No plan
+//! added to the pool, and 16 price steps move the prices. In each lowering round the prices are offered, and the columns of least value
+//! lower them one after another. The prices are offered once more, and of all offers the first one with the greatest bound is kept. No plan
 //! costs less than its bound (weak duality of linear programming).
 //!
 //! Columns are priced by workers in threads. What a pass gives is defined without them (`specs/Rounds.antt`), so it is the same for any

@@ -66,7 +66,7 @@ pub fn add_all<C: Columns>(
     Ok(())
 }
 
-/// The prices after the turns of a round.
+/// The prices after the price steps of a round.
 pub(crate) fn turn_often<C: Columns>(
     alloc: Global,
     columns: &C,

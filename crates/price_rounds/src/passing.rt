@@ -22,7 +22,7 @@ use std::alloc::Global;
 use std::thread::Threads;
 use worker_price::least_values;
 
-/// The size of the turns of a round, counted from 1.
+/// The size of the price steps of a round, counted from 1.
 fn size_of(greatest: i64, round: u32) -> i64
     requires low { pos 0 ≤ℤ greatest }
     requires high { greatest ≤ℤ pos 10000000000000 }
@@ -183,7 +183,7 @@ fn all_rounds<R: Threads + Sync, P: Pricer + Sync, G: Gate + Sync>(
 /// Makes the rounds of a pass over a problem, and gives its pool and the kept offer.
 ///
 /// The pool has the columns that the price rounds found, in order of arrival and at most 200,000 of them. The kept offer is the first
-/// one of the greatest bound among the prices at the begin of each price round and of each lowering round and after the last of them.
+/// one of the greatest bound among the prices at the start of each price round and of each lowering round and after the last of them.
 /// Its class prices are those of the least values, so the prices are paid: no list is worth less than its prices less the price of its
 /// class, and no plan costs less than the bound. All of this is the same for any number of workers, any gate and any order of steps.
 ///

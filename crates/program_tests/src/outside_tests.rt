@@ -217,7 +217,7 @@ struct Started<'w> {
     words: &'w [Bytes],
 }
 
-/// Copies a word into the front of a buffer.
+/// Copies a word into the initial part of a buffer.
 fn filled(word: &[u8], buf: &mut [u8]) -> Result<usize, FillError>
     ensures { IfOk result (λ count. count ≤ length buf.new) }
 {

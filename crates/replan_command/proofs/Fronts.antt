@@ -25,7 +25,7 @@ seconds-some : (z : ℤ) (n : ℕ) → seconds z ≡ Some n → z ≡ pos n
 seconds-some (pos m) n e = ap pos (some_same m n e)
 seconds-some (negsuc m) n e = absurd (cc)
 
--- the legs of a link begin when the trip before it has ended, or later, and so does the trip behind it
+-- the legs of a connection begin when the trip before it has ended, or later, and so does the trip behind it
 record Follows (pool : Pool) (t u : Trip) (l : Link) : Type 0 where
   pub from : AreFrom t.end.0 (link_legs pool t u l)
   pub next : t.end.0 ≤ℤ u.begin.0

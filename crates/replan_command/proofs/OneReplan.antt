@@ -72,7 +72,7 @@ module _ (r : Replan) (numbers : Numbers) (fixed : numbers.climb ≡ false) wher
       ∙ (ap (λ (n : ItemName). plans.NotPlaced other j n a) names
       ∙ ap (λ (cs : List Column). plans.NotPlaced other j other_name (record { columns = cs })) columns))
 
-  -- two causes in what is left are the same, but for want of memory
+  -- two causes in what is left are the same, but for running out of memory
   cause_once : (one other : PlanFault) → IsRestCause r numbers one → IsRestCause r numbers other →
       (one ≡ other) ⊎ ((one ≡ plans.Memory) ⊎ (other ≡ plans.Memory))
   cause_once plans.Memory other h k = inr (inl refl)
@@ -149,7 +149,7 @@ module _ (day : DayFacts) (old : List Table) (moment : ℕ) (numbers : Numbers) 
 abbrev as_fault : PlanFault → ReplanFault
 as_fault fault = faults.Plan fault
 
--- want of memory as one
+-- running out of memory as one
 lacks : (fault : PlanFault) → fault ≡ plans.Memory → faults.Plan fault ≡ faults.Plan plans.Memory
 lacks fault none = ap as_fault none
 

@@ -15,14 +15,14 @@ HasOneText day =
     (old : List Table) (moment : ℕ) (numbers : Numbers) → numbers.climb ≡ false → (table : Table) (one other : List ℕ) →
     IsReplanTextOver day old moment numbers table one → IsReplanTextOver day old moment numbers table other → one ≡ other
 
--- two refusals with a cause are the same, but for want of memory
+-- two refusals with a cause are the same, but for running out of memory
 abbrev pub HasOneCause : DayFacts → Type 0
 HasOneCause day =
     (old : List Table) (moment : ℕ) (numbers : Numbers) → numbers.climb ≡ false → (one other : ReplanFault) →
     IsReplanCauseOver day old moment numbers one → IsReplanCauseOver day old moment numbers other →
     (one ≡ other) ⊎ ((one ≡ faults.Plan plans.Memory) ⊎ (other ≡ faults.Plan plans.Memory))
 
--- where there is a text there is no cause for a refusal, but for want of memory
+-- where there is a text there is no cause for a refusal, but for running out of memory
 abbrev pub HasTextOrCause : DayFacts → Type 0
 HasTextOrCause day =
     (old : List Table) (moment : ℕ) (numbers : Numbers) → numbers.climb ≡ false → (table : Table) (bytes : List ℕ) (fault : ReplanFault) →

@@ -38,7 +38,8 @@ pub record IsUnplannedRest (day : DayFacts) (old : List Table) (moment : ℕ) (n
   pub good : IsOldAnswer day old (Good earlier)
   pub cause : IsRestCause (replan_of day earlier moment) numbers fault
 
--- why there is no text: the first reason against the tables of the earlier plan, or a cause in what is left; want of memory needs none
+-- why there is no text: the first reason against the tables of the earlier plan, or a cause in what is left; running out of memory needs
+-- none
 abbrev pub IsReplanCauseOver : DayFacts → List Table → ℕ → Numbers → ReplanFault → Type 0
 IsReplanCauseOver day old moment numbers (faults.OldPlan reason) = IsOldAnswer day old (Bad reason)
 IsReplanCauseOver day old moment numbers (faults.Plan fault) = (fault ≡ plans.Memory) ⊎ IsUnplannedRest day old moment numbers fault

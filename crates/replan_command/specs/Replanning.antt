@@ -163,7 +163,7 @@ abbrev pub IsLeftItem : Replan → Numbers → Side → ℕ → ItemName → Lis
 IsLeftItem r numbers Vehicles item name partial = IsLeftTrip r item name partial
 IsLeftItem r numbers Drivers item name partial = IsLeftPiece r numbers item name partial
 
--- why there is no new plan; want of memory needs no cause
+-- why there is no new plan; running out of memory needs no cause
 abbrev pub IsRestCause : Replan → Numbers → PlanFault → Type 0
 IsRestCause r numbers (faults.NoPlan side bound places) =
     DayEndsAs (rest_problems r) numbers (refused side bound places) × HasNoneOf r numbers side

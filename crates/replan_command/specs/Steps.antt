@@ -68,7 +68,7 @@ IsFaultIn p (covers.NoPlan bound places) = Unit {0}
 IsFaultIn p (covers.NotPlaced item partial) = (item < p.items) × AreColumns p partial.columns
 IsFaultIn p covers.Memory = Unit {0}
 
--- the same refusal, of a rest: the item that is left has its name, and the columns are written out; or want of memory
+-- the same refusal, of a rest: the item that is left has its name, and the columns are written out; or running out of memory
 abbrev pub IsWrittenFault : Side → (ℕ → Option ItemName) → List (List ℕ) → CoverFault → PlanFault → Type 0
 IsWrittenFault side name items (covers.NoPlan bound places) fault = fault ≡ faults.NoPlan side bound places
 IsWrittenFault side name items (covers.NotPlaced item partial) fault =

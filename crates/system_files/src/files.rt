@@ -38,7 +38,7 @@ fn read_opened<F: Read + Seek>(file: &mut F, at: u64, buf: &mut [u8]) -> io::Res
     file.read(buf)
 }
 
-/// Reads at most so many bytes into the front of a piece.
+/// Reads at most so many bytes into the initial part of a piece.
 fn read_front<F: Read + Seek>(
     file: &mut F,
     at: u64,
@@ -52,7 +52,7 @@ fn read_front<F: Read + Seek>(
     read_opened(file, at, &mut piece.as_mut_slice()[..most])
 }
 
-/// Copies so many bytes into the front of a buffer, and leaves what is behind them.
+/// Copies so many bytes into the initial part of a buffer, and leaves what is behind them.
 pub fn copy_front(piece: &[u8], count: usize, buf: &mut [u8])
     requires read { count ≤ length piece.now }
     requires room { count ≤ length buf.old }

@@ -1,4 +1,4 @@
--- Lists of a plan's columns: their fronts and tails, and two lists as one.
+-- Lists of a plan's columns: their initial parts and tails, and two lists as one.
 use Rattle.std.proofs.Common.{◌≡◌, ℕ, ◌+◌, ◌-◌, ◌<◌, ◌≤◌, Bool, true, false, zero, suc, List, [], ◌∷◌, ◌++◌, length, get_or, take, drop, Option, Some, None, refl, sym, ap, ◌∙◌, subst, arith, length-append}
 use Rattle.std.specs.Prelude.{nat_lt}
 use Rattle.std.specs.Bool.{OnTrue, OnFalse}

@@ -317,7 +317,7 @@ module _ (p : Problem) (columns : List Column) (a i class : ℕ) (below : a < le
   in-front : (k : ℕ) → k < length columns → column_at both k ≡ column_at (set columns a front) k
   in-front k inside = get_or-append (set columns a front) (tail ∷ []) no_column k (omega (arith, length-set columns a front))
 
-  -- the column that is cut keeps a front
+  -- the column that is cut keeps an initial part
   pub cut-stays : length (parted p columns a i class) ≡ length columns + 1 →
       IsMoved columns (parted p columns a i class) (length columns) a (length columns)
   cut-stays len =

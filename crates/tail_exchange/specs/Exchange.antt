@@ -29,7 +29,7 @@ has_any (x ∷ xs) = true
 abbrev pub without_empty : List Column → List Column
 without_empty = filter (λ c. has_any c.items)
 
--- the front of one list with the tail of another
+-- the initial part of one list with the tail of another
 abbrev pub joined : List ℕ → ℕ → List ℕ → ℕ → List ℕ
 joined xs i ys j = take i xs ++ drop j ys
 

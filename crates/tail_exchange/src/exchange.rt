@@ -152,7 +152,7 @@ fn make_step<R: Threads + Sync, C: Columns + Sync>(
 /// The changed columns have a worth or are empty, and empty columns vanish. Fewer steps than allowed are made only where none lowers the
 /// cost. Any number of threads gives the same. After `Memory`, which is the only error, the plan is one that some of the steps lead to.
 ///
-/// It costs one search over all pairs of columns at the begin. A step then takes time with the columns and not with their pairs: all cuts
+/// It costs one search over all pairs of columns at the start. A step then takes time with the columns and not with their pairs: all cuts
 /// are looked at, each column with the one or two that the last step changed, and with all behind it only those columns that were changed
 /// or whose least swap was with one of them.
 pub fn improve<R: Threads + Sync, C: Columns + Sync>(

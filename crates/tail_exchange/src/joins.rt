@@ -1,4 +1,4 @@
-//! The columns of a plan, and lists that are joined of the front of one and the tail of another.
+//! The columns of a plan, and lists that are joined of the initial part of one and the tail of another.
 
 ghost use Rattle.std.specs.Prelude.{◌≡◌, ◌<◌, ◌≤◌, ◌+◌, ◌++◌, length, take, drop, IfSome};
 ghost use Rattle.std.specs.Bool.{OnTrue, OnFalse};
@@ -46,7 +46,7 @@ pub fn len_of<C: Columns>(columns: &C, plan: &[Column], place: u32) -> u32
     column.items.as_slice().len() as u32
 }
 
-/// The front and the tail of the column at a place of a plan.
+/// The initial part and the tail of the column at a place of a plan.
 pub fn split_of<'a, C: Columns>(
     columns: &C,
     plan: &'a [Column],

@@ -50,7 +50,7 @@ fn desk(seat: Seat<(), Sheet>, ended: bool) -> Desk
 
 impl Board {
     /// A board with all its tasks to be claimed and each class's least value 0, and its first desk,
-    /// which has the whole share. Fails for want of memory alone.
+    /// which has the whole share. Fails for running out of memory alone.
     pub fn new(alloc: Global, tasks: u32, classes: u32) -> Result<(Board, Desk), Memory>
         ensures extent { IfOk result (λ r. extent_of r.0 ≡ extent tasks classes) }
         ensures desk { IfOk result (λ r. IsDeskOf r.0 r.1 × (sheet_of r.1 ≡ fresh tasks)) }

@@ -16,7 +16,7 @@ use Rattle.trip_times.specs.Timing.{ended, first_missing, run_seconds_of, timed_
 abbrev pub sum_on : {A : Type 0} → (A → ℕ) → ℕ → List A → ℕ
 sum_on f start xs = fold (λ a x. a + f x) start xs
 
--- the run times of links on top of a sum, or the first link without one
+-- the run times of sections on top of a sum, or the first section without one
 abbrev pub runs_on : (Point × Point → Option ℕ) → ℕ → List (Point × Point) → Result ℕ TripFault
 runs_on time_of start links = runs_if (first_missing time_of links) (min (sum_on (λ link. unwrap_or (time_of link) 0) start links) 172801)
 

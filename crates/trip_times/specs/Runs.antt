@@ -1,4 +1,4 @@
--- Inner: the run times of links, or the first link without one.
+-- Inner: the run times of sections, or the first section without one.
 use Rattle.std.specs.Prelude.{ℕ, Option, Some, None, Result, Ok, Err}
 use Rattle.plan_core.specs.declared.types.Point.{Point}
 use Rattle.trip_times.specs.declared.trip.TripFault.{TripFault}

@@ -17,15 +17,15 @@ dwell_at net version row at = unwrap_or (trip_dwell_on net version row.fid at) (
 abbrev pub dwell_seconds_of : Net → ℕ → TripRow → List Point → ℕ
 dwell_seconds_of net version row points = sum_by (dwell_at net version row) points
 
--- the run time of a link in an area and a group of run times
+-- the run time of a section in an area and a group of run times
 abbrev pub run_time_of : Net → ℕ → ℕ → ℕ → Point × Point → Option ℕ
 run_time_of net version area group link = run_time_on net version area group link.0 link.1
 
--- the first link without a run time
+-- the first section without a run time
 abbrev pub first_missing : (Point × Point → Option ℕ) → List (Point × Point) → Option (Point × Point)
 first_missing time_of links = find (λ link. is_none (time_of link)) links
 
--- the run times of links; one without a run time counts as 0
+-- the run times of sections; one without a run time counts as 0
 abbrev pub run_seconds_of : (Point × Point → Option ℕ) → List (Point × Point) → ℕ
 run_seconds_of time_of links = sum_by (λ link. unwrap_or (time_of link) 0) links
 
@@ -44,12 +44,12 @@ trip_over row from to seconds = record {
 abbrev pub ended : TripRow → Point → Point → ℕ → Result Trip TripFault
 ended row from to seconds = if nat_le (row.start + seconds) 172800 then Ok (trip_over row from to seconds) else Err PastEnd
 
--- by the first link without a run time, then by the end
+-- by the first section without a run time, then by the end
 abbrev pub timed_if : TripRow → Option (Point × Point) → Point → Point → ℕ → Result Trip TripFault
 timed_if row (Some link) from to seconds = Err (NoRunTime link.0 link.1)
 timed_if row None from to seconds = ended row from to seconds
 
--- by the course: the trip takes the run times of its links, and stands at the points between the first and the last
+-- by the course: the trip takes the run times of its sections, and stands at the points between the first and the last
 abbrev pub timed_on : (Point × Point → Option ℕ) → (Point → ℕ) → TripRow → List Point → Result Trip TripFault
 timed_on time_of dwell_of row [] = Err ShortRoute
 timed_on time_of dwell_of row (first ∷ []) = Err ShortRoute

@@ -44,8 +44,8 @@ fn dwell_seconds(net: &Network, version: u32, row: &TripRow, points: &[Point]) -
     seconds
 }
 
-/// The run times of the links from a point on, at most one past the last second; the fault names
-/// the first link without a run time.
+/// The run times of the sections from a point on, at most one past the last second; the fault names
+/// the first section without a run time.
 fn run_seconds(
     net: &Network,
     version: u32,
@@ -121,13 +121,13 @@ fn time_course(
 }
 
 /// The trip of a row with its times, in a version. It departs at FRT_START, and takes the run times
-/// of its links (SEL_FZT of SEL_FZT_FELD, by the area of REC_LID and the trip's group) and how long
+/// of its sections (SEL_FZT of SEL_FZT_FELD, by the area of REC_LID and the trip's group) and how long
 /// it stands at the points between the first and the last: FRT_HZT_ZEIT of its own row in
 /// REC_FRT_HZT, else HP_HZT of its group's row in ORT_HZTF, else 0. Equal neighbouring points are a
-/// link, and at a point that is passed twice it stands twice. It takes no memory.
+/// section, and at a point that is passed twice it stands twice. It takes no memory.
 ///
 /// Of the faults the first one counts: NoRoute where REC_LID has no row of the trip's line and
-/// variant; ShortRoute where its course has fewer than two points; NoRunTime for the first link
+/// variant; ShortRoute where its course has fewer than two points; NoRunTime for the first section
 /// without a run time; PastEnd where the trip ends after 172,800, as each does that begins after it.
 pub fn time_trip(net: &Network, version: u32, row: &TripRow) -> Result<Trip, TripFault>
     ensures timed { result ≡ timed net.now version row.now }

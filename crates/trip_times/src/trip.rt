@@ -29,10 +29,10 @@ pub enum TripFault {
     /// The course has fewer than two points.
     #[error("the course is too short")]
     ShortRoute,
-    /// SEL_FZT_FELD has no row of this link; it is the first such one of the course.
+    /// SEL_FZT_FELD has no row of this section; it is the first such one of the course.
     #[error("a link has no run time")]
     NoRunTime {
-        /// Where the link begins.
+        /// Where the section begins.
         from: Point,
         /// Where it ends.
         to: Point,

@@ -95,7 +95,7 @@ no_group = record {
 abbrev pub group_of : DayFacts → ℕ → Group
 group_of day class = slice_index_or day.params.groups class no_group
 
--- the begin of the first piece less the way from home less the sign-on time, where that way is there
+-- the start of the first piece less the way from home less the sign-on time, where that way is there
 abbrev pub sign_on : DayFacts → Group → Piece → Option ℤ
 sign_on day group first = option_map (λ way. first.begin.0 -ℤ pos way -ℤ pos group.sign_on) (way_in day.params group.home first.from)
 

@@ -11,7 +11,7 @@ pub struct Answer {
     pub blocks: Plan,
     /// For each block its legs in time order.
     pub legs: Seq<Seq<Leg>>,
-    /// The pieces that the blocks are cut into, by begin, block and index.
+    /// The pieces that the blocks are cut into, by start, block and index.
     pub pieces: Seq<Piece>,
     /// The duties in printed order: by their first pieces. Each column is a duty of the group of its class, and its worth is the duty's
     /// cost.

@@ -33,6 +33,6 @@ pub enum PlanFault {
         /// The row, from 1, or 0 for the table as a whole.
         row: u32,
     },
-    /// Want of memory.
+    /// Out of memory.
     Memory,
 }

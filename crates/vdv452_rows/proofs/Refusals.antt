@@ -1,4 +1,4 @@
--- A step that gives up at a front of the faults gives up at the first of all.
+-- A step that gives up at an initial part of the faults gives up at the first of all.
 use Rattle.std.proofs.Common.{◌≡◌, List, [], ◌∷◌, ◌++◌, sym, subst}
 use Rattle.vdv452_rows.specs.declared.fault.TableFault.{TableFault}
 use Rattle.vdv452_rows.specs.declared.fault.Refusal.{Refusal}

@@ -135,6 +135,6 @@ first (x ∷ xs) = Some x
 abbrev pub first_fault : List Schema → List Table → Option TableFault
 first_fault schemas tables = first (faults_of schemas tables)
 
--- want of memory, which names no table
+-- running out of memory, which names no table
 abbrev pub memory_fault : TableFault
 memory_fault = fault kinds.Memory [] [] 0

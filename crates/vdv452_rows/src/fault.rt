@@ -31,13 +31,13 @@ pub enum TableKind {
     /// A row has the key of a row before it.
     #[error("a key stands twice")]
     KeyTwice,
-    /// Want of memory.
+    /// Out of memory.
     #[error("out of memory")]
     Memory,
 }
 
 /// The first fault of the tables. Rows count from 1. The row is 0 where the fault is about the
-/// table as a whole, and the column is empty where it is about none. For want of memory table and
+/// table as a whole, and the column is empty where it is about none. For running out of memory table and
 /// column are empty and the row is 0.
 #[derive(Debug, Drop)]
 pub struct TableFault {
@@ -48,7 +48,7 @@ pub struct TableFault {
 }
 
 impl TableFault {
-    /// Want of memory. It takes no memory.
+    /// Out of memory. It takes no memory.
     pub fn memory(alloc: Global) -> TableFault
         ensures { result ≡ memory_fault }
     {
@@ -64,7 +64,7 @@ impl TableFault {
 /// Why a step of the reading gives up.
 #[derive(Drop)]
 pub enum Refusal {
-    /// Want of memory.
+    /// Out of memory.
     Memory,
     /// The tables are wrong: their first fault.
     Fault(TableFault),
@@ -111,7 +111,7 @@ fn copied_fault(
     })
 }
 
-/// The fault with copies of these names, or want of memory.
+/// The fault with copies of these names, or running out of memory.
 pub(crate) fn refusal_of(
     alloc: Global,
     kind: TableKind,

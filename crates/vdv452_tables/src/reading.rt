@@ -190,7 +190,7 @@ pub fn read_tables(alloc: Global, tables: &[Table], needs: Needs) -> Result<Netw
     ensures keys { OnOk result (All (HasOwnKeys tables.now) (schemas_of needs)) }
     ensures faultless { OnOk result (first_fault (schemas_of needs) tables.now ≡ None) }
 
-    // An error is want of memory or the first fault, and where there is a fault there is an error.
+    // An error is running out of memory or the first fault, and where there is a fault there is an error.
     ensures fault { IfErr result (λ fault. fault.kind ≢ TableKind.Memory → first_fault (schemas_of needs) tables.now ≡ Some fault) }
     ensures refused { (fault : TableFault) → first_fault (schemas_of needs) tables.now ≡ Some fault → IsErrAnd result (λ e. e.kind ≢ TableKind.Memory → e ≡ fault) }
 {

@@ -9,7 +9,7 @@ use Rattle.week_check.specs.declared.turn.Turn.{Turn}
 use Rattle.week_check.specs.declared.rest.Rest.{Rest}
 use Rattle.week_check.specs.Days.{IsDutyDay, number_of}
 
--- the begin and the end of a duty count seconds from the begin of 1970-01-01: 86,400 for each day and the seconds of the operating day
+-- the start and the end of a duty count seconds from the start of 1970-01-01: 86,400 for each day and the seconds of the operating day
 pub record IsTurn (t : Turn) : Type 0 where
   pub day : IsDutyDay t.day
   pub begin_from : (pos 86400 *ℤ number_of t.day) ≤ℤ (t.begin +ℤ pos 172800)
@@ -35,7 +35,7 @@ pub record IsRoster (turns : List Turn) : Type 0 where
 abbrev pub rest_order : Turn → Turn → Ordering
 rest_order a b = ordering_then (int_cmp a.end b.end) (ordering_then (nat_cmp a.driving b.driving) (bool_cmp a.three b.three))
 
--- By driver; a driver's duties by their begin, then by their day. What is left decides nowhere in a roster, where driver and day are a key.
+-- By driver; a driver's duties by their start, then by their day. What is left decides nowhere in a roster, where driver and day are a key.
 abbrev pub turn_order : Turn → Turn → Ordering
 turn_order a b = ordering_then (nat_cmp a.driver b.driver)
     (ordering_then (int_cmp a.begin b.begin) (ordering_then (nat_cmp a.day b.day) (rest_order a b)))
@@ -84,7 +84,7 @@ abbrev pub next_day : Turn → List Turn → ℕ
 next_day t [] = t.day
 next_day t (next ∷ later) = next.day
 
--- the rest after a duty lies within the 24 hours from its begin: article 8(2)
+-- the rest after a duty lies within the 24 hours from its start: article 8(2)
 abbrev pub rest_after : Turn → List Turn → ℤ
 rest_after t later = int_min (gap_after t later) (pos 86400 -ℤ (t.end -ℤ t.begin))
 

@@ -95,11 +95,11 @@ is_duty_day day =
 abbrev pub is_day : Option ℤ → Bool
 is_day number = is_within number (pos 0) (pos 4294967295) && is_duty_day (word number)
 
--- seconds of a day: from two days before its begin to four days after it
+-- seconds of a day: from two days before its start to four days after it
 abbrev pub is_time : Option ℤ → Bool
 is_time number = is_within number (neg_ℤ (pos 172800)) (pos 345600)
 
--- a time that is not before the begin
+-- a time that is not before the start
 abbrev pub is_end : Option ℤ → Option ℤ → Bool
 is_end begin end = is_time end && int_le (value begin) (value end)
 
@@ -176,7 +176,7 @@ abbrev pub roster_faults : List Table → List TableFault
 roster_faults tables = when (nat_lt 1 (length (filter (has_name roster_name) tables))) (fault kinds.TableTwice roster_name [] 0)
     ++ faults_in (roster_of tables)
 
--- a moment of a day in seconds from the begin of 1970-01-01: 86,400 for each day, and the seconds of the day
+-- a moment of a day in seconds from the start of 1970-01-01: 86,400 for each day, and the seconds of the day
 abbrev pub moment : ℕ → ℤ → ℤ
 moment day seconds = (pos 86400 *ℤ day_number day) +ℤ seconds
 

@@ -9,13 +9,13 @@ use Rattle.week_check.specs.declared.turn.Turn.{Turn}
 use Rattle.week_check.specs.Duties.{IsRoster}
 use Rattle.week_check.specs.Roster.{AreFar, roster_faults, turns_of}
 
--- a step gives up for want of memory, or at the first of these faults
+-- a step gives up for running out of memory, or at the first of these faults
 abbrev pub IsFirstOf : List TableFault → RosterFault → Type 0
 IsFirstOf faults (Wrong fault) = first faults ≡ Some fault
 IsFirstOf faults (Days first_day last_day) = ⊥
 IsFirstOf faults Memory = Unit {0}
 
--- the first fault of the table; else days that lie too far apart; or want of memory
+-- the first fault of the table; else days that lie too far apart; or running out of memory
 abbrev pub IsFaultOf : List Table → RosterFault → Type 0
 IsFaultOf tables (Wrong fault) = first (roster_faults tables) ≡ Some fault
 IsFaultOf tables (Days first_day last_day) = (roster_faults tables ≡ []) × AreFar (turns_of tables) first_day last_day

@@ -10,7 +10,7 @@ pub(crate) enum RosterColumn {
     Driver,
     /// BETRIEBSTAG, the day as YYYYMMDD.
     Day,
-    /// BEGINN, the begin of the duty in seconds of its day.
+    /// BEGINN, the start of the duty in seconds of its day.
     Begin,
     /// ENDE, its end in seconds of its day.
     End,

@@ -48,7 +48,7 @@ fn sort(turns: &mut Vec<Turn>) -> Result<(), Memory>
     }
 }
 
-/// The duties by driver, and each driver's by begin and day.
+/// The duties by driver, and each driver's by start and day.
 pub(crate) fn in_order(alloc: Global, turns: &[Turn]) -> Result<Vec<Turn>, Memory>
     ensures permutation { IfOk result (λ ordered. IsPermutation turns.now ordered.items) }
     ensures sorted { IfOk result (λ ordered. IsSortedBy duties.is_before ordered.items) }

@@ -94,7 +94,7 @@ fn is_day(number: Option<i64>) -> bool
     is_within(number, 0, GREATEST) && is_duty_day(word(number))
 }
 
-/// Whether the end is in range and not before the begin.
+/// Whether the end is in range and not before the start.
 fn is_end(begin: Option<i64>, end: Option<i64>) -> bool
     ensures { result ≡ spec.is_end begin end }
 {
@@ -145,7 +145,7 @@ pub(crate) fn key_of(entry: &Entry) -> DriverDay
     }
 }
 
-/// A moment of a day in seconds from the begin of 1970-01-01.
+/// A moment of a day in seconds from the start of 1970-01-01.
 fn moment(day: u32, seconds: i64) -> i64
     requires day { days.IsDutyDay day }
     requires low { neg_ℤ (pos 172800) ≤ℤ seconds }

@@ -25,7 +25,7 @@ pub enum RosterFault {
         /// The last day of all duties.
         last: u32,
     },
-    /// Want of memory.
+    /// Out of memory.
     #[error("out of memory")]
     Memory,
 }
@@ -78,7 +78,7 @@ fn table_fault(alloc: Global, kind: TableKind, column: &str, row: u32) -> Result
     })
 }
 
-/// A fault of the roster's table, or want of memory.
+/// A fault of the roster's table, or running out of memory.
 pub(crate) fn fault_of(alloc: Global, kind: TableKind, column: &str, row: u32) -> RosterFault
     ensures { IsFirstOf (fault kind the_roster_name column.now row ∷ []) result }
 {

@@ -1,6 +1,6 @@
 //! A check of drivers' weeks by articles 6 and 8 of Regulation (EC) 561/2006.
 //!
-//! A roster has the duties of drivers over at most two weeks. Each duty has a day, a begin and an
+//! A roster has the duties of drivers over at most two weeks. Each duty has a day, a start and an
 //! end, and its driving. What the articles deny of a driver's duties is listed: too much driving in
 //! a duty, a week or two neighbouring weeks, a daily rest that is too short, and a fourth reduced
 //! daily rest since the last weekly rest. The first duty of each driver is taken to follow a weekly

@@ -193,7 +193,7 @@ pub fn read_roster(alloc: Global, tables: &[Table]) -> Result<Seq<Turn>, RosterF
     Ok(Seq::from_vec(turns))
 }
 
-/// Tables have one roster or one fault, want of memory aside.
+/// Tables have one roster or one fault, running out of memory aside.
 pub fn one_answer()
     ensures { (tables : List Table) (a b : Result (List Turn) RosterFault) → IsAnswer tables a → IsAnswer tables b → a ≢ Err RosterFault.Memory → b ≢ Err RosterFault.Memory → a ≡ b }
 {}

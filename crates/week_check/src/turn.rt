@@ -10,10 +10,10 @@ pub struct Turn {
     pub driver: u32,
     /// BETRIEBSTAG, the day as YYYYMMDD, in a year from 1 to 9998.
     pub day: u32,
-    /// The begin, in seconds from the begin of 1970-01-01: 86,400 times the number of the day plus
+    /// The start, in seconds from the start of 1970-01-01: 86,400 times the number of the day plus
     /// BEGINN, which is from -172,800 to 345,600.
     pub begin: i64,
-    /// The end, in the same seconds, not before the begin.
+    /// The end, in the same seconds, not before the start.
     pub end: i64,
     /// LENKZEIT, the driving in seconds, at most 172,800.
     pub driving: u32,

@@ -442,7 +442,7 @@ fn each_write_is_handed_all_that_is_not_yet_taken(rt: HostRuntime) -> Result<(),
     Ok(())
 }
 
-/// Whether a write of which the listed call fails leaves so many bytes of the front.
+/// Whether a write of which the listed call fails leaves so many bytes of the initial part.
 fn leaves_front(alloc: Global, fail: u64, taken: usize) -> Result<bool, Fail> {
     let fails = Seq::from_vec(vec![in alloc; fail]?);
     let mut out = MemSink::new(alloc, 1_000, 10, fails)?;

@@ -40,7 +40,7 @@ fn a_file_is_read_from_any_place(rt: HostRuntime) -> Result<(), Fail> {
     Ok(())
 }
 
-/// Whether a read of the front of a file gives this answer.
+/// Whether a read of the initial part of a file gives this answer.
 fn answers<F: Files>(files: &mut F, name: &[u8], want: Result<usize, Failed>) -> bool {
     let mut buffer = [0u8; 8];
     files.read(name, 0, &mut buffer) == want

@@ -1,7 +1,7 @@
 use Rattle.std.proofs.Common.{◌≡◌, ◌-◌, ◌≤◌, ◌++◌, length, take, Some, IfSome}
 use Rattle.input_files.proofs.transfer.write_whole.Given as goal
 
--- what was taken so far is the front of the text
+-- what was taken so far is the initial part of the text
 abbrev pub invariant-loop-at : goal.invariant-loop-at
 invariant-loop-at g l = record {
   bound : l.at ≤ length l.text;

@@ -180,7 +180,7 @@ module _ (E : El) (Z : Al) {M : Type 1} {𝓤 : Ura M} (𝓛 : Logic 𝓤) (at_m
       (ok_of 𝓛 (Parts E Z) error-type.the_row (base, cells, deed) made) $
       returns ! (look_at ! 0 refl) $ free_all ! refl $ keep ! (0 ∷ 1 ∷ 2 ∷ []) $
       by ! (exits (Ok (base, cells, deed)) (live 0 (vcons made vnil)) (refl, refl, refl, refl, refl)))
-      -- want of memory
+      -- running out of memory
       (λ e.
       let Refusal : RattleType = Struct (Declared.shape error-type.the_type) in
       let none : Val = live 1 (vcons (vstruct vnil) vnil) in
