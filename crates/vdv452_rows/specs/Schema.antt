@@ -1,5 +1,6 @@
 -- Promise: the tables and columns that are read, after VDV 452, and the tables of this project.
 use Rattle.std.specs.Prelude.{ℕ, true, false, List, [], ◌∷◌, codes}
+use Rattle.plan_core.specs.Limits.{most_places, most_rate, most_fixed_cost}
 use Rattle.vdv452_rows.specs.declared.schema.Column.{Column}
 use Rattle.vdv452_rows.specs.declared.schema.Domain.{Domain}
 use Rattle.vdv452_rows.specs.declared.schema.Domain.TheVariants.{UpTo, LongUpTo, AnyWord, Unseen}
@@ -35,15 +36,15 @@ seconds name = plain name (UpTo 172800)
 
 -- how many there are
 abbrev pub count : List ℕ → Column
-count name = plain name (UpTo 10000)
+count name = plain name (UpTo most_places)
 
 -- cost units for each
 abbrev pub fixed_costs : List ℕ → Column
-fixed_costs name = plain name (UpTo 100000000)
+fixed_costs name = plain name (UpTo most_fixed_cost)
 
 -- cost units a second
 abbrev pub rate : List ℕ → Column
-rate name = plain name (UpTo 10000)
+rate name = plain name (UpTo most_rate)
 
 -- metres, or nothing where they are not known
 abbrev pub some_metres : List ℕ → Column
