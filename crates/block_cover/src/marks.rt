@@ -2,6 +2,7 @@
 #![tactic(auto)]
 
 ghost use Rattle.std.specs.Prelude.{◌≡◌, ◌≤◌, All, length};
+ghost use Rattle.plan_core.specs.Limits.{most_items};
 ghost use Rattle.cover_core.specs.FirstLeast.{AllWithin};
 ghost use Rattle.plan_params.specs.Limits.{IsPool};
 ghost use Rattle.day_model.specs.Ranges.{IsDaily};
@@ -23,7 +24,7 @@ use plan_core::Price;
 pub struct BlockMarks<'n> {
     pub net: &'n PoolNet<'n>,
     pub prices: &'n [Price],
-    ghost few: { length net.now.day.trips ≤ 3000 },
+    ghost few: { length net.now.day.trips ≤ most_items },
     ghost daily: { All IsDaily net.now.day.trips },
     ghost ranges: { All IsPool net.now.day.params.pools },
     ghost moderate: { AllWithin 3000000000000000 prices.now } by { AllWithin-prop 3000000000000000 prices.now },

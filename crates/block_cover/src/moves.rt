@@ -3,6 +3,7 @@
 
 ghost use Rattle.std.specs.Prelude.{◌≡◌, ◌<◌, ◌≤◌, ◌+◌, ◌*◌, ◌≤ℤ◌, ◌-ℤ◌, ◌+ℤ◌, neg_ℤ, pos, true, IfSome, Some, length, slice_get};
 ghost use Rattle.std.specs.Option.{option_map};
+ghost use Rattle.plan_core.specs.Limits.{most_rate};
 ghost use Rattle.cover_core.specs.Plans.{price_at};
 ghost use Rattle.plan_params.specs.Limits.{IsPool};
 ghost use Rattle.day_model.specs.Blocks as blocks;
@@ -25,7 +26,7 @@ const LONGEST_DRIVING: u64 = 16_200;
 
 /// What seconds cost at a rate.
 fn charged(rate: u32, seconds: u32) -> u64
-    requires rate { rate ≤ 10000 }
+    requires rate { rate ≤ most_rate }
     requires seconds { seconds ≤ 345600 }
     ensures value { result ≡ rate * seconds }
     ensures bound { result ≤ 3456000000 }

@@ -1,6 +1,7 @@
 //! The pieces of one block.
 
 ghost use Rattle.std.specs.Prelude.{◌≡◌, ◌<◌, ◌≤◌, ◌+◌, ◌++◌, ◌∷◌, ◌≤ℤ◌, ◌-ℤ◌, pos, cond, All, IfOk, IfSome, List, None, OnOk, Some};
+ghost use Rattle.plan_core.specs.Limits.{most_items};
 ghost use Rattle.plan_core.specs.declared.types.Leg.{Leg as TheLeg};
 ghost use Rattle.day_model.specs.Pieces.{duration, is_cut as is_cut_of, is_stand, parts, pieces_from};
 ghost use Rattle.block_cut.specs.Cuts.{AreAfter, IsAfter, IsShift, begun as begun_of, continued as continued_of, cut_on, ended, grown as grown_of, next_index as next_index_of, stands};
@@ -150,7 +151,7 @@ pub(crate) fn add_pieces(
     legs: &[Leg],
 ) -> Result<(), Memory>
     requires timed { AreTimed (pos 0) (pos 345600) legs.now }
-    requires few { stands legs.now ≤ 3000 }
+    requires few { stands legs.now ≤ most_items }
     requires shifts { All IsShift pieces.old }
     ensures pieces { OnOk result (pieces.new ≡ pieces.old ++ pieces_from block 1 (parts day.now pool.now legs.now)) }
     ensures shifts { OnOk result (All IsShift pieces.new) }

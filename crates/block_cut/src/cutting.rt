@@ -1,6 +1,7 @@
 //! The pieces of the blocks of a plan.
 
 ghost use Rattle.std.specs.Prelude.{◌≡◌, ◌<◌, ◌≤◌, ◌++◌, All, AllPairs, IfOk, OnOk, length};
+ghost use Rattle.plan_core.specs.Limits.{most_items};
 ghost use Rattle.cover_core.specs.Cover.{Problem};
 ghost use Rattle.cover_core.specs.Plans.{HasListedColumns, IsPlan, all_items};
 ghost use Rattle.block_cut.specs.Cuts.{IsEarlier, IsShift, block_pieces, moment as moment_of, pieces_by_block, pieces_of_plan};
@@ -36,7 +37,7 @@ fn add_block(
 
 /// The pieces of blocks that are numbered from 1, block after block.
 fn collected(alloc: Global, day: &Day, blocks: &[Column]) -> Result<Seq<Piece>, Memory>
-    requires few { length blocks.now ≤ 3000 }
+    requires few { length blocks.now ≤ most_items }
     requires worths { All (HasWorth day.now) blocks.now }
     ensures pieces { IfOk result (λ pieces. pieces ≡ pieces_by_block day.now 1 blocks.now) }
     ensures shifts { IfOk result (λ pieces. All IsShift pieces) }
@@ -70,7 +71,7 @@ fn in_order(pieces: Seq<Piece>) -> Result<Seq<Piece>, Memory>
 /// order. A block is cut at each stand of at least the handover time that lies at a relief point or at its pool's depot; the stand belongs
 /// to no piece. Each block has a worth: its list of trips is a block of the pool of its class. `Memory` is the only error.
 pub fn cut(alloc: Global, day: &Day, blocks: &Plan) -> Result<Seq<Piece>, Memory>
-    requires few { length blocks.now.columns ≤ 3000 }
+    requires few { length blocks.now.columns ≤ most_items }
     requires worths { All (HasWorth day.now) blocks.now.columns }
     ensures pieces { IfOk result (λ pieces. pieces ≡ pieces_of_plan day.now blocks.now.columns) }
     ensures order { IfOk result (λ pieces. AllPairs IsEarlier pieces) }

@@ -1,6 +1,7 @@
 //! The best list of a rest: pricing in column generation, where some blocks have begun.
 
 ghost use Rattle.std.specs.Prelude.{◌≡◌, ◌<◌, ◌≤◌, ℕ, Bool, List, IfOk, IfSome, length};
+ghost use Rattle.plan_core.specs.Limits.{most_price, most_worth};
 ghost use Rattle.plan_core.specs.declared.Price.{Price};
 ghost use Rattle.cover_core.specs.Cover.{Problem};
 ghost use Rattle.depot_network.specs.Open.{closed_open};
@@ -68,7 +69,7 @@ fn best_of_labels<'a>(
     requires bodies { StandForAll (length labels.now.net.now.day.trips) bodies.now }
     requires items { length bodies.now ≤ (rests rest.now).items }
     ensures best { (p : Problem) (heads : List Begun) (may : ℕ → List ℕ → Bool) (prices : List Price) → PricesRest p heads may class group (rests rest.now) bodies.now starts.now ended.now (block_labels labels.now.net.now.day labels.now.net.now.counts labels.now.prices.now labels.now.pool labels.now.first labels.now.end) (closed_open labels.now.net.now.day labels.now.net.now.counts labels.now.pool) prices labels.now.prices.now → IfOk result (λ answer. answer ≡ within limit prices (best_of (rests rest.now) prices class group)) }
-    ensures bound { IfOk result (λ answer. IfSome answer (λ column. column.worth ≤ 4000000000)) }
+    ensures bound { IfOk result (λ answer. IfSome answer (λ column. column.worth ≤ most_worth)) }
 {
     // Trips are few: the day says so.
     let _ = labels.net.day().trips();
@@ -102,9 +103,9 @@ pub(crate) fn best_list(
     requires made { IsMade rest.now.day rest.now.heads begun.now bodies.now }
     requires class { class < length (rests rest.now).caps }
     requires prices { length prices.now ≡ (rests rest.now).items }
-    requires moderate { AllWithin 10000000000000 prices.now }
+    requires moderate { AllWithin most_price prices.now }
     ensures best { IfOk result (λ answer. answer ≡ within limit prices.now (best_of (rests rest.now) prices.now class group)) }
-    ensures bound { IfOk result (λ answer. IfSome answer (λ column. column.worth ≤ 4000000000)) }
+    ensures bound { IfOk result (λ answer. IfSome answer (λ column. column.worth ≤ most_worth)) }
 {
     let day = net.day();
     // Trips are few and daily: the day says so.

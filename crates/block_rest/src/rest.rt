@@ -1,6 +1,7 @@
 //! The rest of the blocks of a day.
 
 ghost use Rattle.std.specs.Prelude.{◌≡◌, ◌<◌, ◌≤◌, IfOk, IfSome, length};
+ghost use Rattle.plan_core.specs.Limits.{most_items, most_worth};
 ghost use Rattle.cover_core.specs.Cover.{AllBelow};
 ghost use Rattle.cover_core.specs.Plans.{AreColumns};
 ghost use Rattle.cover_rest.specs.Keeping.{AreHeads};
@@ -48,7 +49,7 @@ impl<'d> Model for BlockRest<'d> {
 fn count(day: &Day, bodies: &[Seq<u32>]) -> u32
     requires { StandForAll (length day.now.trips) bodies.now }
     ensures value { result ≡ length bodies.now }
-    ensures bound { result ≤ 3000 }
+    ensures bound { result ≤ most_items }
 {
     // Trips are few: the day says so.
     let _ = day.trips();
@@ -68,7 +69,7 @@ fn list_worth(
     requires bodies { StandForAll (length net.now.day.trips) bodies.now }
     requires list { AllBelow (length bodies.now) list.now }
     ensures value { result ≡ rest_worth (blocks_of net.now.day net.now.counts) heads.now bodies.now (may_begin net.now.day moment) class list.now }
-    ensures bound { IfSome result (λ worth. worth ≤ 4000000000) }
+    ensures bound { IfSome result (λ worth. worth ≤ most_worth) }
 {
     let begins = begins(net.day(), moment, class, bodies, list);
     if is_rest_list(heads, bodies.len(), class, list, begins) {

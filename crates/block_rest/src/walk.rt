@@ -3,6 +3,7 @@
 ghost use Rattle.std.specs.Prelude.{◌≡◌, ◌<◌, ◌≤◌, ◌/◌, [], IfSome, Some, length, slice_get};
 ghost use Rattle.std.specs.Int.RustNames.{unsigned_abs};
 ghost use Rattle.std.specs.Option.{option_map};
+ghost use Rattle.plan_core.specs.Limits.{most_worth};
 ghost use Rattle.cover_core.specs.Cover.{AllBelow};
 ghost use Rattle.cover_core.specs.Labels.{label_after, label_of};
 ghost use Rattle.plan_params.specs.Limits.{IsPool};
@@ -92,7 +93,7 @@ fn driven_in(net: &PoolNet<'_>, class: u32, pool: &Pool, block: &OpenBlock) -> O
     requires fits { OpenFits (length net.now.day.trips) block.now }
     requires low { IsLow net.now.day block.now }
     ensures value { result ≡ option_map (λ v. unsigned_abs v / 1000) (closed_open net.now.day net.now.counts pool.now block.now) }
-    ensures bound { IfSome result (λ worth. worth ≤ 4000000000) }
+    ensures bound { IfSome result (λ worth. worth ≤ most_worth) }
 {
     // A pull-in is short: the day says so.
     let _ = net.day().pull_in(class, block.trip);
@@ -144,7 +145,7 @@ pub(crate) fn written_worth(
     requires bodies { StandForAll (length net.now.day.trips) bodies.now }
     requires list { AllBelow (length bodies.now) list.now }
     ensures value { result ≡ block_worth net.now.day net.now.counts class (written bodies.now list.now) }
-    ensures bound { IfSome result (λ worth. worth ≤ 4000000000) }
+    ensures bound { IfSome result (λ worth. worth ≤ most_worth) }
 {
     // Trips are daily: the day says so.
     let _ = net.day().trips();

@@ -2,6 +2,7 @@
 #![tactic(auto)]
 
 ghost use Rattle.std.specs.Prelude.{◌≡◌, ◌≤◌, ◌<◌, ◌+◌, ◌^◌, All, false, IfErr, IfOk, Ok, Some, length, slice_get, slice_index};
+ghost use Rattle.plan_core.specs.Limits.{most_items};
 ghost use Rattle.cover_core.specs.FirstLeast.{AreCheap};
 ghost use Rattle.cover_core.specs.Plans.{all_items};
 ghost use Rattle.plan_check.specs.Verdicts.{IsVerdict};
@@ -38,7 +39,7 @@ pub(crate) fn lawful_blocks(alloc: Global, case: &Case<'_>, text: &PlanText) -> 
     requires case { IsCase case.now }
     requires said { text_in case.now ≡ Ok text.now }
     ensures blocks { IfOk result (λ blocks. HasBlocks case.now text.now blocks) }
-    ensures few { IfOk result (λ blocks. length blocks.columns ≤ 3000) }
+    ensures few { IfOk result (λ blocks. length blocks.columns ≤ most_items) }
     ensures cheap { IfOk result (λ blocks. AreCheap blocks.columns) }
     ensures stop { IfErr result (IsStop case.now) }
 {

@@ -2,6 +2,7 @@
 #![tactic(auto)]
 
 ghost use Rattle.std.specs.Prelude.{◌≡◌, ◌≤◌, ◌<◌, ◌+◌, ◌^◌, All, false, IfErr, IfOk, Some, length, map, slice_get, slice_index};
+ghost use Rattle.plan_core.specs.Limits.{most_items};
 ghost use Rattle.cover_core.specs.FirstLeast.{AreCheap};
 ghost use Rattle.cover_core.specs.Plans.{IsPlan, all_items};
 ghost use Rattle.block_cut.specs.Cuts.{IsShift};
@@ -33,7 +34,7 @@ pub(crate) fn block_pieces(
     requires { IsPlan (blocks_in case.now false) blocks.now.columns }
     ensures pieces { IfOk result (λ pieces. pieces ≡ pieces_in case.now blocks.now.columns) }
     ensures shifts { IfOk result (λ pieces. All IsShift pieces) }
-    ensures few { IfOk result (λ pieces. length pieces ≤ 3000) }
+    ensures few { IfOk result (λ pieces. length pieces ≤ most_items) }
 {
     // The trips of a day are few: it says so.
     let _ = case.day.trips();
@@ -47,7 +48,7 @@ pub(crate) fn net_of<'p>(
     params: &'p Params,
     worth: Worth,
 ) -> Result<DutyNet<'p>, Memory>
-    requires few { length pieces.now ≤ 3000 }
+    requires few { length pieces.now ≤ most_items }
     requires shifts { All IsShift pieces.now }
     requires params { HaveRanges params.now }
     ensures { IfOk result (λ net. net ≡ record { pieces = pieces.now; params = params.now; counts = is_count worth }) }
@@ -58,7 +59,7 @@ pub(crate) fn net_of<'p>(
 
 /// The number of the piece of a block and index; as many as there are pieces where there is none.
 pub(crate) fn piece_number(pieces: &[Piece], block: u32, index: u32) -> u32
-    requires { length pieces.now ≤ 3000 }
+    requires { length pieces.now ≤ most_items }
     ensures number { result ≡ judging.piece_number pieces.now block index }
 {
     match pieces
@@ -72,7 +73,7 @@ pub(crate) fn piece_number(pieces: &[Piece], block: u32, index: u32) -> u32
 
 /// The numbers of pieces that are named by block and index.
 fn numbers_of(alloc: Global, pieces: &[Piece], parts: &[(u32, u32)]) -> Result<Vec<u32>, AllocError>
-    requires { length pieces.now ≤ 3000 }
+    requires { length pieces.now ≤ most_items }
     ensures { IfOk result (λ numbers. numbers.items ≡ map (judging.part_number pieces.now) parts.now) }
 {
     parts
@@ -100,7 +101,7 @@ fn duty_list(
     duty: &DutyRow,
 ) -> Result<Column, Memory>
     requires groups { length groups.now ≤ 32 }
-    requires pieces { length pieces.now ≤ 3000 }
+    requires pieces { length pieces.now ≤ most_items }
     ensures { IfOk result (λ list. list ≡ judging.duty_list groups.now pieces.now duty.now) }
 {
     let numbers = numbers_of(alloc, pieces, duty.parts.as_slice())?;
@@ -119,7 +120,7 @@ pub(crate) fn duty_lists(
     duties: &[DutyRow],
 ) -> Result<Seq<Column>, Memory>
     requires groups { length groups.now ≤ 32 }
-    requires pieces { length pieces.now ≤ 3000 }
+    requires pieces { length pieces.now ≤ most_items }
     ensures { IfOk result (λ lists. lists ≡ map (judging.duty_list groups.now pieces.now) duties.now) }
 {
     let mut lists = Seq::new(alloc);
@@ -141,9 +142,9 @@ pub(crate) fn lawful_duties(
     requires blocks { HasBlocks case.now text.now blocks.now }
     requires pieces { pieces.now ≡ pieces_in case.now blocks.now.columns }
     requires shifts { All IsShift pieces.now }
-    requires few { length pieces.now ≤ 3000 }
+    requires few { length pieces.now ≤ most_items }
     ensures duties { IfOk result (λ duties. HasDuties case.now text.now blocks.now duties) }
-    ensures few { IfOk result (λ duties. length duties.columns ≤ 3000) }
+    ensures few { IfOk result (λ duties. length duties.columns ≤ most_items) }
     ensures cheap { IfOk result (λ duties. AreCheap duties.columns) }
     ensures stop { IfErr result (IsStop case.now) }
 {

@@ -2,6 +2,7 @@
 #![tactic(auto)]
 
 ghost use Rattle.std.specs.Prelude.{◌≡◌, ◌≤◌, ◌<◌, ◌^◌, All, Bool, IfErr, IfNone, IfOk, IfSome, Some, length};
+ghost use Rattle.plan_core.specs.Limits.{most_items};
 ghost use Rattle.depot_network.specs.Network.{is_count};
 ghost use Rattle.plan_cert.specs.Laws.{AreParts, IsBlockPart, IsDutyPart};
 ghost use Rattle.plan_cert.specs.Shapes.{shape_of};
@@ -57,7 +58,7 @@ fn duty_gap(
     worth: Worth,
     part: &CertPart,
 ) -> Result<Option<Gap>, Memory>
-    requires few_pieces { length pieces.now ≤ 3000 }
+    requires few_pieces { length pieces.now ≤ most_items }
     requires shifts { All IsShift pieces.now }
     requires part { IsDutyPart (length pieces.now) (length case.now.day.params.groups) part.now }
     requires few { length part.now.cover.marks < 2 ^ 32 }
@@ -79,7 +80,7 @@ fn gap_in(
     pieces: &Seq<Piece>,
     parts: FourParts<'_>,
 ) -> Result<Option<Uncovered>, Memory>
-    requires few_pieces { length pieces.now ≤ 3000 }
+    requires few_pieces { length pieces.now ≤ most_items }
     requires shifts { All IsShift pieces.now }
     requires parts { AreParts (shape_of case.now.day (length pieces.now)) (listed parts) }
     requires few { HaveFewMarks (listed parts) }

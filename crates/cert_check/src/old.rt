@@ -2,6 +2,7 @@
 #![tactic(auto)]
 
 ghost use Rattle.std.specs.Prelude.{◌≡◌, ◌<◌, ◌≤◌, ◌^◌, All, IfOk, length};
+ghost use Rattle.plan_core.specs.Limits.{most_items};
 ghost use Rattle.cover_core.specs.Plans.{all_items};
 ghost use Rattle.block_cut.specs.Legs.{HasWorth};
 ghost use Rattle.cert_check.specs.Old.{AreOfDay, HasLawfulBlocks, HasPiecesOnce, HasTripsOnce, IfGood, IsOldAnswer, IsOldPlan, IsStepOf, IsTextAnswer, old_duties, old_pieces};
@@ -62,7 +63,7 @@ fn text_pieces(alloc: Global, day: &Day, text: &PlanText) -> Result<Seq<Piece>, 
     requires trips { HasTripsOnce day.now text.now }
     requires blocks { HasLawfulBlocks day.now text.now }
     ensures pieces { IfOk result (λ pieces. pieces ≡ old_pieces day.now text.now) }
-    ensures few { IfOk result (λ pieces. length pieces ≤ 3000) }
+    ensures few { IfOk result (λ pieces. length pieces ≤ most_items) }
 {
     // The trips of a day are few: it says so.
     let _ = day.trips();
@@ -77,7 +78,7 @@ fn piece_times(
     pieces: &[Piece],
 ) -> Result<Option<ItemTimes>, Memory>
     requires pieces { pieces.now ≡ old_pieces day.now text.now }
-    requires few { length pieces.now ≤ 3000 }
+    requires few { length pieces.now ≤ most_items }
     requires parts { length (all_items (old_duties day.now text.now)) < 2 ^ 32 }
     ensures { IfOk result (IsTimesFound (length pieces.now) (old_duties day.now text.now)) }
 {
@@ -131,7 +132,7 @@ fn text_answer(alloc: Global, day: &Day, text: PlanText) -> Result<OldPlan, Memo
     ensures answer { IfOk result (IsTextAnswer day.now text) }
     ensures lists { IfOk result (IfGood (λ text. AreOfDay day.now text.blocks.columns)) }
     ensures worths { IfOk result (IfGood (λ text. All (HasWorth day.now) text.blocks.columns)) }
-    ensures few { IfOk result (IfGood (λ text. length text.blocks.columns ≤ 3000)) }
+    ensures few { IfOk result (IfGood (λ text. length text.blocks.columns ≤ most_items)) }
 {
     // The trips of a day are few: it says so.
     let _ = day.trips();
@@ -161,7 +162,7 @@ pub fn check_old(alloc: Global, day: &Day, plan: &[Table]) -> Result<OldPlan, Me
     ensures answer { IfOk result (IsOldAnswer day.now plan.now) }
     ensures lists { IfOk result (IfGood (λ text. AreOfDay day.now text.blocks.columns)) }
     ensures worths { IfOk result (IfGood (λ text. All (HasWorth day.now) text.blocks.columns)) }
-    ensures few { IfOk result (IfGood (λ text. length text.blocks.columns ≤ 3000)) }
+    ensures few { IfOk result (IfGood (λ text. length text.blocks.columns ≤ most_items)) }
 {
     match read_plan(alloc, day, plan) {
         Ok(text) => text_answer(alloc, day, text),

@@ -3,6 +3,7 @@
 
 ghost use Rattle.std.specs.Prelude.{◌≡◌, ◌≤◌, ◌<◌, ◌+◌, ◌^◌, ◌⊎◌, All, false, IfErr, IfOk, IfSome, Some, None, codes, true, length, map};
 ghost use Rattle.std.specs.List.{position_from};
+ghost use Rattle.plan_core.specs.Limits.{most_items};
 ghost use Rattle.cover_core.specs.FirstLeast.{AreCheap};
 ghost use Rattle.cover_core.specs.Plans.{IsPlan, all_items};
 ghost use Rattle.block_cut.specs.Cuts.{IsShift};
@@ -82,9 +83,9 @@ fn first_place(blocks: &[Column], trip: u32) -> Option<usize>
 
 /// The place of the first block that begins with a trip, from 0; as many as there are blocks where none does.
 fn place_of_first(blocks: &[Column], trip: u32) -> u32
-    requires { length blocks.now ≤ 3000 }
+    requires { length blocks.now ≤ most_items }
     ensures place { result ≡ judging.place_of_first blocks.now trip }
-    ensures within { result ≤ 3000 }
+    ensures within { result ≤ most_items }
 {
     match first_place(blocks, trip) {
         Some(place) => place as u32,
@@ -101,8 +102,8 @@ fn new_piece(
     item: u32,
 ) -> u32
     requires sorted { sorted.now ≡ printed blocks.now }
-    requires few { length sorted.now ≤ 3000 }
-    requires few_pieces { length anew.now ≤ 3000 }
+    requires few { length sorted.now ≤ most_items }
+    requires few_pieces { length anew.now ≤ most_items }
     requires item { item < length pieces.now }
     ensures { result ≡ judging.new_piece blocks.now pieces.now anew.now item }
 {
@@ -122,8 +123,8 @@ fn new_pieces(
     items: &[u32],
 ) -> Result<Vec<u32>, AllocError>
     requires sorted { sorted.now ≡ printed blocks.now }
-    requires few { length sorted.now ≤ 3000 }
-    requires few_pieces { length anew.now ≤ 3000 }
+    requires few { length sorted.now ≤ most_items }
+    requires few_pieces { length anew.now ≤ most_items }
     requires items { All (λ item. item < length pieces.now) items.now }
     ensures { IfOk result (λ numbers. numbers.items ≡ map (judging.new_piece blocks.now pieces.now anew.now) items.now) }
 {
@@ -144,8 +145,8 @@ fn renumbered(
     duty: &Column,
 ) -> Result<Column, Memory>
     requires sorted { sorted.now ≡ printed blocks.now }
-    requires few { length sorted.now ≤ 3000 }
-    requires few_pieces { length anew.now ≤ 3000 }
+    requires few { length sorted.now ≤ most_items }
+    requires few_pieces { length anew.now ≤ most_items }
     requires items { All (λ item. item < length pieces.now) duty.now.items }
     ensures { IfOk result (λ made. made ≡ judging.renumbered blocks.now pieces.now anew.now duty.now) }
 {
@@ -167,8 +168,8 @@ fn renumbered_all(
     duties: &[Column],
 ) -> Result<Seq<Column>, Memory>
     requires sorted { sorted.now ≡ printed blocks.now }
-    requires few { length sorted.now ≤ 3000 }
-    requires few_pieces { length anew.now ≤ 3000 }
+    requires few { length sorted.now ≤ most_items }
+    requires few_pieces { length anew.now ≤ most_items }
     requires items { All (λ duty. All (λ item. item < length pieces.now) duty.items) duties.now }
     ensures { IfOk result (λ made. made ≡ map (judging.renumbered blocks.now pieces.now anew.now) duties.now) }
 {
@@ -204,10 +205,10 @@ fn printed_answer(
     requires plan { IsPlan (blocks_in case.now false) blocks.now.columns }
     requires pieces { pieces.now ≡ pieces_in case.now blocks.now.columns }
     requires duties { IsPlan (duties_in case.now pieces.now false) duties.now.columns }
-    requires few_blocks { length blocks.now.columns ≤ 3000 }
+    requires few_blocks { length blocks.now.columns ≤ most_items }
     ensures answer { IfOk result (λ answer. answer ≡ answer_in case.now (printed blocks.now.columns) (duties_again case.now blocks.now duties.now) text.now.bounds) }
     ensures shifts { IfOk result (λ answer. All IsShift answer.pieces) }
-    ensures few { IfOk result (λ answer. length answer.pieces ≤ 3000) }
+    ensures few { IfOk result (λ answer. length answer.pieces ≤ most_items) }
 {
     let sorted = in_printed_order(copied_plan(alloc, blocks)?)?;
     let anew = block_pieces(alloc, case, &sorted)?;
@@ -254,8 +255,8 @@ fn same_tables(
     requires has { HasDuties case.now text.now blocks.now duties.now }
     requires answer { answer.now ≡ answer_in case.now (printed blocks.now.columns) (duties_again case.now blocks.now duties.now) text.now.bounds }
     requires shifts { All IsShift answer.now.pieces }
-    requires few_pieces { length (pieces_in case.now blocks.now.columns) ≤ 3000 }
-    requires few_blocks { length blocks.now.columns ≤ 3000 }
+    requires few_pieces { length (pieces_in case.now blocks.now.columns) ≤ most_items }
+    requires few_blocks { length blocks.now.columns ≤ most_items }
     requires cheap_blocks { AreCheap blocks.now.columns }
     requires cheap_duties { AreCheap duties.now.columns }
     requires bounds { All (λ bound. bound < 2 ^ 63) text.now.bounds }
@@ -291,7 +292,7 @@ fn are_plan(
     duties: &Plan,
 ) -> Result<bool, Memory>
     requires shifts { All IsShift pieces.now }
-    requires few { length pieces.now ≤ 3000 }
+    requires few { length pieces.now ≤ most_items }
     requires lists { length duties.now.columns < 2 ^ 32 }
     requires items { length (all_items duties.now.columns) < 2 ^ 32 }
     ensures yes { IfOk result (λ yes. yes ≡ true → IsPlan (duties_in case.now pieces.now false) duties.now.columns) }
@@ -327,15 +328,15 @@ pub(crate) fn printed_plan(
     requires case { IsCase case.now }
     requires has { HasDuties case.now text.now blocks.now duties.now }
     requires pieces { pieces.now ≡ pieces_in case.now blocks.now.columns }
-    requires few { length pieces.now ≤ 3000 }
-    requires few_blocks { length blocks.now.columns ≤ 3000 }
+    requires few { length pieces.now ≤ most_items }
+    requires few_blocks { length blocks.now.columns ≤ most_items }
     requires cheap_blocks { AreCheap blocks.now.columns }
     requires cheap_duties { AreCheap duties.now.columns }
     requires bounds { All (λ bound. bound < 2 ^ 63) text.now.bounds }
     ensures tables { IfOk result (λ _. HasTables case.now text.now blocks.now duties.now) }
     ensures pieces { IfOk result (λ anew. anew ≡ printed_pieces case.now blocks.now) }
     ensures shifts { IfOk result (λ anew. All IsShift anew) }
-    ensures few { IfOk result (λ anew. length anew ≤ 3000) }
+    ensures few { IfOk result (λ anew. length anew ≤ most_items) }
     ensures stop { IfErr result (IsStop case.now) }
 {
     // The settings of a day have their ranges: it says so.

@@ -1,6 +1,7 @@
 -- Promise: which bars a page has, and what escaped text is.
 use Rattle.std.specs.Prelude.{◌≡◌, ℕ, Bool, not, ◌==◌, ◌||◌, List, [], ◌∷◌, ◌++◌, map, Option, Some, None, Ok}
 use Rattle.std.specs.List.{enumerate_from}
+use Rattle.plan_core.specs.Limits.{most_items}
 use Rattle.vdv451_text.specs.declared.table.Table.{Table}
 use Rattle.plan_rows.specs.declared.fault.PlanTable.TheVariants as which
 use Rattle.chart_page.specs.declared.layout.Lane.{Lane}
@@ -60,7 +61,7 @@ pub record IsDrawn (tables : List Table) (page : List ℕ) : Type 0 where
   pub table : Table
   pub sheet : Sheet
   pub parts : List Part
-  pub found : table_of which.Trips 3000 tables ≡ Ok table
+  pub found : table_of which.Trips most_items tables ≡ Ok table
   pub said : sheet_of tables ≡ Ok sheet
   pub bytes : page ≡ written table parts
   pub bars : bars_in parts ≡ leg_bars sheet ++ (duty_bars sheet ++ (pause_bars sheet ++ piece_bars sheet))

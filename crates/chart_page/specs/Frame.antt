@@ -1,6 +1,7 @@
 -- Promise: what the two charts share: their frame, their hours, and the words for ends, labels, pools and groups.
 use Rattle.std.specs.Prelude.{ℕ, ◌+◌, ◌-◌, ◌*◌, min, Bool, true, false, List, [], ◌∷◌, ◌++◌}
 use Rattle.std.specs.List.{flat_map, range_with_len}
+use Rattle.plan_core.specs.Limits.{most_items}
 use Rattle.vdv451_text.specs.declared.table.Table.{Table}
 use Rattle.chart_page.specs.declared.layout.Hours.{Hours}
 use Rattle.chart_page.specs.declared.layout.Lane.{Lane}
@@ -18,7 +19,7 @@ length_of span = span.end - span.begin
 
 -- the lanes for which a chart of so many rows has room
 abbrev pub room_of : ℕ → ℕ
-room_of rows = min rows 3000
+room_of rows = min rows most_items
 
 -- an hour is 90 pixels wide, a lane 26 high
 abbrev pub wide_of : Hours → ℕ

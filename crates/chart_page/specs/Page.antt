@@ -1,6 +1,7 @@
 -- Promise: the page: the values with their bounds, the chart of the blocks and the chart of the duties.
 use Rattle.std.specs.Prelude.{◌≡◌, ℕ, ◌/◌, ◌%◌, List, [], ◌∷◌, ◌++◌, Option, Some, None, Result, Ok}
 use Rattle.std.specs.List.{flat_map}
+use Rattle.plan_core.specs.Limits.{most_items}
 use Rattle.vdv451_text.specs.declared.table.Table.{Table}
 use Rattle.plan_rows.specs.declared.fault.Place.{Place}
 use Rattle.plan_rows.specs.declared.fault.PlanTable.TheVariants as which
@@ -63,6 +64,6 @@ page_parts sheet = page_over sheet (hours_of sheet) (starts_of (hours_of sheet))
 -- The page of a plan, from the tables of its text, or the first place that is not drawn.
 abbrev pub chart_of : List Table → Result (List ℕ) Place
 chart_of tables = do
-  table ← table_of which.Trips 3000 tables
+  table ← table_of which.Trips most_items tables
   sheet ← sheet_of tables
   Ok (written table (page_parts sheet))

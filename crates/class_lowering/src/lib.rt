@@ -12,6 +12,7 @@
 #![tactic(auto)]
 
 ghost use Rattle.std.specs.Prelude.{◌≡◌, ◌≢◌, ◌<◌, ◌≤◌, ◌≤ℤ◌, [], pos, length, OnOk, OnErr};
+ghost use Rattle.plan_core.specs.Limits.{most_items, most_price, most_worth};
 ghost use Rattle.cover_core.specs.Cover.{AllBelow, Rises};
 ghost use Rattle.cover_core.specs.FirstLeast.{AllWithin};
 ghost use Rattle.cover_core.specs.Fitting.{AreFit};
@@ -33,14 +34,14 @@ use plan_core::Memory;
 ///
 /// [`Memory`] where it is refused: then no price has changed.
 pub fn lower_in_order(prices: &mut Prices, pool: &Pool, asked: &[i64]) -> Result<(), Memory>
-    requires few { length prices.old.items ≤ 3000 }
-    requires moderate { AllWithin 10000000000000 prices.old.items }
+    requires few { length prices.old.items ≤ most_items }
+    requires moderate { AllWithin most_price prices.old.items }
     requires classes { length asked.now ≤ 32 }
     requires asked { AreAsked asked.now }
     requires fit { AreFit (length prices.old.items) (length asked.now) pool.now }
     requires some { HaveItems pool.now }
     ensures lowered { OnOk result (IsLowered pool.now asked.now prices.old.items prices.new.items) }
-    ensures moderate { AllWithin 10000000000000 prices.new.items }
+    ensures moderate { AllWithin most_price prices.new.items }
     ensures len { length prices.new.items ≡ length prices.old.items }
     ensures memory { OnErr result (prices.new.items ≡ prices.old.items) }
 {
@@ -69,16 +70,16 @@ fn asked_at(asked: &[i64], class: u32) -> i64
 /// The column's list is not empty and rises, its items are there, and it is worth at most 4,000,000,000; its class asks from 0 to
 /// 30,000,000,000,000,000.
 pub fn lower_by(prices: &mut Prices, column: &Column, asked: i64)
-    requires few { length prices.old.items ≤ 3000 }
-    requires moderate { AllWithin 10000000000000 prices.old.items }
+    requires few { length prices.old.items ≤ most_items }
+    requires moderate { AllWithin most_price prices.old.items }
     requires some { column.now.items ≢ [] }
     requires rises { Rises column.now.items }
     requires items { AllBelow (length prices.old.items) column.now.items }
-    requires cheap { column.now.worth ≤ 4000000000 }
+    requires cheap { column.now.worth ≤ most_worth }
     requires low { pos 0 ≤ℤ asked }
     requires high { asked ≤ℤ pos 30000000000000000 }
     ensures lowered { prices.new.items ≡ lowered_prices prices.old.items column.now asked }
-    ensures moderate { AllWithin 10000000000000 prices.new.items }
+    ensures moderate { AllWithin most_price prices.new.items }
     ensures len { length prices.new.items ≡ length prices.old.items }
 {
     let value = value(column, prices) + asked;

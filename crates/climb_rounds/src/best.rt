@@ -1,6 +1,7 @@
 //! The best plan so far.
 
 ghost use Rattle.std.specs.Prelude.{◌≡◌, ◌<◌, ◌≤◌, ◌≤ℤ◌, pos, length, IfOk, OnOk};
+ghost use Rattle.plan_core.specs.Limits.{most_items};
 ghost use Rattle.cover_core.specs.FirstLeast.{AreCheap};
 ghost use Rattle.cover_core.specs.Plans.{IsPlan, cost};
 ghost use Rattle.price_rounds.specs.Steps.{AreReady};
@@ -68,7 +69,7 @@ impl Search {
 
 /// There are at most 3,000 items.
 pub(crate) fn ask_few<C: Columns>(problem: &C)
-    ensures { (C.problem problem.now).items ≤ 3000 }
+    ensures { (C.problem problem.now).items ≤ most_items }
 {
     let _items = problem.items();
 }

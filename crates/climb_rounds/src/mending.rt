@@ -2,6 +2,7 @@
 
 ghost use Rattle.std.specs.Prelude.{true, false, ◌≡◌, ◌<◌, ◌≤◌, ◌∷◌, [], length, IfOk, IfSome, OnOk};
 ghost use Rattle.std.specs.List.Sorted.{IsPermutation, IsSortedBy};
+ghost use Rattle.plan_core.specs.Limits.{most_items};
 ghost use Rattle.cover_core.specs.FirstLeast.{AreCheap};
 ghost use Rattle.cover_core.specs.Plans.{IsPlan};
 ghost use Rattle.price_rounds.specs.Steps.{AreReady, IsOffer};
@@ -98,7 +99,7 @@ fn ranked<C: Columns>(
 /// Whether the column of a rank is freed: one of the first `width` ranks, or one of as many that turn by turn go on through all ranks.
 fn is_freed(rank: usize, turn: usize, width: usize, count: usize) -> bool
     requires count { 0 < count }
-    requires few { count ≤ 3000 }
+    requires few { count ≤ most_items }
     requires rank { rank < count }
     requires turn { turn < 40 }
     requires width { width ≤ 16 }
@@ -111,7 +112,7 @@ fn is_freed(rank: usize, turn: usize, width: usize, count: usize) -> bool
 /// Which columns of a plan stay: all but those that are freed.
 fn marked(alloc: Global, ranks: &[Rank], turn: usize) -> Result<Seq<bool>, Memory>
     requires turn { turn < 40 }
-    requires few { length ranks.now ≤ 3000 }
+    requires few { length ranks.now ≤ most_items }
     ensures { IfOk result (λ stays. length stays ≡ length ranks.now) }
 {
     let count = ranks.len();
@@ -132,7 +133,7 @@ fn marked(alloc: Global, ranks: &[Rank], turn: usize) -> Result<Seq<bool>, Memor
 /// A plan has at most 3,000 columns.
 fn ask_short<C: Columns>(problem: &C, plan: &Plan)
     requires { IsPlan (C.problem problem.now) plan.now.columns }
-    ensures { length plan.now.columns ≤ 3000 }
+    ensures { length plan.now.columns ≤ most_items }
 {
     plan_sizes::<C>();
     ask_few(problem);

@@ -1,6 +1,7 @@
 //! Offers and their estimates.
 
 ghost use Rattle.std.specs.Prelude.{◌≡◌, ◌<◌, ◌≤◌, ◌≤ℤ◌, pos, neg_ℤ, length, IfOk, IfSome, OnOk};
+ghost use Rattle.plan_core.specs.Limits.{most_items, most_price};
 ghost use Rattle.cover_core.specs.FirstLeast.{AllWithin};
 ghost use Rattle.dual_bound.specs.Ranges.{AreAtLeast};
 ghost use Rattle.worker_price.specs.Priced.{priced_least};
@@ -62,8 +63,8 @@ fn kept_of<C: Columns>(
 
 /// The sum of all prices.
 fn sum_of(prices: &Prices) -> i128
-    requires few { length prices.now.items ≤ 3000 }
-    requires moderate { AllWithin 10000000000000 prices.now.items }
+    requires few { length prices.now.items ≤ most_items }
+    requires moderate { AllWithin most_price prices.now.items }
     ensures low { neg_ℤ (pos 30000000000000000) ≤ℤ result }
     ensures high { result ≤ℤ pos 30000000000000000 }
 {

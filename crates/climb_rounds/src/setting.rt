@@ -1,6 +1,7 @@
 //! What estimates need of a problem.
 
 ghost use Rattle.std.specs.Prelude.{IfSome, ◌≡◌, ◌<◌, ◌≤◌, ◌≤ℤ◌, pos, length, IfOk};
+ghost use Rattle.plan_core.specs.Limits.{most_worth};
 ghost use Rattle.plan_dive.specs.Grounds.{IsGround};
 ghost use Rattle.offer_estimate.specs.Scales.{AreCaps, AreWorths};
 ghost use Rattle.climb_rounds.specs.Settings.{IsSetting};
@@ -20,7 +21,7 @@ pub(crate) struct Setting {
 
 /// A thousand times a worth, at least 1.
 fn thousandfold(worth: u64) -> i64
-    requires { worth ≤ 4000000000 }
+    requires { worth ≤ most_worth }
     ensures low { pos 1 ≤ℤ result }
     ensures high { result ≤ℤ pos 4000000000000 }
 {
@@ -29,9 +30,9 @@ fn thousandfold(worth: u64) -> i64
 
 /// The least worth so far, and one worth more.
 fn lesser(least: Option<u64>, worth: u64) -> u64
-    requires least { IfSome least (λ worth. worth ≤ 4000000000) }
-    requires worth { worth ≤ 4000000000 }
-    ensures { result ≤ 4000000000 }
+    requires least { IfSome least (λ worth. worth ≤ most_worth) }
+    requires worth { worth ≤ most_worth }
+    ensures { result ≤ most_worth }
 {
     match least {
         None => worth,

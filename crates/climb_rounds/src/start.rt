@@ -1,6 +1,7 @@
 //! The prices at the start.
 
 ghost use Rattle.std.specs.Prelude.{◌∷◌, [], ◌≡◌, ◌<◌, ◌≤◌, ◌≤ℤ◌, pos, neg_ℤ, length, IfOk, OnOk};
+ghost use Rattle.plan_core.specs.Limits.{most_price, most_worth};
 ghost use Rattle.cover_core.specs.Cover.{AllBelow};
 ghost use Rattle.cover_core.specs.FirstLeast.{AllWithin};
 ghost use Rattle.lagrangian_climb.specs.Choices.{AreAsked};
@@ -38,20 +39,20 @@ fn kept_in(span: Span, number: i64) -> i64
 fn span_at(spans: &[Span], item: usize) -> Span
     requires inside { item < length spans.now }
     requires spans { AreSpans spans.now }
-    ensures low { neg_ℤ (pos 10000000000000) ≤ℤ result.low }
+    ensures low { neg_ℤ (pos most_price) ≤ℤ result.low }
     ensures ordered { result.low ≤ℤ result.high }
-    ensures high { result.high ≤ℤ pos 10000000000000 }
+    ensures high { result.high ≤ℤ pos most_price }
 {
     spans[item]
 }
 
 /// A quarter of minus the low end of a span, kept in the span.
 fn quarter_of(span: Span) -> i64
-    requires low { neg_ℤ (pos 10000000000000) ≤ℤ span.low }
+    requires low { neg_ℤ (pos most_price) ≤ℤ span.low }
     requires ordered { span.low ≤ℤ span.high }
-    requires high { span.high ≤ℤ pos 10000000000000 }
-    ensures low { neg_ℤ (pos 10000000000000) ≤ℤ result }
-    ensures high { result ≤ℤ pos 10000000000000 }
+    requires high { span.high ≤ℤ pos most_price }
+    ensures low { neg_ℤ (pos most_price) ≤ℤ result }
+    ensures high { result ≤ℤ pos most_price }
 {
     kept_in(span, (-span.low) / 4)
 }
@@ -60,7 +61,7 @@ fn quarter_of(span: Span) -> i64
 fn quarter_prices(alloc: Global, spans: &[Span]) -> Result<Seq<Price>, Memory>
     requires { AreSpans spans.now }
     ensures len { IfOk result (λ prices. length prices ≡ length spans.now) }
-    ensures moderate { IfOk result (AllWithin 10000000000000) }
+    ensures moderate { IfOk result (AllWithin most_price) }
 {
     let mut prices = Seq::new(alloc);
     for item in 0..spans.len() {
@@ -71,7 +72,7 @@ fn quarter_prices(alloc: Global, spans: &[Span]) -> Result<Seq<Price>, Memory>
 
 /// The equal share of a column's worth for each of its items, in thousandths of a cost unit.
 fn share_of(worth: u64, count: usize) -> i64
-    requires worth { worth ≤ 4000000000 }
+    requires worth { worth ≤ most_worth }
     ensures { count ≡ 0 → result ≡ pos 0 }
 {
     if count == 0 {
@@ -86,9 +87,9 @@ fn set_price(prices: &mut Seq<Price>, spans: &[Span], item: usize, share: i64)
     requires spans { AreSpans spans.now }
     requires one_each { length spans.now ≡ length prices.old }
     requires inside { item < length prices.old }
-    requires moderate { AllWithin 10000000000000 prices.old }
+    requires moderate { AllWithin most_price prices.old }
     ensures len { length prices.new ≡ length prices.old }
-    ensures moderate { AllWithin 10000000000000 prices.new }
+    ensures moderate { AllWithin most_price prices.new }
 {
     let price = kept_in(span_at(spans, item), share);
     prices.set(item, Price(price));
@@ -99,9 +100,9 @@ fn set_prices(prices: &mut Seq<Price>, spans: &[Span], list: &[u32], share: i64)
     requires spans { AreSpans spans.now }
     requires one_each { length spans.now ≡ length prices.old }
     requires items { AllBelow (length prices.old) list.now }
-    requires moderate { AllWithin 10000000000000 prices.old }
+    requires moderate { AllWithin most_price prices.old }
     ensures len { length prices.new ≡ length prices.old }
-    ensures moderate { AllWithin 10000000000000 prices.new }
+    ensures moderate { AllWithin most_price prices.new }
 {
     for item in list {
         set_price(prices, spans, *item as usize, share);

@@ -1,6 +1,7 @@
 //! How far the prices have come.
 
 ghost use Rattle.std.specs.Prelude.{◌≡◌, ◌<◌, ◌≤◌, ◌≤ℤ◌, pos, neg_ℤ, length, IfOk, OnOk};
+ghost use Rattle.plan_core.specs.Limits.{most_price};
 ghost use Rattle.cover_core.specs.FirstLeast.{AllWithin};
 ghost use Rattle.worker_price.specs.Work.{ArePricesFor};
 ghost use Rattle.climb_rounds.specs.Walks.{IsWalk};
@@ -40,12 +41,12 @@ pub(crate) fn copy_of(alloc: Global, prices: &Prices) -> Result<Prices, Memory>
 
 /// The number half way between two prices, rounded down.
 fn half_way(one: i64, other: i64) -> i64
-    requires one_low { neg_ℤ (pos 10000000000000) ≤ℤ one }
-    requires one_high { one ≤ℤ pos 10000000000000 }
-    requires other_low { neg_ℤ (pos 10000000000000) ≤ℤ other }
-    requires other_high { other ≤ℤ pos 10000000000000 }
-    ensures low { neg_ℤ (pos 10000000000000) ≤ℤ result }
-    ensures high { result ≤ℤ pos 10000000000000 }
+    requires one_low { neg_ℤ (pos most_price) ≤ℤ one }
+    requires one_high { one ≤ℤ pos most_price }
+    requires other_low { neg_ℤ (pos most_price) ≤ℤ other }
+    requires other_high { other ≤ℤ pos most_price }
+    ensures low { neg_ℤ (pos most_price) ≤ℤ result }
+    ensures high { result ≤ℤ pos most_price }
 {
     (one + other).div_euclid(2)
 }
@@ -53,9 +54,9 @@ fn half_way(one: i64, other: i64) -> i64
 /// The price of an item.
 pub(crate) fn price_at(prices: &Prices, item: usize) -> i64
     requires inside { item < length prices.now.items }
-    requires moderate { AllWithin 10000000000000 prices.now.items }
-    ensures low { neg_ℤ (pos 10000000000000) ≤ℤ result }
-    ensures high { result ≤ℤ pos 10000000000000 }
+    requires moderate { AllWithin most_price prices.now.items }
+    ensures low { neg_ℤ (pos most_price) ≤ℤ result }
+    ensures high { result ≤ℤ pos most_price }
 {
     prices.items.as_slice()[item].0
 }

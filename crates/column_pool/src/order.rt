@@ -2,6 +2,7 @@
 
 ghost use Rattle.std.specs.Prelude.{◌≡◌, ◌≤◌, length, map, IfOk, OnOk};
 ghost use Rattle.std.specs.List.Sorted.{IsPermutation, IsSortedBy};
+ghost use Rattle.plan_core.specs.Limits.{most_items, most_price};
 ghost use Rattle.cover_core.specs.FirstLeast.{AllWithin};
 ghost use Rattle.cover_core.specs.Fitting.{AreFit};
 ghost use Rattle.column_pool.specs.Pools.{IsByValue};
@@ -23,8 +24,8 @@ fn compare(x: &Key, y: &Key) -> Ordering
 /// The value and the place of each column.
 fn keys(alloc: Global, pool: &[Column], prices: &Prices) -> Result<Vec<Key>, Memory>
     requires pool { length pool.now ≤ 200000 }
-    requires few { length prices.now.items ≤ 3000 }
-    requires moderate { AllWithin 10000000000000 prices.now.items }
+    requires few { length prices.now.items ≤ most_items }
+    requires moderate { AllWithin most_price prices.now.items }
     requires fit { AreFit (length prices.now.items) 32 pool.now }
     ensures { IfOk result (λ keys. keys.items ≡ keys_of prices.now.items pool.now) }
 {
@@ -71,8 +72,8 @@ fn places(alloc: Global, keys: &[Key]) -> Result<Seq<u32>, Memory>
 /// The places of all columns by value, and of those of equal value by place.
 pub fn places_by_value(alloc: Global, pool: &[Column], prices: &Prices) -> Result<Seq<u32>, Memory>
     requires pool { length pool.now ≤ 200000 }
-    requires few { length prices.now.items ≤ 3000 }
-    requires moderate { AllWithin 10000000000000 prices.now.items }
+    requires few { length prices.now.items ≤ most_items }
+    requires moderate { AllWithin most_price prices.now.items }
     requires fit { AreFit (length prices.now.items) 32 pool.now }
     ensures { IfOk result (λ places. IsByValue prices.now.items pool.now places) }
 {

@@ -1,6 +1,7 @@
 //! The pool.
 
 ghost use Rattle.std.specs.Prelude.{◌≡◌, ◌<◌, ◌≤◌, [], List, length, not, IfOk, OnErr};
+ghost use Rattle.plan_core.specs.Limits.{most_items, most_price};
 ghost use Rattle.cover_core.specs.declared.Column.{Column};
 ghost use Rattle.cover_core.specs.Parts.{column_at};
 ghost use Rattle.column_pool.specs.Pools.{IsByValue, IsDistinct, is_refused, pool_after};
@@ -87,8 +88,8 @@ impl Pool {
     /// 10,000,000,000,000; each column rises, has items that have a price, is worth at most 4,000,000,000 and is of one of at most 32
     /// classes. `Memory` is the only error.
     pub fn sorted_by_value(&self, prices: &Prices) -> Result<Seq<u32>, Memory>
-        requires few { length prices.now.items ≤ 3000 }
-        requires moderate { AllWithin 10000000000000 prices.now.items }
+        requires few { length prices.now.items ≤ most_items }
+        requires moderate { AllWithin most_price prices.now.items }
         requires fit { AreFit (length prices.now.items) 32 self.now }
         ensures { IfOk result (λ places. IsByValue prices.now.items self.now places) }
     {

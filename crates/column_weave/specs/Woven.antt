@@ -1,5 +1,6 @@
 -- Promise: what is woven.
 use Rattle.std.specs.Prelude.{◌≡◌, ℕ, ℤ, neg_ℤ, ◌<ℤ◌, ◌<◌, ◌≤◌, List, length, slice_index, All}
+use Rattle.plan_core.specs.Limits.{most_worth}
 use Rattle.plan_core.specs.declared.Price.{Price}
 use Rattle.cover_core.specs.declared.Column.{Column}
 use Rattle.cover_core.specs.Cover.{Problem, Rises, AllBelow}
@@ -13,7 +14,7 @@ pub record IsWoven (p : Problem) (prices : List Price) (class : ℕ) (asked : �
   pub column : IsColumn p c
   pub rises : Rises c.items
   pub items : AllBelow p.items c.items
-  pub cheap : c.worth ≤ 4000000000
+  pub cheap : c.worth ≤ most_worth
   pub loss : value prices c <ℤ neg_ℤ asked
 
 -- a column whose class has a place, and whose value is below minus what its class asks

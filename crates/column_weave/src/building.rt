@@ -1,6 +1,7 @@
 //! A web at its start: the single items of each class, and links to their nearest later items.
 
 ghost use Rattle.std.specs.Prelude.{◌≡◌, ℕ, ◌*◌, ◌<◌, ◌≤◌, length, IfOk, IfSome, slice_index_or};
+ghost use Rattle.plan_core.specs.Limits.{most_items};
 ghost use Rattle.column_weave.specs.Webs.{IsWeb, AreLinks, IsSingle};
 ghost use Rattle.column_weave.specs.Nearest.{AreNearest, IsLater};
 
@@ -40,7 +41,7 @@ fn all_without_links<C: Columns>(alloc: Global, problem: &C) -> Result<Vec<Class
 
 /// A word for each pair of so many items: none is joined.
 fn no_pairs(alloc: Global, items: u32) -> Result<Seq<bool>, Memory>
-    requires { items ≤ 3000 }
+    requires { items ≤ most_items }
     ensures { IfOk result (λ joined. length joined ≡ items * items) }
 {
     let mut joined = Seq::new(alloc);

@@ -1,6 +1,7 @@
 //! The least lists over links.
 
 ghost use Rattle.std.specs.Prelude.{◌≡◌, ℕ, ◌<◌, ◌≤ℤ◌, pos, neg_ℤ, length, All};
+ghost use Rattle.plan_core.specs.Limits.{most_items, most_price};
 ghost use Rattle.column_weave.specs.Sums.{IsSummed, AreSummed, IsReach, IsOpen, is_less};
 ghost use Rattle.column_weave.specs.Webs.{IsRanged};
 
@@ -59,7 +60,7 @@ fn least_in(least: &[Least], item: u32) -> Least
 /// A list over a link.
 fn over(from: Least, link: Link) -> Least
     requires from { IsSummed link.from from }
-    requires few { link.from < 3000 }
+    requires few { link.from < most_items }
     requires low { neg_ℤ (pos 4000000000000) ≤ℤ link.rise }
     requires high { link.rise ≤ℤ pos 4000000000000 }
     ensures { (items : ℕ) → link.from < items → IsOpen items result }
@@ -82,8 +83,8 @@ pub fn is_less(next: Least, best: Least) -> bool
 fn paid(best: Least, price: i64) -> Least
     requires sum_low { neg_ℤ (pos 100000000000000000) ≤ℤ best.sum }
     requires sum_high { best.sum ≤ℤ pos 100000000000000000 }
-    requires low { neg_ℤ (pos 10000000000000) ≤ℤ price }
-    requires high { price ≤ℤ pos 10000000000000 }
+    requires low { neg_ℤ (pos most_price) ≤ℤ price }
+    requires high { price ≤ℤ pos most_price }
     ensures { (items : ℕ) → IsOpen items best → IsSummed items result }
 {
     Least {
@@ -95,12 +96,12 @@ fn paid(best: Least, price: i64) -> Least
 
 /// The least list that ends in an item: alone, or over one of its links, the first on ties.
 pub fn least_at(least: &[Least], links: &[Link], single: Option<i64>, price: i64) -> Least
-    requires few { length least.now < 3000 }
+    requires few { length least.now < most_items }
     requires summed { AreSummed least.now }
     requires links { All (IsReach (length least.now)) links.now }
     requires single { IsRanged single }
-    requires low { neg_ℤ (pos 10000000000000) ≤ℤ price }
-    requires high { price ≤ℤ pos 10000000000000 }
+    requires low { neg_ℤ (pos most_price) ≤ℤ price }
+    requires high { price ≤ℤ pos most_price }
     ensures { IsSummed (length least.now) result }
 {
     let mut best = alone(single);

@@ -1,6 +1,7 @@
 //! Weaving over links.
 
 ghost use Rattle.std.specs.Prelude.{◌≡◌, ◌&&◌, ◌<◌, ◌≤◌, ◌≤ℤ◌, ◌<ℤ◌, int_lt, pos, neg_ℤ, length, slice_index, All, IfOk, OnOk, IfSome};
+ghost use Rattle.plan_core.specs.Limits.{most_items, most_price, most_worth};
 ghost use Rattle.cover_core.specs.Cover.{AllBelow, Rises};
 ghost use Rattle.cover_core.specs.Plans.{AreColumns, number_at};
 ghost use Rattle.cover_core.specs.FirstLeast.{AllWithin, value};
@@ -37,11 +38,11 @@ fn followed_back(alloc: Global, least: &[Least], last: u32) -> Result<Vec<u32>, 
 /// The least list of a class that ends in the item behind those that are given: none where it is fixed.
 fn next_least(least: &[Least], links: &ClassLinks, prices: &Prices, fixed: &[bool]) -> Least
     requires next { length least.now < length fixed.now }
-    requires few { length fixed.now ≤ 3000 }
+    requires few { length fixed.now ≤ most_items }
     requires summed { AreSummed least.now }
     requires links { AreRanged (length fixed.now) links.now }
     requires prices { length prices.now.items ≡ length fixed.now }
-    requires moderate { AllWithin 10000000000000 prices.now.items }
+    requires moderate { AllWithin most_price prices.now.items }
     ensures { IsSummed (length least.now) result }
 {
     let item = least.len();
@@ -58,9 +59,9 @@ fn next_least(least: &[Least], links: &ClassLinks, prices: &Prices, fixed: &[boo
 /// The price of an item.
 fn price_of(prices: &Prices, item: usize) -> i64
     requires inside { item < length prices.now.items }
-    requires moderate { AllWithin 10000000000000 prices.now.items }
-    ensures low { neg_ℤ (pos 10000000000000) ≤ℤ result }
-    ensures high { result ≤ℤ pos 10000000000000 }
+    requires moderate { AllWithin most_price prices.now.items }
+    ensures low { neg_ℤ (pos most_price) ≤ℤ result }
+    ensures high { result ≤ℤ pos most_price }
 {
     prices.items.as_slice()[item].0
 }
@@ -72,10 +73,10 @@ fn least_lists(
     prices: &Prices,
     fixed: &[bool],
 ) -> Result<Vec<Least>, Memory>
-    requires few { length fixed.now ≤ 3000 }
+    requires few { length fixed.now ≤ most_items }
     requires links { AreRanged (length fixed.now) links.now }
     requires prices { length prices.now.items ≡ length fixed.now }
-    requires moderate { AllWithin 10000000000000 prices.now.items }
+    requires moderate { AllWithin most_price prices.now.items }
     ensures len { IfOk result (λ least. length least.items ≡ length fixed.now) }
     ensures summed { IfOk result (λ least. AreSummed least.items) }
 {
@@ -89,7 +90,7 @@ fn least_lists(
 
 /// Of the items from one place to another the one whose list is least, the first one on ties.
 fn best_of(least: &[Least], from: usize, to: usize) -> usize
-    requires few { length least.now ≤ 3000 }
+    requires few { length least.now ≤ most_items }
     requires some { from < to }
     requires inside { to ≤ length least.now }
     ensures low { from ≤ result }
@@ -106,11 +107,11 @@ fn best_of(least: &[Least], from: usize, to: usize) -> usize
 
 /// A column where its value is below minus what its class asks.
 fn with_gain(column: Column, prices: &Prices, asked: i64) -> Option<Column>
-    requires few { length prices.now.items ≤ 3000 }
-    requires moderate { AllWithin 10000000000000 prices.now.items }
+    requires few { length prices.now.items ≤ most_items }
+    requires moderate { AllWithin most_price prices.now.items }
     requires rises { Rises column.items }
     requires items { AllBelow (length prices.now.items) column.items }
-    requires cheap { column.worth ≤ 4000000000 }
+    requires cheap { column.worth ≤ most_worth }
     requires low { pos 0 ≤ℤ asked }
     requires high { asked ≤ℤ pos 30000000000000000 }
     ensures same { IfSome result (λ woven. woven ≡ column) }
@@ -137,9 +138,9 @@ fn woven_at<C: Columns>(
     requires least { length least.now ≡ (C.problem problem.now).items }
     requires last { last < length least.now }
     requires summed { AreSummed least.now }
-    requires few { length prices.now.items ≤ 3000 }
+    requires few { length prices.now.items ≤ most_items }
     requires prices { length prices.now.items ≡ (C.problem problem.now).items }
-    requires moderate { AllWithin 10000000000000 prices.now.items }
+    requires moderate { AllWithin most_price prices.now.items }
     requires low { pos 0 ≤ℤ asked }
     requires high { asked ≤ℤ pos 30000000000000000 }
     ensures { IfOk result (λ woven. IfSome woven (IsWoven (C.problem problem.now) prices.now.items class asked)) }
@@ -174,9 +175,9 @@ fn weave_class<C: Columns>(
     requires place { 0 < slice_index free.now class }
     requires least { length least.now ≡ (C.problem problem.now).items }
     requires summed { AreSummed least.now }
-    requires few { length prices.now.items ≤ 3000 }
+    requires few { length prices.now.items ≤ most_items }
     requires prices { length prices.now.items ≡ (C.problem problem.now).items }
-    requires moderate { AllWithin 10000000000000 prices.now.items }
+    requires moderate { AllWithin most_price prices.now.items }
     requires one_asked { length asked.now ≡ length (C.problem problem.now).caps }
     requires asked { AreAsked asked.now }
     requires woven { AreWoven (C.problem problem.now) prices.now.items free.now asked.now woven.old }
@@ -242,7 +243,7 @@ pub fn weave<C: Columns>(
 ) -> Result<Seq<Column>, Memory>
     requires web { IsWeb (C.problem problem.now) web.now }
     requires prices { length prices.now.items ≡ (C.problem problem.now).items }
-    requires moderate { AllWithin 10000000000000 prices.now.items }
+    requires moderate { AllWithin most_price prices.now.items }
     requires fixed { length fixed.now ≡ (C.problem problem.now).items }
     requires one_free { length free.now ≡ length (C.problem problem.now).caps }
     requires one_asked { length asked.now ≡ length (C.problem problem.now).caps }

@@ -1,6 +1,7 @@
 //! The web of a problem: the links of all classes, and which pairs of items are joined.
 
 ghost use Rattle.std.specs.Prelude.{◌≡◌, ◌<◌, ◌≤◌, ◌*◌, length};
+ghost use Rattle.plan_core.specs.Limits.{most_items};
 ghost use Rattle.cover_core.specs.Cover.{AllBelow, Rises};
 ghost use Rattle.cover_core.specs.Fitting.{AreFit};
 ghost use Rattle.column_weave.specs.Webs.{IsWeb};
@@ -23,7 +24,7 @@ pub struct Web {
 fn place_of(from: u32, item: u32, items: u32) -> usize
     requires from { from < items }
     requires item { item < items }
-    requires few { items ≤ 3000 }
+    requires few { items ≤ most_items }
     ensures { result < items * items }
 {
     (from * items + item) as usize
@@ -33,7 +34,7 @@ fn place_of(from: u32, item: u32, items: u32) -> usize
 fn is_known(joined: &mut Seq<bool>, from: u32, item: u32, items: u32) -> bool
     requires from { from < items }
     requires item { item < items }
-    requires few { items ≤ 3000 }
+    requires few { items ≤ most_items }
     requires pairs { length joined.old ≡ items * items }
     ensures { length joined.new ≡ length joined.old }
 {

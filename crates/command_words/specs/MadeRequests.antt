@@ -1,5 +1,6 @@
 -- Promise: requests for a day that is made.
 use Rattle.std.specs.Prelude.{◌≡◌, ℕ, ◌≤◌, Bool, true, false, []}
+use Rattle.plan_core.specs.Limits.{most_items}
 use Rattle.command_words.specs.declared.command.Command.{Command}
 use Rattle.command_words.specs.declared.command.Command.TheVariants as commands
 use Rattle.command_words.specs.declared.request.Request.{Request}
@@ -20,7 +21,7 @@ pub record IsMadeRequest (request : Request) : Type 0 where
   pub seed : ℕ
   pub trips : ℕ
   pub run : Bool
-  pub few : trips ≤ 3000
+  pub few : trips ≤ most_items
   pub command_is : request.command ≡ commands.Make (record { seed = seed; trips = trips; run = run })
   pub day_is : request.day ≡ 20260302
   pub names_are : request.names ≡ []

@@ -5,6 +5,7 @@ use Rattle.std.specs.List.{list_all, list_any}
 use Rattle.std.specs.Option.{is_none, option_and_then, option_map}
 use Rattle.std.specs.Str.{bytes_eq}
 use Rattle.std.specs.Str.Parse.{digits_value}
+use Rattle.plan_core.specs.Limits.{most_items}
 use Rattle.price_rounds.specs.declared.effort.Effort.{Effort}
 use Rattle.command_words.specs.declared.options.Allowed.{Allowed}
 use Rattle.command_words.specs.declared.options.Allowed.TheVariants.{Nothing, Planning, Replanning, Making}
@@ -154,7 +155,7 @@ settings_of given = record { effort = effort_of given; flow = given.flow; trips 
 
 -- an effort in its ranges, and 1 to 3,000 trips
 abbrev pub are_in_range : Settings → Bool
-are_in_range settings = in_range settings.effort && (nat_le 1 settings.trips && nat_le settings.trips 3000)
+are_in_range settings = in_range settings.effort && (nat_le 1 settings.trips && nat_le settings.trips most_items)
 
 abbrev pub settings_if : Allowed → Given → Option Settings
 settings_if allowed given = if is_allowed allowed given && are_in_range (settings_of given) then Some (settings_of given) else None

@@ -5,6 +5,7 @@ use Rattle.std.specs.List.{list_all}
 use Rattle.std.specs.Option.{option_and_then, option_map}
 use Rattle.std.specs.Str.{bytes_eq}
 use Rattle.std.specs.Str.Parse.{digits_value}
+use Rattle.plan_core.specs.Limits.{most_items}
 use Rattle.price_rounds.specs.declared.effort.Effort.{Effort}
 use Rattle.command_words.specs.Options.{plain_of, said, settings_said}
 use Rattle.command_words.specs.declared.options.Allowed.{Allowed}
@@ -195,7 +196,7 @@ asked (word ∷ words) = option_and_then (λ name. asked_of name words) (name_of
 
 -- a day that is made has at most 3,000 trips
 abbrev pub HasFewTrips : Command → Type 0
-HasFewTrips (commands.Make making) = making.trips ≤ 3000
+HasFewTrips (commands.Make making) = making.trips ≤ most_items
 HasFewTrips commands.Trips = Unit {0}
 HasFewTrips commands.Day = Unit {0}
 HasFewTrips commands.Plan = Unit {0}

@@ -2,6 +2,7 @@
 
 ghost use Rattle.std.specs.Prelude.{◌≡◌, ◌<◌, ◌≤◌, ◌&&◌, ◌∷◌, not, [], IfSome, IfNone, List, ℕ, Some, None, length, true, false};
 ghost use Rattle.std.specs.Option.{option_and_then, option_map};
+ghost use Rattle.plan_core.specs.Limits.{most_items};
 ghost use Rattle.command_words.specs.Options.{given_with};
 ghost use Rattle.std.specs.Char.{is_ascii_digit};
 ghost use Rattle.std.specs.List.{list_all};
@@ -342,7 +343,7 @@ fn are_in_range(settings: Settings) -> bool
 pub(crate) fn settings_said(allowed: Allowed, words: &[Bytes]) -> Option<Settings>
     ensures said { result ≡ spec.settings_said allowed words.now }
     ensures effort { IfSome result (λ settings. IsEffort settings.effort) }
-    ensures trips { IfSome result (λ settings. settings.trips ≤ 3000) }
+    ensures trips { IfSome result (λ settings. settings.trips ≤ most_items) }
 {
     let given = given_in(words)?;
     let settings = settings_of(given);

@@ -2,6 +2,7 @@
 
 ghost use Rattle.std.specs.Prelude.{◌≡◌, ◌≤◌, ◌↔◌, ◌&&◌, ◌++◌, ◌∷◌, [], IfOk, IfSome, IfNone, OnOk, IsErrOf, Some, None, length, true, false};
 ghost use Rattle.std.specs.List.{list_all};
+ghost use Rattle.plan_core.specs.Limits.{most_items};
 ghost use Rattle.price_rounds.specs.Efforts.{IsEffort};
 ghost use Rattle.command_words.specs.Options.{plain_of, said as said_by};
 ghost use Rattle.command_words.specs.Words as spec;
@@ -435,7 +436,7 @@ fn replan_request(alloc: Global, effort: Effort, words: Parted<'_>) -> Result<Re
 /// The request for a day that is made.
 fn make_request(alloc: Global, settings: Settings, words: Parted<'_>) -> Result<Request, WordsFault>
     requires effort { IsEffort settings.effort }
-    requires trips { settings.trips ≤ 3000 }
+    requires trips { settings.trips ≤ most_items }
     ensures request { IfOk result (λ request. spec.request_for CommandName.Make settings (plain_of (said_by words.entry.before.now) ++ words.entry.behind.now) ≡ Some request) }
     ensures names { IfOk result (λ request. spec.HasNames request.command (length request.names)) }
     ensures effort { IfOk result (λ request. IsEffort request.effort) }
@@ -499,7 +500,7 @@ fn request_for(
     words: Parted<'_>,
 ) -> Result<Request, WordsFault>
     requires effort { IsEffort settings.effort }
-    requires trips { settings.trips ≤ 3000 }
+    requires trips { settings.trips ≤ most_items }
     ensures request { IfOk result (λ request. spec.request_for name settings (plain_of (said_by words.entry.before.now) ++ words.entry.behind.now) ≡ Some request) }
     ensures names { IfOk result (λ request. spec.HasNames request.command (length request.names)) }
     ensures effort { IfOk result (λ request. IsEffort request.effort) }

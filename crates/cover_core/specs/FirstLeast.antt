@@ -3,6 +3,7 @@ use Rattle.std.specs.Prelude.{◌≡◌, ℕ, false, ℤ, ◌≤ℤ◌, ◌<ℤ�
 use Rattle.std.specs.declared.cmp.Ordering.{Ordering}
 use Rattle.std.specs.Ordering.{nat_cmp, is_gt}
 use Rattle.std.specs.Cmp.Lexicographic.{slice_cmp}
+use Rattle.plan_core.specs.Limits.{most_worth}
 use Rattle.plan_core.specs.declared.Price.{Price}
 use Rattle.cover_core.specs.declared.Column.{Column}
 use Rattle.cover_core.specs.Cover.{Problem}
@@ -72,4 +73,4 @@ AllWithin n (x ∷ xs) = (neg_ℤ (pos n) ≤ℤ x.0) × (x.0 ≤ℤ pos n) × A
 -- no worth is above 4,000,000,000
 abbrev pub AreCheap : List Column → Type 0
 AreCheap [] = Unit {0}
-AreCheap (c ∷ cs) = (c.worth ≤ 4000000000) × AreCheap cs
+AreCheap (c ∷ cs) = (c.worth ≤ most_worth) × AreCheap cs

@@ -8,6 +8,7 @@
 #![tactic(auto)]
 
 ghost use Rattle.std.specs.Prelude.{◌≡◌, ◌<◌, ◌≤◌, length, slice_index, ◌*◌, IfOk, IfSome};
+ghost use Rattle.plan_core.specs.Limits.{most_items, most_price, most_worth, most_places};
 ghost use Rattle.cover_core.specs.Cover.{Problem, AllBelow, Rises};
 ghost use Rattle.cover_core.specs.Plans.{HasListedColumns, cost, price_at};
 ghost use Rattle.cover_core.specs.Ranges.{HasFewPlaces, HasModestWorths};
@@ -65,7 +66,7 @@ pub trait Columns {
     /// How many items there are: at most 3,000.
     fn items(&self) -> u32
         ensures value { result ≡ (problem self.now).items }
-        ensures few { result ≤ 3000 };
+        ensures few { result ≤ most_items };
 
     /// How many classes there are: at most 32. No class may have more than 10,000 columns, and no list is worth more than 4,000,000,000 cost
     /// units in a class. Both are said here of all classes at once, since whoever goes through a plan's columns or caps asks for the number
@@ -80,14 +81,14 @@ pub trait Columns {
     fn cap(&self, class: u32) -> u32
         requires { class < length (problem self.now).caps }
         ensures value { result ≡ slice_index (problem self.now).caps class }
-        ensures few { result ≤ 10000 };
+        ensures few { result ≤ most_places };
 
     /// What a list is worth as a column of a class, where it is one: at most 4,000,000,000 cost units.
     fn worth(&self, class: u32, list: &[u32]) -> Option<u64>
         requires class { class < length (problem self.now).caps }
         requires items { AllBelow (problem self.now).items list.now }
         ensures value { result ≡ (problem self.now).worth class list.now }
-        ensures bound { IfSome result (λ worth. worth ≤ 4000000000) };
+        ensures bound { IfSome result (λ worth. worth ≤ most_worth) };
 
     /// The law of columns: a list with a worth is not empty and rises, and its items are there.
     ghost listed: { (s : Self) → HasListedColumns (problem s) };
@@ -108,15 +109,15 @@ pub trait Pricer: Columns {
     ) -> Result<Option<Column>, Memory>
         requires class { class < length (Self.problem self.now).caps }
         requires prices { length prices.now.items ≡ (Self.problem self.now).items }
-        requires moderate { AllWithin 10000000000000 prices.now.items }
+        requires moderate { AllWithin most_price prices.now.items }
         requires group { 16 * group < (Self.problem self.now).items }
         ensures best { IfOk result (λ answer. answer ≡ within limit prices.now.items (best_of (Self.problem self.now) prices.now.items class group)) }
-        ensures bound { IfOk result (λ answer. IfSome answer (λ column. column.worth ≤ 4000000000)) };
+        ensures bound { IfOk result (λ answer. IfSome answer (λ column. column.worth ≤ most_worth)) };
 }
 
 /// What a plan costs, in cost units.
 pub fn plan_cost(plan: &Plan) -> u64
-    requires few { length plan.now.columns ≤ 3000 }
+    requires few { length plan.now.columns ≤ most_items }
     requires cheap { AreCheap plan.now.columns }
     ensures { result ≡ cost plan.now.columns }
 {
@@ -129,11 +130,11 @@ pub fn plan_cost(plan: &Plan) -> u64
 
 /// The value of a column, in thousandths of a cost unit: a thousand times its worth, less the prices of its items.
 pub fn value(column: &Column, prices: &Prices) -> i64
-    requires few { length prices.now.items ≤ 3000 }
-    requires moderate { AllWithin 10000000000000 prices.now.items }
+    requires few { length prices.now.items ≤ most_items }
+    requires moderate { AllWithin most_price prices.now.items }
     requires rises { Rises column.now.items }
     requires items { AllBelow (length prices.now.items) column.now.items }
-    requires cheap { column.now.worth ≤ 4000000000 }
+    requires cheap { column.now.worth ≤ most_worth }
     ensures { result ≡ value prices.now.items column.now }
 {
     let mut rest = 1000 * column.worth as i64;

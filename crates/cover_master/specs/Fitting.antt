@@ -2,6 +2,7 @@
 use Rattle.std.specs.Prelude.{ℕ, pos, int_lt, ◌≤◌, Bool, Option, Some, None}
 use Rattle.std.specs.Ordering.{nat_cmp, then_cmp, on, is_lt}
 use Rattle.std.specs.declared.cmp.Ordering.{Ordering}
+use Rattle.plan_core.specs.Limits.{most_worth}
 use Rattle.cover_master.specs.declared.key.Key.{Key}
 use Rattle.cover_master.specs.Method.{place_cmp}
 
@@ -20,4 +21,4 @@ is_gain key = int_lt key.value (pos 0)
 -- a worth is at most 4,000,000,000
 abbrev pub IsModerate : Option ℕ → Type 0
 IsModerate None = Unit {0}
-IsModerate (Some worth) = worth ≤ 4000000000
+IsModerate (Some worth) = worth ≤ most_worth

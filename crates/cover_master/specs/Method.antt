@@ -3,6 +3,7 @@ use Rattle.std.specs.Prelude.{ℕ, ℤ, pos, neg_ℤ, ◌+ℤ◌, ◌-ℤ◌, �
 use Rattle.std.specs.List.{sum_by, count_by}
 use Rattle.std.specs.Ordering.{nat_cmp, int_cmp, then_cmp, on, is_lt}
 use Rattle.std.specs.declared.cmp.Ordering.{Ordering}
+use Rattle.plan_core.specs.Limits.{most_price}
 use Rattle.plan_core.specs.declared.Price.{Price}
 use Rattle.cover_core.specs.declared.Column.{Column}
 use Rattle.cover_core.specs.Cover.{Problem}
@@ -29,7 +30,7 @@ start_price p item = pos (1000 * unwrap_or (least_worth p (length p.caps) (item 
 -- a price kept from -10,000,000,000,000 to 10,000,000,000,000
 abbrev pub clamped : ℤ → ℤ
 clamped z =
-    cond (int_lt (pos 10000000000000) z) (pos 10000000000000) (cond (int_lt z (neg_ℤ (pos 10000000000000))) (neg_ℤ (pos 10000000000000)) z)
+    cond (int_lt (pos most_price) z) (pos most_price) (cond (int_lt z (neg_ℤ (pos most_price))) (neg_ℤ (pos most_price)) z)
 
 -- the size of the price steps of a round: the greatest start price divided by one more than the round, rounded down, and at least 1
 abbrev pub step_size_of : ℤ → ℕ → ℤ

@@ -7,6 +7,7 @@
 #![tactic(auto)]
 
 ghost use Rattle.std.specs.Prelude.{◌≡◌, ◌≤◌, ◌≤ℤ◌, pos};
+ghost use Rattle.plan_core.specs.Limits.{most_price};
 ghost use Rattle.cover_master.specs.Method.{step_size_of};
 
 mod clamps;
@@ -24,7 +25,7 @@ pub use turns::turn;
 /// at least 1. The greatest start price is from 0 to 10,000,000,000,000 and the round at most 200.
 pub fn step_size(greatest: i64, round: u32) -> i64
     requires low { pos 0 ≤ℤ greatest }
-    requires high { greatest ≤ℤ pos 10000000000000 }
+    requires high { greatest ≤ℤ pos most_price }
     requires round { round ≤ 200 }
     ensures { result ≡ step_size_of greatest round }
 {

@@ -2,6 +2,7 @@
 #![tactic(auto)]
 
 ghost use Rattle.std.specs.Prelude.{◌≡◌, ℕ, ◌<◌, ◌≤◌, ◌*◌, ◌∷◌, [], ◌≤ℤ◌, pos, length, unwrap_or, IfOk};
+ghost use Rattle.plan_core.specs.Limits.{most_price};
 ghost use Rattle.cover_core.specs.Plans.{price_at};
 ghost use Rattle.cover_core.specs.FirstLeast.{AllWithin};
 ghost use Rattle.cover_master.specs.Method.{least_of, least_worth, start_price, starting_prices};
@@ -55,7 +56,7 @@ fn start_of(least: Option<u64>) -> i64
 /// `Memory` is the only error.
 pub fn start_prices<C: Columns>(alloc: Global, columns: &C) -> Result<Prices, Memory>
     ensures start { IfOk result (λ new. new.items ≡ starting_prices (C.problem columns.now)) }
-    ensures moderate { IfOk result (λ new. AllWithin 10000000000000 new.items) }
+    ensures moderate { IfOk result (λ new. AllWithin most_price new.items) }
 {
     let items = each_start(alloc, columns)?;
     Ok(Prices { items })
@@ -65,7 +66,7 @@ pub fn start_prices<C: Columns>(alloc: Global, columns: &C) -> Result<Prices, Me
 fn each_start<C: Columns>(alloc: Global, columns: &C) -> Result<Seq<Price>, Memory>
     ensures len { IfOk result (λ new. length new ≡ (C.problem columns.now).items) }
     ensures start { IfOk result (λ new. (item : ℕ) → item < (C.problem columns.now).items → price_at new item ≡ start_price (C.problem columns.now) item) }
-    ensures moderate { IfOk result (λ new. AllWithin 10000000000000 new) }
+    ensures moderate { IfOk result (λ new. AllWithin most_price new) }
 {
     let mut new = Seq::new(alloc);
     for item in 0..columns.items() {

@@ -3,6 +3,7 @@
 
 ghost use Rattle.std.specs.Prelude.{◌≡◌, ℕ, ◌<◌, ◌≤◌, ◌+◌, ◌≤ℤ◌, ◌+ℤ◌, ◌-ℤ◌, ◌*ℤ◌, ℤ, pos, neg_ℤ, nat_lt, cond, length, filter, IfOk, OnOk, slice_index, slice_set, vec_len};
 ghost use Rattle.std.specs.List.Sorted.{IsPermutation, IsSortedBy};
+ghost use Rattle.plan_core.specs.Limits.{most_items, most_price};
 ghost use Rattle.cover_core.specs.FirstLeast.{AllWithin};
 ghost use Rattle.cover_core.specs.Cover.{AllBelow};
 ghost use Rattle.cover_core.specs.Plans.{times, price_at};
@@ -31,8 +32,8 @@ fn compare(x: &Key, y: &Key) -> Ordering
 /// The columns of value below 0.
 fn gains(alloc: Global, pool: &[Column], prices: &Prices) -> Result<Vec<Key>, Memory>
     requires pool { length pool.now ≤ 200000 }
-    requires few { length prices.now.items ≤ 3000 }
-    requires moderate { AllWithin 10000000000000 prices.now.items }
+    requires few { length prices.now.items ≤ most_items }
+    requires moderate { AllWithin most_price prices.now.items }
     requires fit { AreFit (length prices.now.items) 32 pool.now }
     ensures { IfOk result (λ keys. keys.items ≡ filter is_gain (keys_of prices.now.items pool.now)) }
 {
@@ -72,7 +73,7 @@ fn sort(keys: &mut Vec<Key>) -> Result<(), Memory>
 fn add_items(cover: &mut Seq<u32>, list: &[u32])
     requires items { AllBelow (length cover.old) list.now }
     requires small { (i : ℕ) → slice_index cover.old i ≤ 1000000 }
-    requires short { length list.now ≤ 3000 }
+    requires short { length list.now ≤ most_items }
     ensures added { (i : ℕ) → slice_index cover.new i ≡ slice_index cover.old i + times i list.now }
     ensures len { length cover.new ≡ length cover.old }
 {
@@ -96,7 +97,7 @@ fn zeros(alloc: Global, len: usize) -> Result<Seq<u32>, Memory>
 /// By how much a price step moves the price of an item that so many chosen columns have.
 fn change(size: i64, times: u32) -> i64
     requires size_low { pos 0 ≤ℤ size }
-    requires size_high { size ≤ℤ pos 10000000000000 }
+    requires size_high { size ≤ℤ pos most_price }
     requires times { times ≤ 200000 }
     ensures value { result ≡ size *ℤ (pos 1 -ℤ pos times) }
     ensures low { neg_ℤ (pos 2000000000000000000) ≤ℤ result }
@@ -107,10 +108,10 @@ fn change(size: i64, times: u32) -> i64
 
 /// The price of such an item after the price step.
 fn moved(price: i64, size: i64, times: u32) -> i64
-    requires low { neg_ℤ (pos 10000000000000) ≤ℤ price }
-    requires high { price ≤ℤ pos 10000000000000 }
+    requires low { neg_ℤ (pos most_price) ≤ℤ price }
+    requires high { price ≤ℤ pos most_price }
     requires size_low { pos 0 ≤ℤ size }
-    requires size_high { size ≤ℤ pos 10000000000000 }
+    requires size_high { size ≤ℤ pos most_price }
     requires times { times ≤ 200000 }
     ensures { result ≡ clamped (price +ℤ (size *ℤ (pos 1 -ℤ pos times))) }
 {
@@ -123,7 +124,7 @@ fn walk(pool: &[Column], caps: &[u32], key: Key, cover: &mut Seq<u32>, counts: &
     requires class { key.class < length caps.now }
     requires place { key.place < length pool.now }
     requires fit { AreFit (length cover.old) (length caps.now) pool.now }
-    requires few { length cover.old ≤ 3000 }
+    requires few { length cover.old ≤ most_items }
     requires counts { length counts.old ≡ length caps.now }
     requires small { (i : ℕ) → slice_index cover.old i ≤ 1000000 }
     requires low { (i : ℕ) → slice_index counts.old i ≤ 1000000 }
@@ -148,7 +149,7 @@ fn cover(
     keys: &[Key],
 ) -> Result<Seq<u32>, Memory>
     requires pool { length pool.now ≤ 200000 }
-    requires few { length prices.now.items ≤ 3000 }
+    requires few { length prices.now.items ≤ most_items }
     requires fit { AreFit (length prices.now.items) (length caps.now) pool.now }
     requires all { AreCandidates prices.now.items pool.now caps.now keys.now }
     requires sorted { IsSortedBy is_before keys.now }
@@ -176,14 +177,14 @@ pub fn turn(
     size: i64,
 ) -> Result<Prices, Memory>
     requires pool { length pool.now ≤ 200000 }
-    requires few { length prices.now.items ≤ 3000 }
-    requires moderate { AllWithin 10000000000000 prices.now.items }
+    requires few { length prices.now.items ≤ most_items }
+    requires moderate { AllWithin most_price prices.now.items }
     requires classes { length caps.now ≤ 32 }
     requires fit { AreFit (length prices.now.items) (length caps.now) pool.now }
     requires size_low { pos 0 ≤ℤ size }
-    requires size_high { size ≤ℤ pos 10000000000000 }
+    requires size_high { size ≤ℤ pos most_price }
     ensures turned { IfOk result (λ new. new.items ≡ turned_prices pool.now prices.now.items caps.now size) }
-    ensures moderate { IfOk result (λ new. AllWithin 10000000000000 new.items) }
+    ensures moderate { IfOk result (λ new. AllWithin most_price new.items) }
 {
     let gains = gains(alloc, pool, prices)?;
     let limits = limits(alloc, gains.as_slice(), caps)?;
@@ -201,11 +202,11 @@ fn moved_prices(
     cover: &[u32],
     size: i64,
 ) -> Result<Seq<Price>, Memory>
-    requires moderate { AllWithin 10000000000000 prices.now.items }
+    requires moderate { AllWithin most_price prices.now.items }
     requires len { length cover.now ≡ length prices.now.items }
     requires few { (i : ℕ) → slice_index cover.now i ≤ 200000 }
     requires size_low { pos 0 ≤ℤ size }
-    requires size_high { size ≤ℤ pos 10000000000000 }
+    requires size_high { size ≤ℤ pos most_price }
     ensures len { IfOk result (λ new. length new ≡ length prices.now.items) }
     ensures moved { IfOk result (λ new. (item : ℕ) → item < length prices.now.items → price_at new item ≡ moved_price prices.now.items size cover.now item) }
 {

@@ -1,6 +1,7 @@
 //! Prices that columns lower where their classes ask for a place, worked by hand.
 
 ghost use Rattle.std.specs.Prelude.{◌≢◌, ◌<◌, ◌≤◌, [], IfOk};
+ghost use Rattle.plan_core.specs.Limits.{most_worth};
 ghost use Rattle.cover_core.specs.Cover.{AllBelow, Rises};
 ghost use Rattle.cover_core.specs.Fitting.{AreFit};
 ghost use Rattle.class_lowering.specs.Lowering.{HaveItems};
@@ -24,7 +25,7 @@ fn with_column(
     requires fit { AreFit 3 2 pool }
     requires some { HaveItems pool }
     requires class { class < 2 }
-    requires cheap { worth ≤ 4000000000 }
+    requires cheap { worth ≤ most_worth }
     requires rises { Rises list.now }
     requires items { AllBelow 3 list.now }
     requires there { list.now ≢ [] }

@@ -1,6 +1,7 @@
 //! Columns that are put into a pool, and their places by value, worked by hand.
 
 ghost use Rattle.std.specs.Prelude.{◌≤◌, OnOk};
+ghost use Rattle.plan_core.specs.Limits.{most_worth};
 ghost use Rattle.cover_core.specs.Cover.{AllBelow, Rises};
 ghost use Rattle.cover_core.specs.Fitting.{AreFit};
 
@@ -44,7 +45,7 @@ fn add_fit(alloc: Global, pool: &mut Pool, worth: u64, list: &[u32]) -> Result<b
     requires fit { AreFit 3 32 pool.old }
     requires rises { Rises list.now }
     requires items { AllBelow 3 list.now }
-    requires cheap { worth ≤ 4000000000 }
+    requires cheap { worth ≤ most_worth }
     ensures { OnOk result (AreFit 3 32 pool.new) }
 {
     let column = column(alloc, 0, worth, list)?;

@@ -1,6 +1,7 @@
 //! Start prices, step sizes, price steps and lowered prices, worked by hand.
 
 ghost use Rattle.std.specs.Prelude.{◌≡◌, ◌≢◌, ◌≤◌, [], length};
+ghost use Rattle.plan_core.specs.Limits.{most_price, most_worth};
 ghost use Rattle.cover_core.specs.Cover.{AllBelow, Rises};
 ghost use Rattle.cover_core.specs.FirstLeast.{AllWithin};
 
@@ -80,9 +81,9 @@ fn is_lowered(
     list: &[u32],
     wanted: [Price; 3],
 ) -> Result<bool, Memory>
-    requires moderate { AllWithin 10000000000000 given }
+    requires moderate { AllWithin most_price given }
     requires three { length given ≡ 3 }
-    requires cheap { worth ≤ 4000000000 }
+    requires cheap { worth ≤ most_worth }
     requires some { list.now ≢ [] }
     requires rises { Rises list.now }
     requires items { AllBelow 3 list.now }

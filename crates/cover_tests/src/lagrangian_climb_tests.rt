@@ -1,6 +1,7 @@
 //! Climbs whose outcomes a second program gave.
 
 ghost use Rattle.std.specs.Prelude.{◌≡◌, ◌<◌, ◌≤◌, ◌+◌, ◌≤ℤ◌, pos, length, IfOk};
+ghost use Rattle.plan_core.specs.Limits.{most_worth};
 ghost use Rattle.cover_core.specs.Cover.{AllBelow, Rises};
 ghost use Rattle.cover_core.specs.Fitting.{AreFit};
 ghost use Rattle.lagrangian_climb.specs.Climbs.{IsPriced};
@@ -22,7 +23,7 @@ fn add(
 ) -> Result<Seq<Column>, Memory>
     requires fit { AreFit 3 2 pool }
     requires class { class < 2 }
-    requires cheap { worth ≤ 4000000000 }
+    requires cheap { worth ≤ most_worth }
     requires rises { Rises list.now }
     requires items { AllBelow 3 list.now }
     ensures fit { IfOk result (AreFit 3 2) }

@@ -1,6 +1,7 @@
 //! A small network, against covers of least cost that were found by going through all.
 
 ghost use Rattle.std.specs.Prelude.{◌≤◌};
+ghost use Rattle.plan_core.specs.Limits.{most_places};
 ghost use Rattle.cover_tests.specs.Paths.{small_cheap, small_net, small_rising};
 
 use path_cover::{Arcs, least_cover, prices_of};
@@ -18,7 +19,7 @@ struct Small {
     closed: bool,
     ghost cheap_start: { start ≤ 1000 },
     ghost cheap_step: { step ≤ 1000 },
-    ghost few: { most ≤ 10000 },
+    ghost few: { most ≤ most_places },
 }
 
 impl Arcs for Small {
@@ -83,7 +84,7 @@ fn spell(alloc: Global, small: &Small) -> Result<Vec<u64>, Memory> {
 fn network(start: u32, most: u32, step: u32, closed: bool) -> Small
     requires start { start ≤ 1000 }
     requires step { step ≤ 1000 }
-    requires most { most ≤ 10000 }
+    requires most { most ≤ most_places }
 {
     Small {
         start,

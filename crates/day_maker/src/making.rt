@@ -1,6 +1,7 @@
 //! The tables of a day that is made from a seed.
 
 ghost use Rattle.std.specs.Prelude.{◌≡◌, ◌≤◌, ◌++◌, ◌∷◌, [], IfOk, OnOk, map};
+ghost use Rattle.plan_core.specs.Limits.{most_items};
 ghost use Rattle.day_maker.specs.Limits.{AreSmall};
 ghost use Rattle.day_maker.specs.Made as made;
 ghost use Rattle.day_maker.specs.Made.{made_tables, rows_of};
@@ -55,7 +56,7 @@ fn calendar_table(alloc: Global) -> Result<Table, Memory>
 
 /// The table of trips.
 fn trip_table(alloc: Global, seed: u32, trips: u32) -> Result<Table, Memory>
-    requires { trips ≤ 3000 }
+    requires { trips ≤ most_items }
     ensures { IfOk result (λ table. table ≡ made.trip_table seed trips) }
 {
     let rows = trip_rows(alloc, seed, trips)?;
@@ -153,7 +154,7 @@ fn add_parts(alloc: Global, tables: &mut Seq<Table>, parts: &[Part]) -> Result<(
 ///
 /// `Memory` where memory runs out, and for nothing else.
 pub fn make_tables(alloc: Global, seed: u32, trips: u32) -> Result<Seq<Table>, Memory>
-    requires { trips ≤ 3000 }
+    requires { trips ≤ most_items }
     ensures { IfOk result (λ tables. tables ≡ made_tables seed trips) }
 {
     let mut tables = Seq::new(alloc);

@@ -1,6 +1,7 @@
 //! Trips at drawn departures.
 
 ghost use Rattle.std.specs.Prelude.{◌≡◌, ◌<◌, ◌≤◌, ◌^◌, ◌++◌, ◌∷◌, [], IfOk, OnOk};
+ghost use Rattle.plan_core.specs.Limits.{most_items};
 ghost use Rattle.day_maker.specs.Made.{first_state as first_state_of, rows_of, trip_row as trip_row_of, trip_rows as trip_rows_of};
 
 use crate::cells::{Cell, add};
@@ -41,7 +42,7 @@ fn add_trip(
 
 /// The rows of so many trips of a seed.
 pub(crate) fn trip_rows(alloc: Global, seed: u32, trips: u32) -> Result<Seq<Seq<Field>>, Memory>
-    requires { trips ≤ 3000 }
+    requires { trips ≤ most_items }
     ensures { IfOk result (λ rows. rows ≡ rows_of (trip_rows_of trips 1 (first_state_of seed))) }
 {
     let mut rows = Seq::new(alloc);

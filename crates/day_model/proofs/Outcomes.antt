@@ -2,13 +2,14 @@
 use Rattle.std.proofs.Common.{◌≡◌, ℕ, ◌⊎◌, inl, inr, false, List, length, Option, Some, None, Result, Ok, Err, IfOk, IfErr, nat_lt, refl, sym, ap, subst, ◌∙◌, arith}
 use Rattle.std.proofs.lemmas.Bool.Decides.{nat_tests}
 use Rattle.std.specs.Prelude.{IsErrAnd, unwrap_or}
+use Rattle.plan_core.specs.Limits.{most_items}
 use Rattle.vdv452_tables.specs.declared.net.Net.{Net}
 use Rattle.day_calendar.specs.declared.day.DayKind.{DayKind}
 use Rattle.day_calendar.specs.DayTrips.{AreDayRows}
 use Rattle.day_model.specs.declared.fault.DayModelFault.{DayModelFault}
 use Rattle.day_model.specs.declared.fault.DayModelFault.TheVariants as faults
 use Rattle.day_model.specs.Facts.{DayFacts}
-use Rattle.day_model.specs.Building.{HasDayCause, IsDayOf, day_fault, most_trips}
+use Rattle.day_model.specs.Building.{HasDayCause, IsDayOf, day_fault}
 
 -- a fault other than running out of memory is the first one
 pub cause_of : (net : Net) (kind : DayKind) (rows : List ℕ) (fault : DayModelFault) → AreDayRows net.trips kind.version kind.kind rows →
@@ -30,7 +31,7 @@ answer_cause net kind rows (Err fault) are h = cause_of net kind rows fault are 
 -- a day has no fault
 pub faultless : (net : Net) (kind : DayKind) (day : DayFacts) → IsDayOf net kind day → day_fault net kind day.rows ≡ None
 faultless net kind day is =
-    let few : nat_lt most_trips (length day.rows) ≡ false = grind (arith, nat_tests, is.few) in
+    let few : nat_lt most_items (length day.rows) ≡ false = grind (arith, nat_tests, is.few) in
     rw (few, is.faultless, is.trips) refl
 
 same_fault : (a b : DayModelFault) → Some a ≡ Some b → a ≡ b

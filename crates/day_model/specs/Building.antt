@@ -1,5 +1,6 @@
 -- Promise: the day of a network, or the first reason why there is none.
 use Rattle.std.specs.Prelude.{◌≡◌, ℕ, ◌≤◌, nat_lt, List, [], ◌∷◌, length, Option, Some, None, Result, Ok, Err, slice_get, if◌then◌else◌}
+use Rattle.plan_core.specs.Limits.{most_items}
 use Rattle.vdv452_tables.specs.declared.net.Net.{Net}
 use Rattle.vdv452_rows.specs.declared.rows.TripRow.{TripRow}
 use Rattle.day_calendar.specs.declared.day.DayKind.{DayKind}
@@ -14,10 +15,6 @@ use Rattle.plan_params.specs.Settings.{params_of}
 use Rattle.day_model.specs.declared.fault.DayModelFault.{DayModelFault}
 use Rattle.day_model.specs.declared.fault.DayModelFault.TheVariants as faults
 use Rattle.day_model.specs.Facts.{DayFacts}
-
--- a day has at most so many trips
-abbrev pub most_trips : ℕ
-most_trips = 3000
 
 abbrev with_row : Option TripRow → List TripRow → List TripRow
 with_row None rows = rows
@@ -56,7 +53,7 @@ settings_or None other = other
 -- number, that has one.
 abbrev pub day_fault : Net → DayKind → List ℕ → Option DayModelFault
 day_fault net kind places =
-    if nat_lt most_trips (length places) then Some (faults.TooManyTrips (length places)) else
+    if nat_lt most_items (length places) then Some (faults.TooManyTrips (length places)) else
     settings_or (first_fault net kind.version) (timing_fault (timed_rows net kind.version (rows_at net.trips places)))
 
 -- The day of a kind in a network: its trips by departure and number with their times, the settings, and the deadheads of the area and
@@ -64,7 +61,7 @@ day_fault net kind places =
 pub record IsDayOf (net : Net) (kind : DayKind) (day : DayFacts) : Type 0 where
   pub kind_is : day.kind ≡ kind
   pub rows : AreDayRows net.trips kind.version kind.kind day.rows
-  pub few : length day.rows ≤ most_trips
+  pub few : length day.rows ≤ most_items
   pub faultless : first_fault net kind.version ≡ None
   pub trips : timed_rows net kind.version (rows_at net.trips day.rows) ≡ Ok day.trips
   pub params : day.params ≡ params_of net

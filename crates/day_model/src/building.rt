@@ -1,6 +1,7 @@
 //! The day of a network.
 
 ghost use Rattle.std.specs.Prelude.{◌≡◌, ◌⊎◌, ◌<◌, ◌≤◌, ◌^◌, All, IfOk, IfErr, IsErrAnd, Ok, Err, None, Some, OnOk, length};
+ghost use Rattle.plan_core.specs.Limits.{most_items};
 ghost use Rattle.vdv452_tables.specs.Ranges.{IsTime};
 ghost use Rattle.day_calendar.specs.DayTrips.{AreDayRows};
 ghost use Rattle.deadheads.specs.DeadTimes.{AreDeadheads};
@@ -9,7 +10,7 @@ ghost use Rattle.plan_params.specs.Limits.{HaveRanges};
 ghost use Rattle.plan_params.specs.Settings.{params_of};
 ghost use Rattle.trip_times.specs.Timing.{timed};
 ghost use Rattle.day_model.specs.declared.fault.DayModelFault.{DayModelFault as AnyFault};
-ghost use Rattle.day_model.specs.Building.{HasDayCause, HasDayFault, day_fault, IsDayOf, most_trips, named, rows_at, timed_rows, IsSettingsFault};
+ghost use Rattle.day_model.specs.Building.{HasDayCause, HasDayFault, day_fault, IsDayOf, named, rows_at, timed_rows, IsSettingsFault};
 ghost use Rattle.day_model.specs.Ranges.{IsDaily};
 
 use crate::day::Day;
@@ -86,7 +87,7 @@ fn laid_day(
     deadheads: Deadheads,
 ) -> Result<Day, Memory>
     requires count { length rows ≡ length trips }
-    requires few { length trips ≤ most_trips }
+    requires few { length trips ≤ most_items }
     requires daily { All IsDaily trips }
     requires ranges { HaveRanges params }
     ensures { IfOk result (λ day. day ≡ record { kind = kind; rows = rows; trips = trips; params = params; deads = deadheads }) }
@@ -105,7 +106,7 @@ fn timed_day(
     params: Params,
 ) -> Result<Day, Memory>
     requires count { length rows ≡ length trips }
-    requires few { length trips ≤ most_trips }
+    requires few { length trips ≤ most_items }
     requires daily { All IsDaily trips }
     requires ranges { HaveRanges params }
     ensures parts { IfOk result (λ day. day ≡ record { kind = kind; rows = rows; trips = trips; params = params; deads = day.deads }) }
@@ -126,7 +127,7 @@ fn day_of(
 ) -> Result<Day, DayModelFault>
     requires rows { AreDayRows net.now.trips kind.now.version kind.now.kind rows }
     requires within { All (λ place. place < length net.now.trips) rows }
-    requires few { length rows ≤ most_trips }
+    requires few { length rows ≤ most_items }
     requires params { params ≡ params_of net.now }
     requires ranges { HaveRanges params }
     requires faultless { first_fault net.now kind.now.version ≡ None }

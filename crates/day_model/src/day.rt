@@ -1,10 +1,10 @@
 //! The day.
 
 ghost use Rattle.std.specs.Prelude.{◌≡◌, ◌<◌, ◌≤◌, All, IfOk, IfSome, Some, length, slice_get};
+ghost use Rattle.plan_core.specs.Limits.{most_items};
 ghost use Rattle.vdv452_tables.specs.Ranges.{IsTime};
 ghost use Rattle.trip_times.specs.declared.trip.Trip.{Trip};
 ghost use Rattle.plan_params.specs.Limits.{HaveRanges};
-ghost use Rattle.day_model.specs.Building.{most_trips};
 ghost use Rattle.day_model.specs.Begins.{AreDepartures, AreEndNumbers, AreMinutes};
 ghost use Rattle.day_model.specs.Facts.{dead, is_relief};
 ghost use Rattle.day_model.specs.Layout.{AreLaidOut};
@@ -58,7 +58,7 @@ impl Day {
     /// The trips in the order of their numbers, from 0: by departure, then by FRT_FID. There are at most 3,000.
     pub fn trips(&self) -> &[Trip]
         ensures trips { result.now ≡ self.now.trips }
-        ensures few { length result.now ≤ most_trips }
+        ensures few { length result.now ≤ most_items }
         ensures daily { All IsDaily result.now }
     {
         self.trips.as_slice()
@@ -91,7 +91,7 @@ impl Day {
         layout: Layout,
     ) -> Result<Day, Memory>
         requires count { length rows ≡ length trips }
-        requires few { length trips ≤ most_trips }
+        requires few { length trips ≤ most_items }
         requires daily { All IsDaily trips }
         requires ranges { HaveRanges params }
         requires layout { AreLaidOut trips params deadheads layout }

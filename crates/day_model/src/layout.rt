@@ -1,8 +1,8 @@
 //! What is asked of a day's trips and pools, laid out flat.
 
 ghost use Rattle.std.specs.Prelude.{◌≡◌, ◌≤◌, ◌++◌, IfOk, OnOk, length, map};
+ghost use Rattle.plan_core.specs.Limits.{most_items};
 ghost use Rattle.plan_params.specs.LookUps.{admits_in, is_relief_in};
-ghost use Rattle.day_model.specs.Building.{most_trips};
 ghost use Rattle.day_model.specs.Layout.{AreLaidOut, admissions_of, reliefs_of};
 
 use crate::dead_times::DeadTimes;
@@ -104,7 +104,7 @@ pub(crate) fn layout_of(
     params: &Params,
     deads: &Deadheads,
 ) -> Result<Layout, Memory>
-    requires { length trips.now ≤ most_trips }
+    requires { length trips.now ≤ most_items }
     ensures { IfOk result (AreLaidOut trips.now params.now deads.now) }
 {
     let firsts = first_points(alloc, trips)?;

@@ -1,6 +1,7 @@
 -- Promise: the cost and the driving of a block, trip by trip.
 use Rattle.std.specs.Prelude.{ℕ, ℤ, pos, ◌+◌, ◌*◌, ◌+ℤ◌, ◌*ℤ◌, ◌≤ℤ◌, nat_lt, List, [], ◌∷◌, Option, Some, None, option_and_then, is_some, slice_get}
 use Rattle.std.specs.Option.{option_map}
+use Rattle.plan_core.specs.Limits.{most_rate, most_fixed_cost}
 use Rattle.trip_times.specs.declared.trip.Trip.{Trip}
 use Rattle.plan_params.specs.declared.rows.pool.Pool.{Pool}
 use Rattle.day_model.specs.declared.link.Link.{Link}
@@ -65,7 +66,7 @@ end_of day t = end_or (slice_get day.trips t)
 
 -- a block up to the end of a trip costs no more than the fixed cost and all seconds so far at the highest rate
 pub record IsCheapUntil (day : DayFacts) (t cost : ℕ) : Type 0 where
-  pub so_far : pos cost ≤ℤ (pos 100000000 +ℤ (pos 10000 *ℤ end_of day t))
+  pub so_far : pos cost ≤ℤ (pos most_fixed_cost +ℤ (pos most_rate *ℤ end_of day t))
   pub in_time : end_of day t ≤ℤ pos 172800
 
 -- the seconds of a connection that may cost something

@@ -1,6 +1,7 @@
 //! The cost of a block, and whether it can be driven.
 
 ghost use Rattle.std.specs.Prelude.{◌≡◌, ◌<◌, ◌≤◌, ◌+◌, ◌*◌, ◌≤ℤ◌, ◌-ℤ◌, ◌+ℤ◌, ◌*ℤ◌, pos, cond, ℕ, IfSome, Some, [], length, slice_get, option_and_then};
+ghost use Rattle.plan_core.specs.Limits.{most_worth, most_rate};
 ghost use Rattle.cover_core.specs.Cover.{AllBelow};
 ghost use Rattle.plan_params.specs.Limits.{IsPool};
 ghost use Rattle.day_model.specs.Blocks as blocks;
@@ -22,10 +23,10 @@ const LONGEST_DRIVING: u32 = 16_200;
 
 /// What seconds cost at a rate.
 fn charged(rate: u32, seconds: u32) -> u64
-    requires rate { rate ≤ 10000 }
+    requires rate { rate ≤ most_rate }
     requires seconds { seconds ≤ 345600 }
     ensures value { result ≡ rate * seconds }
-    ensures bound { result ≤ 10000 * seconds }
+    ensures bound { result ≤ most_rate * seconds }
 {
     u64::from(rate) * u64::from(seconds)
 }
@@ -35,7 +36,7 @@ fn link_cost(pool: &Pool, next: &Trip, link: Link) -> u64
     requires pool { IsPool pool.now }
     requires short { IsShort link }
     ensures value { result ≡ blocks.link_cost pool.now next.now link }
-    ensures bound { result ≤ 10000 * walks.seconds_of link }
+    ensures bound { result ≤ most_rate * walks.seconds_of link }
 {
     match link {
         Link::Direct { dead, stand } => {
@@ -240,7 +241,7 @@ fn finished(day: &Day, class: u32, pool: &Pool, so_far: u32, cost: u64, t: u32) 
     requires so_far { so_far ≤ longest_driving }
     requires cheap { walks.IsCheapUntil day.now t cost }
     ensures value { result ≡ walks.stepped day.now pool.now cost so_far t [] }
-    ensures bound { IfSome result (λ cost. cost ≤ 4000000000) }
+    ensures bound { IfSome result (λ cost. cost ≤ most_worth) }
 {
     let more = last_step(day, class, pool, so_far, t)?;
     Some(cost + more)
@@ -263,7 +264,7 @@ fn stepped(
     requires driving { driving ≤ longest_driving }
     requires cheap { walks.IsCheapUntil day.now first begin }
     ensures value { result ≡ walks.stepped day.now pool.now begin driving first rest.now }
-    ensures bound { IfSome result (λ cost. cost ≤ 4000000000) }
+    ensures bound { IfSome result (λ cost. cost ≤ most_worth) }
 {
     let mut cost = begin;
     let mut so_far = driving;
@@ -279,9 +280,9 @@ fn stepped(
 
 /// What a block of a cost is worth.
 fn worth_of(worth: Worth, cost: Option<u64>) -> Option<u64>
-    requires { IfSome cost (λ cost. cost ≤ 4000000000) }
+    requires { IfSome cost (λ cost. cost ≤ most_worth) }
     ensures value { result ≡ option_and_then (λ c. Some (cond (is_count worth) 1 c)) cost }
-    ensures bound { IfSome result (λ cost. cost ≤ 4000000000) }
+    ensures bound { IfSome result (λ cost. cost ≤ most_worth) }
 {
     match (worth, cost) {
         (_, None) => None,
@@ -295,7 +296,7 @@ fn block_cost(day: &Day, class: u32, list: &[u32]) -> Option<u64>
     requires class { class < length day.now.params.pools }
     requires items { AllBelow (length day.now.trips) list.now }
     ensures value { result ≡ with_pool day.now class (λ pool. walks.steps day.now pool list.now) }
-    ensures bound { IfSome result (λ cost. cost ≤ 4000000000) }
+    ensures bound { IfSome result (λ cost. cost ≤ most_worth) }
 {
     let pool = &day.params().pools()[class as usize];
     match list {
@@ -312,7 +313,7 @@ pub(crate) fn block_worth(day: &Day, worth: Worth, class: u32, list: &[u32]) -> 
     requires class { class < length day.now.params.pools }
     requires items { AllBelow (length day.now.trips) list.now }
     ensures value { result ≡ blocks.block_worth day.now (is_count worth) class list.now }
-    ensures bound { IfSome result (λ cost. cost ≤ 4000000000) }
+    ensures bound { IfSome result (λ cost. cost ≤ most_worth) }
 {
     worth_of(worth, block_cost(day, class, list))
 }

@@ -1,6 +1,7 @@
 //! The steps from an open block to a longer one.
 
 ghost use Rattle.std.specs.Prelude.{◌≡◌, ◌<◌, ◌≤◌, ◌≤ℤ◌, ◌-ℤ◌, ◌+ℤ◌, neg_ℤ, pos, IfSome, Some, length, slice_get};
+ghost use Rattle.plan_core.specs.Limits.{most_price};
 ghost use Rattle.cover_core.specs.FirstLeast.{AllWithin};
 ghost use Rattle.cover_core.specs.Plans.{price_at};
 ghost use Rattle.plan_params.specs.Limits.{IsPool};
@@ -38,8 +39,8 @@ fn scale_first(counts: bool, cost: u64) -> i64
 fn more(value: i64, cost: i64) -> i64
     requires value_low { neg_ℤ (pos 100000000000000000) ≤ℤ value }
     requires value_high { value ≤ℤ pos 100000000000000000 }
-    requires cost_low { neg_ℤ (pos 10000000000000) ≤ℤ cost }
-    requires cost_high { cost ≤ℤ pos 10000000000000 }
+    requires cost_low { neg_ℤ (pos most_price) ≤ℤ cost }
+    requires cost_high { cost ≤ℤ pos most_price }
     ensures { result ≡ value +ℤ cost }
 {
     value + cost
@@ -49,8 +50,8 @@ fn more(value: i64, cost: i64) -> i64
 fn less(value: i64, price: i64) -> i64
     requires value_low { neg_ℤ (pos 200000000000000000) ≤ℤ value }
     requires value_high { value ≤ℤ pos 200000000000000000 }
-    requires price_low { neg_ℤ (pos 10000000000000) ≤ℤ price }
-    requires price_high { price ≤ℤ pos 10000000000000 }
+    requires price_low { neg_ℤ (pos most_price) ≤ℤ price }
+    requires price_high { price ≤ℤ pos most_price }
     ensures { result ≡ value -ℤ price }
 {
     value - price
@@ -58,10 +59,10 @@ fn less(value: i64, price: i64) -> i64
 
 /// The price of a trip, 0 where there is none.
 pub fn price(prices: &[Price], item: u32) -> i64
-    requires { AllWithin 10000000000000 prices.now }
+    requires { AllWithin most_price prices.now }
     ensures value { result ≡ price_at prices.now item }
-    ensures low { neg_ℤ (pos 10000000000000) ≤ℤ result }
-    ensures high { result ≤ℤ pos 10000000000000 }
+    ensures low { neg_ℤ (pos most_price) ≤ℤ result }
+    ensures high { result ≤ℤ pos most_price }
 {
     if (item as usize) < prices.len() {
         prices[item as usize].0
@@ -81,7 +82,7 @@ impl PoolNet<'_> {
     ) -> Option<OpenBlock>
         requires pool { slice_get self.now.day.params.pools class ≡ Some pool.now }
         requires ranges { IsPool pool.now }
-        requires moderate { AllWithin 10000000000000 prices.now }
+        requires moderate { AllWithin most_price prices.now }
         requires item { item < length self.now.day.trips }
         ensures { result ≡ first_open self.now.day self.now.counts prices.now pool.now item }
     {
@@ -106,7 +107,7 @@ impl PoolNet<'_> {
     ) -> Option<OpenBlock>
         requires pool { slice_get self.now.day.params.pools class ≡ Some pool.now }
         requires ranges { IsPool pool.now }
-        requires moderate { AllWithin 10000000000000 prices.now }
+        requires moderate { AllWithin most_price prices.now }
         requires fits { OpenFits (length self.now.day.trips) block.now }
         requires item { item < length self.now.day.trips }
         ensures { result ≡ extended_open self.now.day self.now.counts prices.now pool.now block.now item }

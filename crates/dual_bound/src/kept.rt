@@ -1,6 +1,7 @@
 //! The prices of the greatest bound so far.
 
 ghost use Rattle.std.specs.Prelude.{◌≡◌, ◌≤◌, ◌<◌, ◌↔◌, [], ◌≤ℤ◌, pos, neg_ℤ, length, IfOk, OnErr, IsTrue};
+ghost use Rattle.plan_core.specs.Limits.{most_items, most_price};
 ghost use Rattle.cover_core.specs.Plans.{bound_of};
 ghost use Rattle.cover_core.specs.FirstLeast.{AllWithin, class_prices_of};
 ghost use Rattle.dual_bound.specs.Ranges.{AreAtLeast};
@@ -42,8 +43,8 @@ fn weighed(
     caps: &[u32],
 ) -> Result<(Seq<i64>, u64), Memory>
     requires empty { empty ≡ [] }
-    requires few { length prices.now.items ≤ 3000 }
-    requires moderate { AllWithin 10000000000000 prices.now.items }
+    requires few { length prices.now.items ≤ most_items }
+    requires moderate { AllWithin most_price prices.now.items }
     requires classes { length caps.now ≤ 32 }
     requires one_each { length least.now ≡ length caps.now }
     requires low { AreAtLeast (neg_ℤ (pos 1000000000000000000)) least.now }
@@ -66,8 +67,8 @@ impl Kept {
         least: &[i64],
         caps: &[u32],
     ) -> Result<Kept, Memory>
-        requires few { length prices.now.items ≤ 3000 }
-        requires moderate { AllWithin 10000000000000 prices.now.items }
+        requires few { length prices.now.items ≤ most_items }
+        requires moderate { AllWithin most_price prices.now.items }
         requires classes { length caps.now ≤ 32 }
         requires one_each { length least.now ≡ length caps.now }
         requires low { AreAtLeast (neg_ℤ (pos 1000000000000000000)) least.now }
@@ -85,8 +86,8 @@ impl Kept {
     /// One more offer, in the ranges of `first`. It is kept exactly where its bound is greater than that of the kept one, and then the
     /// answer is true; else nothing changes. After `Memory` nothing has changed.
     pub fn offer(&mut self, prices: &Prices, least: &[i64], caps: &[u32]) -> Result<bool, Memory>
-        requires few { length prices.now.items ≤ 3000 }
-        requires moderate { AllWithin 10000000000000 prices.now.items }
+        requires few { length prices.now.items ≤ most_items }
+        requires moderate { AllWithin most_price prices.now.items }
         requires classes { length caps.now ≤ 32 }
         requires one_each { length least.now ≡ length caps.now }
         requires low { AreAtLeast (neg_ℤ (pos 1000000000000000000)) least.now }

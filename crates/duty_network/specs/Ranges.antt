@@ -1,5 +1,6 @@
 -- Promise: the ranges of the numbers of pieces and marks.
 use Rattle.std.specs.Prelude.{ℕ, ℤ, pos, neg_ℤ, ◌≤◌, ◌<◌, ◌≤ℤ◌, ◌+◌, ◌*◌, ◌-ℤ◌, ◌*ℤ◌, Bool, cond, All, List, [], ◌∷◌, length}
+use Rattle.plan_core.specs.Limits.{most_items}
 use Rattle.plan_core.specs.declared.types.Piece.{Piece}
 use Rattle.cover_core.specs.declared.marks.Mark.{Mark}
 use Rattle.plan_params.specs.declared.rows.group.Group.{Group}
@@ -15,7 +16,7 @@ pub record IsShift (p : Piece) : Type 0 where
 
 -- the pieces and settings of a net are in their ranges
 pub record NetFits (d : DutyFacts) : Type 0 where
-  pub few : length d.pieces ≤ 3000
+  pub few : length d.pieces ≤ most_items
   pub shifts : All IsShift d.pieces
   pub params : HaveRanges d.params
 
@@ -32,7 +33,7 @@ AreTimed (p ∷ ps) = IsTimed p × AreTimed ps
 -- the numbers of the mark of an open list; of `count` pieces
 pub record MarkFits (count : ℕ) (m : Mark) : Type 0 where
   pub piece : m.piece < count
-  pub few : count ≤ 3000
+  pub few : count ≤ most_items
   pub early : neg_ℤ (pos 345600) ≤ℤ m.start.0
   pub late : m.start.0 ≤ℤ pos 345600
   pub driving : m.driving ≤ 16200

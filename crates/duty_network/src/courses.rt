@@ -2,6 +2,7 @@
 
 ghost use Rattle.std.specs.Prelude.{◌≡◌, ◌<◌, ◌≤◌, ◌≤ℤ◌, ◌-ℤ◌, ◌+◌, ◌*◌, neg_ℤ, pos, length, [], ◌∷◌, cond, IfSome, IfNone, None, Some, option_and_then, slice_get};
 ghost use Rattle.std.specs.Option.{option_map};
+ghost use Rattle.plan_core.specs.Limits.{most_worth, most_rate, most_fixed_cost};
 ghost use Rattle.plan_core.specs.declared.types.Piece.{Piece};
 ghost use Rattle.cover_core.specs.Cover.{AllBelow};
 ghost use Rattle.plan_params.specs.Limits.{IsGroup};
@@ -147,7 +148,7 @@ impl DutyNet<'_> {
         requires class { class < length self.now.params.groups }
         requires items { AllBelow (length self.now.pieces) list.now }
         ensures value { result ≡ duty_worth self.now class list.now }
-        ensures bound { IfSome result (λ worth. worth ≤ 4000000000) }
+        ensures bound { IfSome result (λ worth. worth ≤ most_worth) }
     {
         let group = self.group(class);
         let course = self.course(class, list)?;
@@ -163,7 +164,7 @@ fn cost(counts: bool, group: &Group, spread: u32) -> u64
     requires ranges { IsGroup group.now }
     requires spread { spread ≤ 54000 }
     ensures value { result ≡ cond counts 1 (group.now.fixed + group.now.rate * spread) }
-    ensures bound { result ≤ 4000000000 }
+    ensures bound { result ≤ most_worth }
 {
     if counts {
         1
@@ -174,11 +175,11 @@ fn cost(counts: bool, group: &Group, spread: u32) -> u64
 
 /// A fixed cost and the cost of some seconds at a rate.
 fn charged(fixed: u32, rate: u32, seconds: u32) -> u64
-    requires fixed { fixed ≤ 100000000 }
-    requires rate { rate ≤ 10000 }
+    requires fixed { fixed ≤ most_fixed_cost }
+    requires rate { rate ≤ most_rate }
     requires seconds { seconds ≤ 54000 }
     ensures value { result ≡ fixed + rate * seconds }
-    ensures bound { result ≤ 4000000000 }
+    ensures bound { result ≤ most_worth }
 {
     u64::from(fixed) + u64::from(rate) * u64::from(seconds)
 }

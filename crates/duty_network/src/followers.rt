@@ -1,6 +1,7 @@
 //! From which pieces on those that begin at a point can follow a piece.
 
 ghost use Rattle.std.specs.Prelude.{◌≡◌, ◌≢◌, ◌<◌, ◌≤◌, ℕ, All, IfOk, Some, cond, length, slice_set, true};
+ghost use Rattle.plan_core.specs.Limits.{most_items};
 ghost use Rattle.plan_params.specs.Limits.{HaveRanges};
 ghost use Rattle.duty_network.specs.Duties.{pause_at};
 ghost use Rattle.duty_network.specs.Followers.{AreFollowed, IsFollowed, IsNumbering, facts};
@@ -37,7 +38,7 @@ pub struct Followers {
 /// The first later piece that follows another directly in its block: a place past the last piece where none does.
 fn direct_from(pieces: &[Piece], item: u32) -> u32
     requires item { item < length pieces.now }
-    requires few { length pieces.now ≤ 3000 }
+    requires few { length pieces.now ≤ most_items }
     ensures { item < result }
 {
     let count = pieces.len() as u32;
@@ -102,7 +103,7 @@ fn follower_of(
     item: u32,
 ) -> Result<Follower, Memory>
     requires item { item < length pieces.now }
-    requires few { length pieces.now ≤ 3000 }
+    requires few { length pieces.now ≤ most_items }
     requires shifts { All IsShift pieces.now }
     requires params { HaveRanges params.now }
     requires laid { AreLaidOut pieces.now params.now layout.now }
@@ -132,7 +133,7 @@ pub(crate) fn followers_of(
     params: &Params,
     layout: &Layout,
 ) -> Result<Followers, Memory>
-    requires few { length pieces.now ≤ 3000 }
+    requires few { length pieces.now ≤ most_items }
     requires shifts { All IsShift pieces.now }
     requires params { HaveRanges params.now }
     requires laid { AreLaidOut pieces.now params.now layout.now }

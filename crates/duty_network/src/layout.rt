@@ -1,6 +1,7 @@
 //! What is asked of pieces and groups of drivers, laid out flat.
 
 ghost use Rattle.std.specs.Prelude.{◌≡◌, ◌≤◌, IfOk, length, map};
+ghost use Rattle.plan_core.specs.Limits.{most_items};
 ghost use Rattle.duty_network.specs.Layout.{AreLaidOut};
 
 use crate::way_times::WayTimes;
@@ -47,7 +48,7 @@ fn homes_of(alloc: Global, groups: &[Group]) -> Result<Vec<Point>, Memory>
 
 /// What is asked of these pieces and of the groups of these settings.
 pub(crate) fn layout_of(alloc: Global, pieces: &[Piece], params: &Params) -> Result<Layout, Memory>
-    requires { length pieces.now ≤ 3000 }
+    requires { length pieces.now ≤ most_items }
     ensures { IfOk result (AreLaidOut pieces.now params.now) }
 {
     let firsts = first_points(alloc, pieces)?;

@@ -2,6 +2,7 @@
 
 ghost use Rattle.std.specs.Prelude.{◌≡◌, ◌<◌, ◌≤◌, ◌≤ℤ◌, ◌-ℤ◌, ◌+ℤ◌, ◌*ℤ◌, ◌+◌, neg_ℤ, pos, length, IfSome, Some, int_le, nat_le, nat_lt, cond, false, option_and_then, ◌||◌, ◌&&◌, slice_get};
 ghost use Rattle.std.specs.Option.{option_map};
+ghost use Rattle.plan_core.specs.Limits.{most_price, most_rate, most_fixed_cost};
 ghost use Rattle.cover_core.specs.FirstLeast.{AllWithin};
 ghost use Rattle.cover_core.specs.Plans.{price_at};
 ghost use Rattle.plan_core.specs.declared.types.Piece.{Piece};
@@ -28,10 +29,10 @@ pub(crate) fn limits(group: &Group) -> Limits
 
 /// The price of an item, 0 where there is none.
 fn price(prices: &[Price], item: u32) -> i64
-    requires { AllWithin 10000000000000 prices.now }
+    requires { AllWithin most_price prices.now }
     ensures value { result ≡ price_at prices.now item }
-    ensures low { neg_ℤ (pos 10000000000000) ≤ℤ result }
-    ensures high { result ≤ℤ pos 10000000000000 }
+    ensures low { neg_ℤ (pos most_price) ≤ℤ result }
+    ensures high { result ≤ℤ pos most_price }
 {
     if (item as usize) < prices.len() {
         prices[item as usize].0
@@ -42,7 +43,7 @@ fn price(prices: &[Price], item: u32) -> i64
 
 /// A rate times a number of seconds.
 fn product(rate: u32, time: i64) -> i64
-    requires rate { rate ≤ 10000 }
+    requires rate { rate ≤ most_rate }
     requires early { neg_ℤ (pos 345600) ≤ℤ time }
     requires late { time ≤ℤ pos 691200 }
     ensures value { result ≡ pos rate *ℤ time }
@@ -54,7 +55,7 @@ fn product(rate: u32, time: i64) -> i64
 
 /// A fixed cost less something.
 fn less_way(fixed: u32, way: i64) -> i64
-    requires fixed { fixed ≤ 100000000 }
+    requires fixed { fixed ≤ most_fixed_cost }
     requires low { neg_ℤ (pos 3456000000) ≤ℤ way }
     requires high { way ≤ℤ pos 6912000000 }
     ensures value { result ≡ pos fixed -ℤ way }
@@ -111,8 +112,8 @@ fn off_part(counts: bool, group: &Group, off: i64) -> i64
 fn less(value: i64, price: i64) -> i64
     requires value_low { neg_ℤ (pos 200000000000000000) ≤ℤ value }
     requires value_high { value ≤ℤ pos 200000000000000000 }
-    requires price_low { neg_ℤ (pos 10000000000000) ≤ℤ price }
-    requires price_high { price ≤ℤ pos 10000000000000 }
+    requires price_low { neg_ℤ (pos most_price) ≤ℤ price }
+    requires price_high { price ≤ℤ pos most_price }
     ensures { result ≡ value -ℤ price }
 {
     value - price
@@ -122,8 +123,8 @@ fn less(value: i64, price: i64) -> i64
 fn more(value: i64, cost: i64) -> i64
     requires value_low { neg_ℤ (pos 100000000000000000) ≤ℤ value }
     requires value_high { value ≤ℤ pos 100000000000000000 }
-    requires cost_low { neg_ℤ (pos 10000000000000) ≤ℤ cost }
-    requires cost_high { cost ≤ℤ pos 10000000000000 }
+    requires cost_low { neg_ℤ (pos most_price) ≤ℤ cost }
+    requires cost_high { cost ≤ℤ pos most_price }
     ensures { result ≡ value +ℤ cost }
 {
     value + cost
@@ -215,7 +216,7 @@ fn first_of(
     on: i64,
 ) -> Mark
     requires ranges { IsGroup group.now }
-    requires moderate { AllWithin 10000000000000 prices.now }
+    requires moderate { AllWithin most_price prices.now }
     requires early { neg_ℤ (pos 345600) ≤ℤ on }
     requires late { on ≤ℤ pos 345600 }
     ensures { result ≡ one_mark counts prices.now class group.now item piece.now on }
@@ -241,7 +242,7 @@ fn next_of(
     item: u32,
     piece: &Piece,
 ) -> Mark
-    requires moderate { AllWithin 10000000000000 prices.now }
+    requires moderate { AllWithin most_price prices.now }
     requires driving { mark.now.driving ≤ 16200 }
     requires total { mark.now.total ≤ 36000 }
     requires low { neg_ℤ (pos 200000000000000000) ≤ℤ mark.now.value }
@@ -294,7 +295,7 @@ impl DutyNet<'_> {
     pub fn first(&self, class: u32, group: &Group, prices: &[Price], item: u32) -> Option<Mark>
         requires class { slice_get self.now.params.groups class ≡ Some group.now }
         requires ranges { IsGroup group.now }
-        requires moderate { AllWithin 10000000000000 prices.now }
+        requires moderate { AllWithin most_price prices.now }
         requires item { item < length self.now.pieces }
         ensures { result ≡ first_mark self.now prices.now class group.now item }
     {
@@ -305,7 +306,7 @@ impl DutyNet<'_> {
 
     /// The mark of a list with a piece more, where that is an open list.
     pub fn next(&self, group: &Group, prices: &[Price], mark: &Mark, item: u32) -> Option<Mark>
-        requires moderate { AllWithin 10000000000000 prices.now }
+        requires moderate { AllWithin most_price prices.now }
         requires fits { MarkFits (length self.now.pieces) mark.now }
         requires item { item < length self.now.pieces }
         ensures { result ≡ extended_mark self.now group.now prices.now mark.now item }
@@ -354,7 +355,7 @@ fn first_open(
     on: Option<i64>,
 ) -> Option<Mark>
     requires ranges { IsGroup group.now }
-    requires moderate { AllWithin 10000000000000 prices.now }
+    requires moderate { AllWithin most_price prices.now }
     requires early { IfSome on (λ on. neg_ℤ (pos 345600) ≤ℤ on) }
     requires late { IfSome on (λ on. on ≤ℤ pos 345600) }
     ensures { result ≡ option_and_then (λ on. given (is_open group.now (one_mark counts prices.now class group.now item piece.now on) piece.now.end.0) (Some (one_mark counts prices.now class group.now item piece.now on))) on }
@@ -373,7 +374,7 @@ fn next_open(
     piece: &Piece,
     time: Option<u32>,
 ) -> Option<Mark>
-    requires moderate { AllWithin 10000000000000 prices.now }
+    requires moderate { AllWithin most_price prices.now }
     requires late { mark.now.start.0 ≤ℤ pos 345600 }
     requires driving { mark.now.driving ≤ 16200 }
     requires total { mark.now.total ≤ 36000 }

@@ -1,6 +1,7 @@
 //! The pieces of a day with the pauses between them and the ways of drivers.
 
 ghost use Rattle.std.specs.Prelude.{◌≡◌, ◌<◌, ◌≤◌, ◌≤ℤ◌, ◌-ℤ◌, ◌&&◌, pos, length, All, IfOk, IfSome, Some, slice_get};
+ghost use Rattle.plan_core.specs.Limits.{most_items};
 ghost use Rattle.vdv452_tables.specs.Ranges.{IsTime};
 ghost use Rattle.plan_params.specs.Limits.{HaveRanges, IsGroup};
 ghost use Rattle.plan_params.specs.LookUps.{way_in};
@@ -147,7 +148,7 @@ impl<'p> DutyNet<'p> {
         params: &'p Params,
         worth: Worth,
     ) -> Result<DutyNet<'p>, Memory>
-        requires few { length pieces ≤ 3000 }
+        requires few { length pieces ≤ most_items }
         requires shifts { All IsShift pieces }
         requires params { HaveRanges params.now }
         ensures { IfOk result (λ net. net ≡ record { pieces = pieces; params = params.now; counts = is_count worth }) }
@@ -169,7 +170,7 @@ impl<'p> DutyNet<'p> {
     /// The pieces by their numbers, from 0.
     pub fn pieces(&self) -> &[Piece]
         ensures pieces { result.now ≡ self.now.pieces }
-        ensures few { length result.now ≤ 3000 }
+        ensures few { length result.now ≤ most_items }
         ensures shifts { All IsShift result.now }
     {
         self.pieces.as_slice()

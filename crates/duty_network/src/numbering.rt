@@ -1,6 +1,7 @@
 //! Pieces by numbers, those that begin at one point alike.
 
 ghost use Rattle.std.specs.Prelude.{◌<◌, ◌≤◌, ◌+◌, ℕ, IfOk, length};
+ghost use Rattle.plan_core.specs.Limits.{most_items};
 ghost use Rattle.duty_network.specs.Followers.{IsNumbering, entry_at};
 
 use plan_core::{Memory, Piece};
@@ -18,7 +19,7 @@ pub struct PieceNumbers {
 /// The place of the first piece that begins where one does.
 fn first_alike(pieces: &[Piece], item: usize) -> u32
     requires item { item < length pieces.now }
-    requires few { length pieces.now ≤ 3000 }
+    requires few { length pieces.now ≤ most_items }
     ensures { result ≤ item }
 {
     for place in 0..item {
@@ -32,7 +33,7 @@ fn first_alike(pieces: &[Piece], item: usize) -> u32
 /// The number of a piece: that of the first piece which begins at the same point, or a new one.
 fn number_of(pieces: &[Piece], numbers: &[u32], kinds: u32, item: usize) -> u32
     requires item { item < length pieces.now }
-    requires few { length pieces.now ≤ 3000 }
+    requires few { length pieces.now ≤ most_items }
     requires count { item ≤ length numbers.now }
     requires below { (k : ℕ) → k < item → entry_at numbers.now k < kinds }
     ensures { result ≤ kinds }
@@ -43,7 +44,7 @@ fn number_of(pieces: &[Piece], numbers: &[u32], kinds: u32, item: usize) -> u32
 
 /// How many numbers there are with one more, which may be new.
 fn kinds_with(kinds: u32, number: u32) -> u32
-    requires few { kinds < 3000 }
+    requires few { kinds < most_items }
     requires number { number ≤ kinds }
     ensures kept { kinds ≤ result }
     ensures above { number < result }
@@ -55,7 +56,7 @@ fn kinds_with(kinds: u32, number: u32) -> u32
 /// Numbers of pieces, in the order of the first pieces that begin at a point. It takes time with the pieces and the points. `Memory` is the
 /// only error.
 pub(crate) fn numbers_of(alloc: Global, pieces: &[Piece]) -> Result<PieceNumbers, Memory>
-    requires { length pieces.now ≤ 3000 }
+    requires { length pieces.now ≤ most_items }
     ensures { IfOk result (IsNumbering (length pieces.now)) }
 {
     let mut numbers = Vec::new(alloc);

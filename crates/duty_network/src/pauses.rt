@@ -1,6 +1,7 @@
 //! The pauses between pieces, worked out once: a search asks for each of them again and again.
 
 ghost use Rattle.std.specs.Prelude.{◌≡◌, ◌<◌, ◌≤◌, length, All, IfOk, IfSome};
+ghost use Rattle.plan_core.specs.Limits.{most_items};
 ghost use Rattle.plan_params.specs.Limits.{HaveRanges};
 ghost use Rattle.duty_network.specs.Duties.{pause_at};
 ghost use Rattle.duty_network.specs.Followers.{facts};
@@ -65,7 +66,7 @@ pub(crate) fn pauses_of(
     params: &Params,
     layout: &Layout,
 ) -> Result<Vec<Seq<u32>>, Memory>
-    requires few { length pieces.now ≤ 3000 }
+    requires few { length pieces.now ≤ most_items }
     requires shifts { All IsShift pieces.now }
     requires params { HaveRanges params.now }
     requires laid { AreLaidOut pieces.now params.now layout.now }

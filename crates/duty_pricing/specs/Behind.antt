@@ -1,6 +1,7 @@
 -- Inner: the row of a piece lowered to what going on with the later pieces adds: with the one that follows directly, and with those of each
 -- number.
 use Rattle.std.specs.Prelude.{◌≡◌, ◌≢◌, ℕ, ℤ, pos, neg_ℤ, ◌*◌, ◌<◌, ◌≤◌, ◌≤ℤ◌, ◌+ℤ◌, ◌-ℤ◌, List, Some, length}
+use Rattle.plan_core.specs.Limits.{most_price}
 use Rattle.plan_core.specs.declared.types.Price.{Price}
 use Rattle.cover_core.specs.Plans.{number_at}
 use Rattle.duty_network.specs.Duties.{DutyFacts, pause_at}
@@ -19,7 +20,7 @@ pub record AreFirsts (d : DutyFacts) (numbers : List ℕ) (item direct : ℕ) (S
 -- the numbers of the rows from a place on are in their ranges
 pub record AreInReach (place : ℕ) (chain : List (List ℤ)) : Type 0 where
   pub low : (k : ℕ) → place ≤ k → k < length chain →
-      IsLow (neg_ℤ (pos 30000000000000000) +ℤ pos (10000000000000 * k) -ℤ pos 10000000000000) (row_at chain k)
+      IsLow (neg_ℤ (pos 30000000000000000) +ℤ pos (most_price * k) -ℤ pos most_price) (row_at chain k)
   pub high : (k x : ℕ) → cell_at chain k x ≤ℤ pos 7000000000000
 
 -- a row lowered to what going on with the piece that follows directly adds, where there is a pause before it

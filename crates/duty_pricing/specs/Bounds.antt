@@ -2,6 +2,7 @@
 use Rattle.std.specs.Coded.{Unit-prop}
 use Rattle.std.proofs.Props.{props}
 use Rattle.std.specs.Prelude.{◌≡◌, ◌≢◌, cond, nat_le, ℕ, zero, suc, ℤ, pos, neg_ℤ, ◌*◌, ◌/◌, ◌-◌, ◌<◌, ◌≤◌, ◌≤ℤ◌, ◌+ℤ◌, ◌-ℤ◌, List, [], ◌∷◌, length, Some, slice_get}
+use Rattle.plan_core.specs.Limits.{most_price}
 use Rattle.plan_core.specs.declared.types.Piece.{Piece}
 use Rattle.plan_core.specs.declared.types.Price.{Price}
 use Rattle.cover_core.specs.declared.marks.Mark.{Mark}
@@ -66,7 +67,7 @@ IsLow z row = (x : ℕ) → x < 16 → z ≤ℤ number_at row x
 
 -- the least that the numbers of a piece can be
 abbrev pub low_of : ℕ → ℤ
-low_of k = neg_ℤ (pos 30000000000000000) +ℤ pos (10000000000000 * k)
+low_of k = neg_ℤ (pos 30000000000000000) +ℤ pos (most_price * k)
 
 -- so many rows, whose numbers fall, and from a place on are not too low
 pub record AreRows (n place : ℕ) (rows : List (List ℤ)) : Type 0 where
@@ -104,7 +105,7 @@ pub record IsChain (d : DutyFacts) (prices : List Price) (r : Reach) (numbers : 
     (chain : List (List ℤ)) : Type 0 where
   pub count : length chain ≡ length d.pieces
   pub low : (k : ℕ) → place ≤ k → k < length d.pieces →
-      IsLow (neg_ℤ (pos 30000000000000000) +ℤ pos (10000000000000 * k) -ℤ pos 10000000000000) (row_at chain k)
+      IsLow (neg_ℤ (pos 30000000000000000) +ℤ pos (most_price * k) -ℤ pos most_price) (row_at chain k)
   pub high : (k x : ℕ) → cell_at chain k x ≤ℤ pos 7000000000000
   pub under : (k later x : ℕ) → place ≤ k → k ≤ later → later < length d.pieces → entry_at numbers later ≡ entry_at numbers k →
       IsUnder d prices r rows later x (cell_at chain k x)
@@ -113,7 +114,7 @@ pub record IsChain (d : DutyFacts) (prices : List Price) (r : Reach) (numbers : 
 pub record IsTail (d : DutyFacts) (prices : List Price) (r : Reach) (numbers : List ℕ) (rows : List (List ℤ)) (place : ℕ)
     (tail : List (List ℤ)) : Type 0 where
   pub count : length tail ≡ length d.pieces
-  pub low : (m : ℕ) → IsLow (neg_ℤ (pos 30000000000000000) +ℤ pos (10000000000000 * place) -ℤ pos 10000000000000) (row_at tail m)
+  pub low : (m : ℕ) → IsLow (neg_ℤ (pos 30000000000000000) +ℤ pos (most_price * place) -ℤ pos most_price) (row_at tail m)
   pub high : (m x : ℕ) → cell_at tail m x ≤ℤ pos 7000000000000
   pub under : (later x : ℕ) → place ≤ later → later < length d.pieces →
       IsUnder d prices r rows later x (cell_at tail (entry_at numbers later) x)
@@ -123,7 +124,7 @@ pub record IsLoweredBy (d : DutyFacts) (prices : List Price) (r : Reach) (rows :
   pub at_most : (x : ℕ) → number_at new x ≤ℤ number_at old x
   pub under : (x : ℕ) → IsUnder d prices r rows next x (number_at new x)
   pub least : (z : ℤ) (x : ℕ) → x < 16 → z ≤ℤ number_at old x →
-      z ≤ℤ (neg_ℤ (pos 30000000000000000) +ℤ pos (10000000000000 * next) -ℤ pos 10000000000000) → z ≤ℤ number_at new x
+      z ≤ℤ (neg_ℤ (pos 30000000000000000) +ℤ pos (most_price * next) -ℤ pos most_price) → z ≤ℤ number_at new x
 
 -- a row with the number at a place raised to another one, where it was below
 pub record IsLifted (old new : List ℤ) (place : ℕ) (value : ℤ) : Type 0 where

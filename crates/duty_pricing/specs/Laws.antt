@@ -3,6 +3,7 @@ use Rattle.std.proofs.Common.{◌≡◌, ℕ, ℤ, pos, ◌+◌, ◌-◌, ◌*�
 use Rattle.std.proofs.lemmas.Int.{ints}
 use Rattle.std.proofs.lemmas.Bool.Decides.{nat_tests}
 use Rattle.std.specs.Prelude.{◌||◌, Option, Some, None, int_le, nat_le, nat_lt, slice_get}
+use Rattle.plan_core.specs.Limits.{most_price}
 use Rattle.plan_core.specs.declared.types.Piece.{Piece}
 use Rattle.plan_core.specs.declared.types.Price.{Price}
 use Rattle.cover_core.specs.Plans.{price_at}
@@ -82,7 +83,7 @@ open-parts g m end e =
     (le-of m.total (limits_of g).day day, at-most end (m.start.0 +ℤ pos 54000) in_time)
 
 pub duty-safe : (d : DutyFacts) (prices : List Price) (class : ℕ) (g : Group) (first end : ℕ) (latest : ℤ) → NetFits d → IsGroup g →
-    AllWithin 10000000000000 prices →
+    AllWithin most_price prices →
     IsLatest d prices class g first end latest →
     IsSafe (duty_labels d prices class g first end) (IsRangeMark (length d.pieces) first latest)
 duty-safe d prices class g first end latest f ranges w starts =

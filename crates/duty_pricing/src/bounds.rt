@@ -1,6 +1,7 @@
 //! Completion bounds: what the rest of a list adds to its value at least, for each amount of driving that is left of the day's.
 
 ghost use Rattle.std.specs.Prelude.{◌≡◌, ◌<◌, ◌≤◌, ◌+◌, ◌*◌, ◌≤ℤ◌, ◌+ℤ◌, ◌-ℤ◌, ℕ, ℤ, neg_ℤ, pos, length, cond, IfOk, Some, slice_get};
+ghost use Rattle.plan_core.specs.Limits.{most_items, most_price};
 ghost use Rattle.plan_core.specs.declared.types.Piece.{Piece};
 ghost use Rattle.cover_core.specs.FirstLeast.{AllWithin};
 ghost use Rattle.plan_params.specs.Limits.{IsGroup};
@@ -63,8 +64,8 @@ fn lower_by_piece(
     requires next { next < length net.now.pieces }
     requires count { length rows.now ≡ length net.now.pieces }
     requires prices { length prices.now ≡ length net.now.pieces }
-    requires moderate { AllWithin 10000000000000 prices.now }
-    requires few { length net.now.pieces ≤ 3000 }
+    requires moderate { AllWithin most_price prices.now }
+    requires few { length net.now.pieces ≤ most_items }
     requires low { IsLow (low_of next) (row_at rows.now next) }
     requires high { (x : ℕ) → cell_at rows.now next x ≤ℤ pos 7000000000000 }
     ensures { IsLoweredBy net.now prices.now reach.now rows.now next row.old row.new }
@@ -105,8 +106,8 @@ fn lower_by_direct(
     requires order { item < direct }
     requires item { item < length net.now.pieces }
     requires prices { length prices.now ≡ length net.now.pieces }
-    requires moderate { AllWithin 10000000000000 prices.now }
-    requires few { length net.now.pieces ≤ 3000 }
+    requires moderate { AllWithin most_price prices.now }
+    requires few { length net.now.pieces ≤ most_items }
     requires rows { AreRows (length net.now.pieces) (item + 1) rows.now }
     requires over { AreRows (length net.now.pieces) (item + 1) over.now }
     ensures { IsLoweredByDirect net.now prices.now reach.now long rows.now over.now item direct row.old row.new }
@@ -175,7 +176,7 @@ fn bound_row(
     requires reach { IsReach reach.now }
     requires item { item < length net.now.pieces }
     requires prices { length prices.now ≡ length net.now.pieces }
-    requires moderate { AllWithin 10000000000000 prices.now }
+    requires moderate { AllWithin most_price prices.now }
     requires direct { item < direct }
     requires near { AreFirsts net.now numbers.now item direct (λ time. time < long) near.now }
     requires far { AreFirsts net.now numbers.now item direct (λ time. long ≤ time) far.now }
@@ -210,8 +211,8 @@ fn chain_row(
     requires reach { IsReach reach.now }
     requires item { item < length net.now.pieces }
     requires prices { length prices.now ≡ length net.now.pieces }
-    requires moderate { AllWithin 10000000000000 prices.now }
-    requires few { length net.now.pieces ≤ 3000 }
+    requires moderate { AllWithin most_price prices.now }
+    requires few { length net.now.pieces ≤ most_items }
     requires numbers { AreNumbered (length net.now.pieces) numbers.now }
     requires rows { AreRows (length net.now.pieces) item rows.now }
     requires tail { IsTail net.now prices.now reach.now numbers.now rows.now (item + 1) tail.old.items }
@@ -273,7 +274,7 @@ pub(crate) fn bounds_over(
     requires ranges { IsGroup group.now }
     requires reach { IsReach reach.now }
     requires prices { length prices.now ≡ length net.now.pieces }
-    requires moderate { AllWithin 10000000000000 prices.now }
+    requires moderate { AllWithin most_price prices.now }
     requires followers { AreFollowed net.now.pieces net.now.params followers.now }
     requires numbers { numbers.now ≡ followers.now.points.numbers.items }
     ensures rows { IfOk result (λ table. IsBoundFrom net.now prices.now group.now reach.now 0 reach.now.until first table.rows.items table.rows.items) }
@@ -334,7 +335,7 @@ pub(crate) fn bounds(
     requires ranges { IsGroup group.now }
     requires reach { IsReach reach.now }
     requires prices { length prices.now ≡ length net.now.pieces }
-    requires moderate { AllWithin 10000000000000 prices.now }
+    requires moderate { AllWithin most_price prices.now }
     requires followers { AreFollowed net.now.pieces net.now.params followers.now }
     requires numbers { numbers.now ≡ followers.now.points.numbers.items }
     requires in_time { last ≤ℤ reach.now.until }

@@ -5,6 +5,7 @@
 //! there or earlier have bounds that know of no later piece.
 
 ghost use Rattle.std.specs.Prelude.{◌≡◌, ◌<◌, ◌≤◌, ◌-◌, ◌*◌, ◌++◌, take, replicate, length, IfOk, IfSome};
+ghost use Rattle.plan_core.specs.Limits.{most_price, most_worth};
 ghost use Rattle.cover_core.specs.Best.{best_of, within};
 ghost use Rattle.cover_core.specs.FirstLeast.{AllWithin};
 ghost use Rattle.duty_network.specs.Duties.{duties};
@@ -42,10 +43,10 @@ pub(crate) fn best_counted(
 ) -> Result<Option<Column>, Memory>
     requires class { class < length net.now.params.groups }
     requires prices { length prices.now ≡ length net.now.pieces }
-    requires moderate { AllWithin 10000000000000 prices.now }
+    requires moderate { AllWithin most_price prices.now }
     requires group { 16 * group < length net.now.pieces }
     ensures best { IfOk result (λ answer. answer ≡ within limit prices.now (best_of (duties net.now) prices.now class group)) }
-    ensures bound { IfOk result (λ answer. IfSome answer (λ column. column.worth ≤ 4000000000)) }
+    ensures bound { IfOk result (λ answer. IfSome answer (λ column. column.worth ≤ most_worth)) }
 {
     net.fits();
     let first = 16 * group;

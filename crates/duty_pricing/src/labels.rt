@@ -1,6 +1,7 @@
 //! The marks of the lists whose first pieces are a range, as labels.
 
 ghost use Rattle.std.specs.Prelude.{◌≡◌, ◌<◌, ◌≤◌, ◌≤ℤ◌, ◌<ℤ◌, ◌+ℤ◌, ◌-ℤ◌, neg_ℤ, pos, length, cond, int_le, int_lt, IfOk, IfSome, Some, None, true, not, ◌||◌, slice_get};
+ghost use Rattle.plan_core.specs.Limits.{most_price};
 ghost use Rattle.cover_core.specs.FirstLeast.{AllWithin};
 ghost use Rattle.cover_core.specs.Plans.{price_at};
 ghost use Rattle.label_search.specs.Limits.{is_low, passed};
@@ -50,7 +51,7 @@ pub struct DutyLabels<'a, 'p> {
     ghost ranges: { IsGroup crew },
     ghost of_day: { day ≡ (limits_of crew).day },
     ghost count: { length prices.now ≡ length net.now.pieces },
-    ghost moderate: { AllWithin 10000000000000 prices.now } by { AllWithin-prop 10000000000000 prices.now },
+    ghost moderate: { AllWithin most_price prices.now } by { AllWithin-prop most_price prices.now },
     ghost in_reach: { IsReach reach },
     ghost starts: { IsLatest net.now prices.now class crew first end latest },
     ghost ends: { reach.until ≡ latest +ℤ pos 54000 },
@@ -165,7 +166,7 @@ impl<'a, 'p> DutyLabels<'a, 'p> {
     ) -> Result<DutyLabels<'a, 'p>, Memory>
         requires class { class < length net.now.params.groups }
         requires prices { length prices.now ≡ length net.now.pieces }
-        requires moderate { AllWithin 10000000000000 prices.now }
+        requires moderate { AllWithin most_price prices.now }
         ensures net { IfOk result (λ labels. labels.net.now ≡ net.now) }
         ensures class { IfOk result (λ labels. labels.class ≡ class) }
         ensures crew { IfOk result (λ labels. slice_get net.now.params.groups class ≡ Some labels.crew) }

@@ -1,6 +1,7 @@
 //! The pricer of duties.
 
 ghost use Rattle.std.specs.Prelude.{◌≡◌, ◌<◌, ◌≤◌, ◌*◌, length, IfOk, IfSome};
+ghost use Rattle.plan_core.specs.Limits.{most_price, most_worth};
 ghost use Rattle.cover_core.specs.Best.{best_of, within};
 ghost use Rattle.cover_core.specs.FirstLeast.{AllWithin};
 ghost use Rattle.duty_network.specs.Duties.{duties};
@@ -52,10 +53,10 @@ fn best_duty(
 ) -> Result<Option<Column>, Memory>
     requires class { class < length net.now.params.groups }
     requires prices { length prices.now ≡ length net.now.pieces }
-    requires moderate { AllWithin 10000000000000 prices.now }
+    requires moderate { AllWithin most_price prices.now }
     requires group { 16 * group < length net.now.pieces }
     ensures best { IfOk result (λ answer. answer ≡ within limit prices.now (best_of (duties net.now) prices.now class group)) }
-    ensures bound { IfOk result (λ answer. IfSome answer (λ column. column.worth ≤ 4000000000)) }
+    ensures bound { IfOk result (λ answer. IfSome answer (λ column. column.worth ≤ most_worth)) }
 {
     net.fits();
     let first = 16 * group;

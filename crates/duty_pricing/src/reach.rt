@@ -1,6 +1,7 @@
 //! How far lists are looked at, and how much driving is left of a day.
 
 ghost use Rattle.std.specs.Prelude.{◌≡◌, ◌<◌, ◌≤◌, ◌-◌, ◌/◌, ◌≤ℤ◌, ◌+ℤ◌, ℤ, neg_ℤ, pos, length, Some, slice_get};
+ghost use Rattle.plan_core.specs.Limits.{most_price};
 ghost use Rattle.cover_core.specs.FirstLeast.{AllWithin};
 ghost use Rattle.plan_params.specs.Limits.{IsGroup};
 ghost use Rattle.cover_core.specs.declared.marks.Mark.{Mark as AnyMark};
@@ -120,7 +121,7 @@ fn later_start(
 ) -> i64
     requires class { slice_get net.now.params.groups class ≡ Some crew.now }
     requires ranges { IsGroup crew.now }
-    requires moderate { AllWithin 10000000000000 prices.now }
+    requires moderate { AllWithin most_price prices.now }
     requires item { item < length net.now.pieces }
     requires low { neg_ℤ (pos 345600) ≤ℤ latest }
     requires high { latest ≤ℤ pos 345600 }
@@ -149,7 +150,7 @@ pub(crate) fn latest_start(
 ) -> i64
     requires class { slice_get net.now.params.groups class ≡ Some crew.now }
     requires ranges { IsGroup crew.now }
-    requires moderate { AllWithin 10000000000000 prices.now }
+    requires moderate { AllWithin most_price prices.now }
     ensures latest { spec.IsLatest net.now prices.now class crew.now first end result }
     ensures low { neg_ℤ (pos 345600) ≤ℤ result }
     ensures high { result ≤ℤ pos 345600 }

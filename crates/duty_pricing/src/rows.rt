@@ -1,6 +1,7 @@
 //! Rows of completion bounds: a number for each amount of driving that is left.
 
 ghost use Rattle.std.specs.Prelude.{◌≡◌, ◌<◌, ◌≤◌, ◌≤ℤ◌, ◌-ℤ◌, ℕ, ℤ, neg_ℤ, pos, length};
+ghost use Rattle.plan_core.specs.Limits.{most_price};
 ghost use Rattle.cover_core.specs.Plans.{number_at};
 ghost use Rattle.duty_pricing.specs.Bounds.{IsLifted, IsLowered, IsRaised, IsRowLowered, IsSettled, cell_at};
 
@@ -57,8 +58,8 @@ fn lower_at(row: &mut Row, place: usize, value: i64)
 fn less(rest: i64, price: i64) -> i64
     requires rest_low { neg_ℤ (pos 100000000000000000) ≤ℤ rest }
     requires rest_high { rest ≤ℤ pos 100000000000000000 }
-    requires price_low { neg_ℤ (pos 10000000000000) ≤ℤ price }
-    requires price_high { price ≤ℤ pos 10000000000000 }
+    requires price_low { neg_ℤ (pos most_price) ≤ℤ price }
+    requires price_high { price ≤ℤ pos most_price }
     ensures { result ≡ rest -ℤ price }
 {
     rest - price
@@ -70,8 +71,8 @@ pub(crate) fn lower_row(row: &mut Row, next: &Row, shift: u32, width: u32, price
     requires width { width ≤ 16 }
     requires low { (x : ℕ) → x < 16 → neg_ℤ (pos 100000000000000000) ≤ℤ number_at next.now x }
     requires high { (x : ℕ) → number_at next.now x ≤ℤ pos 100000000000000000 }
-    requires price_low { neg_ℤ (pos 10000000000000) ≤ℤ price }
-    requires price_high { price ≤ℤ pos 10000000000000 }
+    requires price_low { neg_ℤ (pos most_price) ≤ℤ price }
+    requires price_high { price ≤ℤ pos most_price }
     ensures { IsRowLowered row.old row.new next.now shift width price }
 {
     for place in shift..width {

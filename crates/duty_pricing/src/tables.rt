@@ -1,6 +1,7 @@
 //! The completion bounds of lists with and without a long pause.
 
 ghost use Rattle.std.specs.Prelude.{◌≡◌, ◌≤ℤ◌, ◌+ℤ◌, neg_ℤ, pos, length, IfOk, Some, slice_get};
+ghost use Rattle.plan_core.specs.Limits.{most_price};
 ghost use Rattle.cover_core.specs.FirstLeast.{AllWithin};
 ghost use Rattle.plan_params.specs.Limits.{IsGroup};
 ghost use Rattle.duty_pricing.specs.Bounds.{AreBounds, IsReach};
@@ -47,7 +48,7 @@ pub(crate) fn tables(
     requires ranges { IsGroup group.now }
     requires reach { IsReach reach.now }
     requires prices { length prices.now ≡ length net.now.pieces }
-    requires moderate { AllWithin 10000000000000 prices.now }
+    requires moderate { AllWithin most_price prices.now }
     requires until { reach.now.until ≡ latest +ℤ pos 54000 }
     requires early { neg_ℤ (pos 345600) ≤ℤ latest }
     requires late { latest ≤ℤ pos 345600 }

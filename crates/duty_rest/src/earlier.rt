@@ -1,6 +1,7 @@
 //! What of an earlier plan's duties has begun.
 
 ghost use Rattle.std.specs.Prelude.{◌≡◌, ◌++◌, ◌<◌, ◌≤◌, IfOk, IfSome, OnOk, length};
+ghost use Rattle.plan_core.specs.Limits.{most_items};
 ghost use Rattle.cover_core.specs.Cover.{AllBelow};
 ghost use Rattle.duty_rest.specs.Heads as spec;
 
@@ -41,7 +42,7 @@ fn begun_pieces(
     begun: &[Option<Part>],
     parts: &[(u32, u32)],
 ) -> Result<Seq<u32>, Memory>
-    requires few { length begun.now ≤ 3000 }
+    requires few { length begun.now ≤ most_items }
     ensures pieces { IfOk result (λ pieces. pieces ≡ spec.begun_from begun.now parts.now 0) }
 {
     let mut pieces = Seq::new(alloc);

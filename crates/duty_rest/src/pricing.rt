@@ -1,6 +1,7 @@
 //! The best list of a rest: pricing in column generation, where some duties have begun.
 
 ghost use Rattle.std.specs.Prelude.{◌≡◌, ◌<◌, ◌≤◌, ℕ, Bool, List, true, IfOk, IfSome, length};
+ghost use Rattle.plan_core.specs.Limits.{most_price, most_worth};
 ghost use Rattle.plan_core.specs.declared.types.Price.{Price};
 ghost use Rattle.cover_core.specs.Best.{best_of, within};
 ghost use Rattle.cover_core.specs.Cover.{Problem};
@@ -77,7 +78,7 @@ fn best_of_labels<'a>(
     requires bodies { StandForAll (length labels.now.net.now.pieces) bodies.now }
     requires items { length bodies.now ≤ (rests rest.now).items }
     ensures best { (p : Problem) (heads : List Begun) (may : ℕ → List ℕ → Bool) (prices : List Price) → PricesRest p heads may class group (rests rest.now) bodies.now starts.now ended.now (duty_labels labels.now.net.now labels.now.prices.now labels.now.class labels.now.crew labels.now.first labels.now.end) (closed_value labels.now.net.now labels.now.crew) prices labels.now.prices.now → IfOk result (λ answer. answer ≡ within limit prices (best_of (rests rest.now) prices class group)) }
-    ensures bound { IfOk result (λ answer. IfSome answer (λ column. column.worth ≤ 4000000000)) }
+    ensures bound { IfOk result (λ answer. IfSome answer (λ column. column.worth ≤ most_worth)) }
 {
     // Pieces are few: the net says so.
     let _ = labels.net.pieces();
@@ -113,9 +114,9 @@ fn best_marked(
     requires bodies { StandForAll (length net.now.pieces) bodies.now }
     requires items { length bodies.now ≤ (rests rest.now).items }
     requires spread { length spread.now ≡ length net.now.pieces }
-    requires moderate { AllWithin 10000000000000 spread.now }
+    requires moderate { AllWithin most_price spread.now }
     ensures best { (heads : List Begun) (may : ℕ → List ℕ → Bool) (prices : List Price) → rests rest.now ≡ rest_of (duties net.now) heads may → bodies.now ≡ spec.bodies heads (length net.now.pieces) → AreMarks heads bodies.now may class starts.now ended.now → AreBodies bodies.now may class prices spread.now → IfOk result (λ answer. answer ≡ within limit prices (best_of (rests rest.now) prices class group)) }
-    ensures bound { IfOk result (λ answer. IfSome answer (λ column. column.worth ≤ 4000000000)) }
+    ensures bound { IfOk result (λ answer. IfSome answer (λ column. column.worth ≤ most_worth)) }
 {
     net.fits();
     let count = net.pieces().len() as u32;
@@ -150,9 +151,9 @@ pub(crate) fn best_list(
     requires made { IsMade rest.now.net rest.now.heads begun.now bodies.now }
     requires class { class < length (rests rest.now).caps }
     requires prices { length prices.now ≡ (rests rest.now).items }
-    requires moderate { AllWithin 10000000000000 prices.now }
+    requires moderate { AllWithin most_price prices.now }
     ensures best { IfOk result (λ answer. answer ≡ within limit prices.now (best_of (rests rest.now) prices.now class group)) }
-    ensures bound { IfOk result (λ answer. IfSome answer (λ column. column.worth ≤ 4000000000)) }
+    ensures bound { IfOk result (λ answer. IfSome answer (λ column. column.worth ≤ most_worth)) }
 {
     // Pieces are few: the net says so.
     let count = net.pieces().len() as u32;

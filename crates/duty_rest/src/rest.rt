@@ -1,6 +1,7 @@
 //! The rest of the duties of a day.
 
 ghost use Rattle.std.specs.Prelude.{◌≡◌, ◌<◌, ◌≤◌, IfOk, IfSome, length};
+ghost use Rattle.plan_core.specs.Limits.{most_items, most_worth};
 ghost use Rattle.cover_core.specs.Cover.{AllBelow};
 ghost use Rattle.cover_core.specs.Plans.{AreColumns};
 ghost use Rattle.cover_rest.specs.Keeping.{AreHeads};
@@ -47,7 +48,7 @@ impl<'n> Model for DutyRest<'n> {
 fn count(net: &DutyNet<'_>, bodies: &[Seq<u32>]) -> u32
     requires { StandForAll (length net.now.pieces) bodies.now }
     ensures value { result ≡ length bodies.now }
-    ensures bound { result ≤ 3000 }
+    ensures bound { result ≤ most_items }
 {
     // Pieces are few: the net says so.
     let _ = net.pieces();
@@ -66,7 +67,7 @@ fn list_worth(
     requires bodies { StandForAll (length net.now.pieces) bodies.now }
     requires list { AllBelow (length bodies.now) list.now }
     ensures value { result ≡ rest_worth (duties net.now) heads.now bodies.now may_begin class list.now }
-    ensures bound { IfSome result (λ worth. worth ≤ 4000000000) }
+    ensures bound { IfSome result (λ worth. worth ≤ most_worth) }
 {
     if is_rest_list(heads, bodies.len(), class, list, true) {
         written_worth(net, class, bodies, list)

@@ -3,6 +3,7 @@
 ghost use Rattle.std.specs.Prelude.{◌≡◌, ◌<◌, ◌≤◌, ◌/◌, [], ℕ, IfSome, Some, length, slice_get};
 ghost use Rattle.std.specs.Int.RustNames.{unsigned_abs};
 ghost use Rattle.std.specs.Option.{option_map};
+ghost use Rattle.plan_core.specs.Limits.{most_worth};
 ghost use Rattle.cover_core.specs.Cover.{AllBelow};
 ghost use Rattle.cover_core.specs.Labels.{label_after, label_of};
 ghost use Rattle.plan_params.specs.Limits.{IsGroup};
@@ -120,7 +121,7 @@ pub(crate) fn written_worth(
     requires bodies { StandForAll (length net.now.pieces) bodies.now }
     requires list { AllBelow (length bodies.now) list.now }
     ensures value { result ≡ duty_worth net.now class (written bodies.now list.now) }
-    ensures bound { IfSome result (λ worth. worth ≤ 4000000000) }
+    ensures bound { IfSome result (λ worth. worth ≤ most_worth) }
 {
     net.fits();
     let group = net.group(class);

@@ -1,6 +1,7 @@
 //! Duties judged at once and drive by drive, limits with allowances, and full breaks.
 
 ghost use Rattle.std.specs.Prelude.{◌≤◌, ◌↔◌, IsTrue, length};
+ghost use Rattle.plan_core.specs.Limits.{most_items};
 ghost use Rattle.eu561_rules.specs.Duty.{FirstPauseIsZero};
 
 use eu561_rules::{Drive, Limits, Tally, Verdict, is_full_break, judge};
@@ -10,14 +11,14 @@ const fn drive(pause: u32, driving: u32) -> Drive {
 }
 
 fn is_duty(drives: &[Drive]) -> bool
-    ensures { IsTrue result ↔ ((length drives.now ≤ 3000) × FirstPauseIsZero drives.now) }
+    ensures { IsTrue result ↔ ((length drives.now ≤ most_items) × FirstPauseIsZero drives.now) }
 {
     drives.len() <= 3000 && (drives.is_empty() || drives[0].pause == 0)
 }
 
 /// The verdict on the duty, drive by drive.
 fn tallied(drives: &[Drive], spread: u64, limits: Limits) -> Verdict
-    requires few { length drives.now ≤ 3000 }
+    requires few { length drives.now ≤ most_items }
     requires begins { FirstPauseIsZero drives.now }
 {
     let mut tally = Tally::new(limits);

@@ -1,6 +1,7 @@
 //! What lists of a few items are worth, and a search through all of them beside the answers of a pricer.
 
 ghost use Rattle.std.specs.Prelude.{◌≡◌, ◌<◌, ◌≤ℤ◌, ◌↔◌, neg_ℤ, pos, All, IfOk, IfSome, IsTrue, Some, length};
+ghost use Rattle.plan_core.specs.Limits.{most_price};
 ghost use Rattle.cover_core.specs.Cover.{AllBelow};
 ghost use Rattle.cover_core.specs.FirstLeast.{AllWithin};
 
@@ -94,15 +95,15 @@ pub fn searched<C: Columns>(columns: &C, class: u32, prices: &[i32]) -> Option<F
 }
 
 fn price(value: i32) -> Price
-    ensures low { neg_ℤ (pos 10000000000000) ≤ℤ result.0 }
-    ensures high { result.0 ≤ℤ pos 10000000000000 }
+    ensures low { neg_ℤ (pos most_price) ≤ℤ result.0 }
+    ensures high { result.0 ≤ℤ pos most_price }
 {
     Price(i64::from(value))
 }
 
 /// Prices of items.
 pub fn prices_of(alloc: Global, values: &[i32]) -> Result<Prices, Memory>
-    ensures { IfOk result (λ prices. AllWithin 10000000000000 prices.items) }
+    ensures { IfOk result (λ prices. AllWithin most_price prices.items) }
 {
     let mut items = Seq::new(alloc);
     for value in values {

@@ -1,5 +1,6 @@
 -- Promise: what a tally keeps of the drives of a duty, and which drives it stands for.
 use Rattle.std.specs.Prelude.{◌≡◌, ℕ, ◌+◌, ◌*◌, ◌-◌, ◌<◌, ◌≤◌, ◌⊎◌, Bool, true, false, cond, ◌||◌, ◌&&◌, nat_le, nat_lt, is_none, List, [], ◌∷◌, length, drop, Option, Some, None}
+use Rattle.plan_core.specs.Limits.{most_items}
 use Rattle.eu561_rules.specs.declared.rules.Drive.{Drive}
 use Rattle.eu561_rules.specs.declared.rules.Limits.{Limits}
 use Rattle.eu561_rules.specs.declared.counting.Excess.{Excess}
@@ -56,7 +57,7 @@ pub record StandsFor (t : Summary) (drives : List Drive) : Type 0 where
 pub record StandsForFewer (t : Summary) (drive : Drive) : Type 0 where
   pub drives : List Drive
   pub stands : StandsFor t drives
-  pub few : length drives < 3000
+  pub few : length drives < most_items
   pub begins : (drives ≡ []) → drive.pause ≡ 0
 
 -- the sums of a tally fit their types

@@ -2,6 +2,7 @@
 #![tactic(auto)]
 
 ghost use Rattle.std.specs.Prelude.{◌≡◌, ◌<◌, ◌++◌, ◌||◌, [], ◌∷◌, List, cond, false, nat_le};
+ghost use Rattle.plan_core.specs.Limits.{most_items};
 ghost use Rattle.eu561_rules.specs.Duty.{Judged, completes_break};
 ghost use Rattle.eu561_rules.specs.Summary.{StandsFor, StandsForFewer, IsSmall, closed_excess, tally_after};
 ghost use Rattle.eu561_rules.specs.declared.rules.Drive.{Drive};
@@ -95,7 +96,7 @@ impl Tally {
     /// The tally with one drive more.
     fn after(&self, drive: Drive) -> Tally
         requires small { IsSmall self.now }
-        requires few { self.now.count < 3000 }
+        requires few { self.now.count < most_items }
         ensures { result ≡ tally_after self.now drive }
     {
         let long = self.long || drive.pause >= self.limits.long_pause;

@@ -18,6 +18,7 @@
 #![tactic(auto)]
 
 ghost use Rattle.std.specs.Prelude.{◌≡◌, ℕ, ◌<◌, ◌≤◌, ◌↔◌, length, IsTrue};
+ghost use Rattle.plan_core.specs.Limits.{most_items};
 ghost use Rattle.eu561_rules.specs.Duty.{FirstPauseIsZero, IsBreakInWords, IsLawful, BreaksArticle7, BreaksArticle8, Judged, driving_of};
 ghost use Rattle.eu561_rules.specs.Duty.{is_full_break as is_break};
 ghost use Rattle.eu561_rules.specs.Lawful.{is_lawful};
@@ -50,7 +51,7 @@ pub fn is_full_break(drives: &[Drive], place: usize) -> bool
 /// - else `Art8` where the spread is longer than the one that applies (article 8(2));
 /// - else `Lawful`.
 pub fn judge(drives: &[Drive], spread: u64, limits: &Limits) -> Verdict
-    requires few { length drives.now ≤ 3000 }
+    requires few { length drives.now ≤ most_items }
     requires begins { FirstPauseIsZero drives.now }
     ensures first { Judged drives.now spread limits.now result }
 

@@ -1,6 +1,7 @@
 //! A small problem, on which rounds and exchanges are worked by hand.
 
 ghost use Rattle.std.specs.Prelude.{◌≡◌, ◌<◌, ◌≤◌, ◌∷◌, [], IfSome};
+ghost use Rattle.plan_core.specs.Limits.{most_worth};
 ghost use Rattle.exchange_tests.specs.Five.{five, five_worth, five-listed};
 
 use cover_core::{Column, Columns};
@@ -16,7 +17,7 @@ pub(crate) struct Five {
 /// What an item is worth alone.
 fn alone(bar: u32, x: u32) -> Option<u64>
     ensures value { result ≡ five_worth bar 0 (x ∷ []) }
-    ensures bound { IfSome result (λ worth. worth ≤ 4000000000) }
+    ensures bound { IfSome result (λ worth. worth ≤ most_worth) }
 {
     if bar <= x && x < 5 { Some(10) } else { None }
 }
@@ -25,7 +26,7 @@ fn alone(bar: u32, x: u32) -> Option<u64>
 fn two(class: u32, x: u32, y: u32) -> Option<u64>
     requires { class < 2 }
     ensures value { result ≡ five_worth 0 class (x ∷ y ∷ []) }
-    ensures bound { IfSome result (λ worth. worth ≤ 4000000000) }
+    ensures bound { IfSome result (λ worth. worth ≤ most_worth) }
 {
     if x < y && y < 5 && (class == 0 || y < x + 3) {
         Some(8 + 3 * (y - x) as u64 + class as u64)
@@ -38,7 +39,7 @@ fn two(class: u32, x: u32, y: u32) -> Option<u64>
 fn three(class: u32, x: u32, y: u32, z: u32) -> Option<u64>
     requires { class < 2 }
     ensures value { result ≡ five_worth 0 class (x ∷ y ∷ z ∷ []) }
-    ensures bound { IfSome result (λ worth. worth ≤ 4000000000) }
+    ensures bound { IfSome result (λ worth. worth ≤ most_worth) }
 {
     if x < y && y < z && z < 5 {
         Some(3 * (z - x) as u64 + class as u64)

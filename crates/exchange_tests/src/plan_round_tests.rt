@@ -1,6 +1,7 @@
 //! Pools that are rounded to plans, worked by hand.
 
 ghost use Rattle.std.specs.Prelude.{◌≡◌, ◌<◌, ◌≤ℤ◌, pos, length, IfOk, OnOk};
+ghost use Rattle.plan_core.specs.Limits.{most_price};
 ghost use Rattle.cover_core.specs.Cover.{AllBelow};
 ghost use Rattle.cover_core.specs.Plans.{AreColumns};
 ghost use Rattle.cover_core.specs.FirstLeast.{AreCheap, AllWithin};
@@ -47,7 +48,7 @@ fn rounding(alloc: Global, given: &Five, pool: &Pool, prices: &Prices) -> Result
     requires pool { AreColumns (five given.now.places given.now.bar) pool.now }
     requires cheap { AreCheap pool.now }
     requires prices { length prices.now.items ≡ 5 }
-    requires moderate { AllWithin 10000000000000 prices.now.items }
+    requires moderate { AllWithin most_price prices.now.items }
 {
     let mut out = Vec::new(alloc);
     match round(alloc, given, pool, prices) {

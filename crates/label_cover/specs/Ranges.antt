@@ -2,6 +2,7 @@
 use Rattle.std.specs.Prelude.{ℕ, ℤ, pos, neg_ℤ, ◌≤◌, ◌<◌, ◌≤ℤ◌, ◌+◌, ◌*◌, List, [], ◌∷◌}
 use Rattle.std.proofs.Props.{props}
 use Rattle.std.specs.Coded.{Unit-prop}
+use Rattle.plan_core.specs.Limits.{most_items}
 use Rattle.plan_core.specs.declared.types.Price.{Price}
 use Rattle.cover_core.specs.declared.marks.Mark.{Mark}
 use Rattle.cover_core.specs.FirstLeast.{AllWithin}
@@ -9,7 +10,7 @@ use Rattle.cover_core.specs.FirstLeast.{AllWithin}
 -- the numbers of the mark of an open list of `count` pieces, under prices of which none is further from 0 than 3 * 10^15
 pub record MarkHasRanges (count : ℕ) (m : Mark) : Type 0 where
   pub piece : m.piece < count
-  pub few : count ≤ 3000
+  pub few : count ≤ most_items
   pub early : neg_ℤ (pos 345600) ≤ℤ m.start.0
   pub late : m.start.0 ≤ℤ pos 345600
   pub driving : m.driving ≤ 16200

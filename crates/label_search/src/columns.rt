@@ -2,6 +2,7 @@
 #![tactic(auto)]
 
 ghost use Rattle.std.specs.Prelude.{◌≡◌, ◌<◌, ◌≤◌, length, IfOk, IfSome, ℕ, List};
+ghost use Rattle.plan_core.specs.Limits.{most_worth};
 ghost use Rattle.plan_core.specs.declared.Price.{Price};
 ghost use Rattle.cover_core.specs.Best.{best_of, within};
 ghost use Rattle.cover_core.specs.Cover.{AllBelow};
@@ -24,7 +25,7 @@ pub fn column_of<C: Columns>(
     requires class { class < length (C.problem columns.now).caps }
     requires items { AllBelow (C.problem columns.now).items list.now }
     ensures column { IfOk result (λ answer. answer ≡ worth_column (C.problem columns.now) class list.now) }
-    ensures bound { IfOk result (λ answer. IfSome answer (λ column. column.worth ≤ 4000000000)) }
+    ensures bound { IfOk result (λ answer. IfSome answer (λ column. column.worth ≤ most_worth)) }
 {
     match columns.worth(class, list) {
         None => Ok(None),
@@ -56,7 +57,7 @@ pub fn best_column<C: Columns, W: Labels>(
     requires class { class < length (C.problem columns.now).caps }
     requires items { W.count labels.now ≤ (C.problem columns.now).items }
     ensures best { (prices : List Price) (group : ℕ) → IsTiedInGroup (W.labelling labels.now) (W.close_of labels.now) prices group ((C.problem columns.now).worth class) → IfOk result (λ answer. answer ≡ within limit prices (best_of (C.problem columns.now) prices class group)) }
-    ensures bound { IfOk result (λ answer. IfSome answer (λ column. column.worth ≤ 4000000000)) }
+    ensures bound { IfOk result (λ answer. IfSome answer (λ column. column.worth ≤ most_worth)) }
 {
     best_is_first_least::<C>();
     match search(alloc, labels, likely, limit)? {

@@ -2,6 +2,7 @@
 #![tactic(auto)]
 
 ghost use Rattle.std.specs.Prelude.{◌≡◌, ◌<◌, ◌≤◌, length, IfOk, OnOk, ◌++◌, [], ◌∷◌};
+ghost use Rattle.plan_core.specs.Limits.{most_items, most_price};
 ghost use Rattle.cover_core.specs.FirstLeast.{AllWithin};
 ghost use Rattle.cover_core.specs.Plans.{number_at, price_at};
 ghost use Rattle.label_search.specs.Rests.{gain_of, rests_of};
@@ -12,8 +13,8 @@ use std::alloc::Global;
 /// What the items after each item can take off a value at most: minus the sum of their prices above 0. It is the simplest completion
 /// bound: there are at most 3,000 prices from -10,000,000,000,000 to 10,000,000,000,000. `Memory` is the only error.
 pub fn rests(alloc: Global, prices: &[Price]) -> Result<Vec<i64>, Memory>
-    requires few { length prices.now ≤ 3000 }
-    requires moderate { AllWithin 10000000000000 prices.now }
+    requires few { length prices.now ≤ most_items }
+    requires moderate { AllWithin most_price prices.now }
     ensures { IfOk result (λ rests. rests.items ≡ rests_of prices.now) }
 {
     let mut rests = Vec::new(alloc);

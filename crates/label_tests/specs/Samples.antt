@@ -3,6 +3,7 @@ use Rattle.std.specs.Prelude.{◌≡◌, ℕ, ℤ, pos, neg_ℤ, zero, suc, ◌+
 use Rattle.std.proofs.Common.{arith, ap, sym, ◌∙◌, subst}
 use Rattle.std.proofs.lemmas.Bool.Decides.{nat_tests}
 use Rattle.std.proofs.lemmas.Int.{ints}
+use Rattle.plan_core.specs.Limits.{most_items}
 use Rattle.plan_core.specs.declared.Price.{Price}
 use Rattle.cover_core.specs.Cover.{Problem}
 use Rattle.cover_core.specs.Plans.{price_at, price_of, value_of}
@@ -252,11 +253,11 @@ AreSmall prices = (i : ℕ) → (neg_ℤ (pos 1000000) ≤ℤ price_at prices i)
 
 -- the numbers of a step under small prices
 pub record StepFits (a : Step) : Type 0 where
-  pub item : a.1 < 3000
+  pub item : a.1 < most_items
   pub low : neg_ℤ (pos (1000000 * (a.1 + 1))) ≤ℤ a.2
   pub high : a.2 ≤ℤ pos (1000 + 1000000 * (a.1 + 1))
 
-pub steps-safe : (prices : List Price) → length prices ≤ 3000 → AreSmall prices → AreSafe (steps prices) StepFits
+pub steps-safe : (prices : List Price) → length prices ≤ most_items → AreSmall prices → AreSafe (steps prices) StepFits
 steps-safe prices few small = record {
   starts = λ class item b e.
       let x = first-parts prices class item b e in

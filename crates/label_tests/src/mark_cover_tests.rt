@@ -1,6 +1,7 @@
 //! Covers of a small problem, worked by hand: every list that rises is worth 1 in each of two classes.
 
 ghost use Rattle.std.specs.Prelude.{◌≡◌, ◌≤◌, ◌<◌, ◌-ℤ◌, true, length};
+ghost use Rattle.plan_core.specs.Limits.{most_items};
 ghost use Rattle.cover_core.specs.Plans.{price_at};
 ghost use Rattle.mark_cover.specs.Searches.{AreThere};
 ghost use Rattle.label_tests.specs.Samples.{AreSmall, StepFits, rising, steps, steps-apart, steps-ordered, steps-placed, steps-safe, steps-tied};
@@ -15,7 +16,7 @@ use std::test::Fail;
 #[derive(Drop)]
 struct Rising {
     prices: Vec<Price>,
-    ghost few: { length prices.items ≤ 3000 },
+    ghost few: { length prices.items ≤ most_items },
     ghost small: { AreSmall prices.items },
 }
 

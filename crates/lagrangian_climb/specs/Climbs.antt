@@ -1,5 +1,6 @@
 -- Promise: the ranges of a climb.
 use Rattle.std.specs.Prelude.{◌≡◌, ℕ, ℤ, pos, neg_ℤ, ◌≤ℤ◌, ◌<◌, ◌≤◌, List, [], ◌∷◌, length}
+use Rattle.plan_core.specs.Limits.{most_price}
 use Rattle.cover_core.specs.declared.Prices.{Prices}
 use Rattle.cover_core.specs.FirstLeast.{AllWithin}
 use Rattle.lagrangian_climb.specs.declared.vectors.Span.{Span}
@@ -15,12 +16,12 @@ AreNear n (z ∷ zs) = (neg_ℤ (pos n) ≤ℤ z) × (z ≤ℤ pos n) × AreNear
 -- each span is from a low number to a high one, within 10,000,000,000,000
 abbrev pub AreSpans : List Span → Type 0
 AreSpans [] = Unit {0}
-AreSpans (s ∷ ss) = (neg_ℤ (pos 10000000000000) ≤ℤ s.low) × (s.low ≤ℤ s.high) × (s.high ≤ℤ pos 10000000000000) × AreSpans ss
+AreSpans (s ∷ ss) = (neg_ℤ (pos most_price) ≤ℤ s.low) × (s.low ≤ℤ s.high) × (s.high ≤ℤ pos most_price) × AreSpans ss
 
 -- so many prices, each within 10,000,000,000,000
 pub record IsPriced (items : ℕ) (prices : Prices) : Type 0 where
   pub len : length prices.items ≡ items
-  pub moderate : AllWithin 10000000000000 prices.items
+  pub moderate : AllWithin most_price prices.items
 
 -- prices with what classes ask, and a Lagrangian in range
 pub record IsPeak (items places : ℕ) (peak : Peak) : Type 0 where

@@ -2,6 +2,7 @@
 
 ghost use Rattle.std.specs.Prelude.{◌≡◌, ℤ, ◌≤◌, ◌<◌, ◌+◌, ◌*◌, ◌≤ℤ◌, ◌<ℤ◌, ◌+ℤ◌, pos, neg_ℤ, [], ◌∷◌, ◌++◌, length, cond, IfOk, OnOk, slice_index, slice_set};
 ghost use Rattle.std.specs.List.Sorted.{IsPermutation, IsSortedBy};
+ghost use Rattle.plan_core.specs.Limits.{most_items, most_price};
 ghost use Rattle.cover_core.specs.Cover.{AllBelow};
 ghost use Rattle.cover_core.specs.FirstLeast.{AllWithin};
 ghost use Rattle.cover_core.specs.Fitting.{AreFit};
@@ -32,8 +33,8 @@ fn gains(
     places: &[u32],
     prices: &Prices,
 ) -> Result<Vec<Key>, Memory>
-    requires few { length prices.now.items ≤ 3000 }
-    requires moderate { AllWithin 10000000000000 prices.now.items }
+    requires few { length prices.now.items ≤ most_items }
+    requires moderate { AllWithin most_price prices.now.items }
     requires fit { AreFit (length prices.now.items) 32 pool.now }
     requires places { AllBelow (length pool.now) places.now }
     ensures { IfOk result (λ keys. keys.items ≡ gains_at prices.now.items pool.now places.now) }
@@ -139,8 +140,8 @@ pub(crate) fn choose_of(
     prices: &Prices,
 ) -> Result<Choice, Memory>
     requires pool { length pool.now ≤ 200000 }
-    requires few { length prices.now.items ≤ 3000 }
-    requires moderate { AllWithin 10000000000000 prices.now.items }
+    requires few { length prices.now.items ≤ most_items }
+    requires moderate { AllWithin most_price prices.now.items }
     requires classes { length caps.now ≤ 32 }
     requires fit { AreFit (length prices.now.items) (length caps.now) pool.now }
     requires places { AllBelow (length pool.now) places.now }
@@ -184,8 +185,8 @@ pub fn choose(
     prices: &Prices,
 ) -> Result<Choice, Memory>
     requires pool { length pool.now ≤ 200000 }
-    requires few { length prices.now.items ≤ 3000 }
-    requires moderate { AllWithin 10000000000000 prices.now.items }
+    requires few { length prices.now.items ≤ most_items }
+    requires moderate { AllWithin most_price prices.now.items }
     requires fixed { length fixed.now ≡ length prices.now.items }
     requires classes { length caps.now ≤ 32 }
     requires fit { AreFit (length prices.now.items) (length caps.now) pool.now }

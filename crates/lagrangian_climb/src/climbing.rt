@@ -1,6 +1,7 @@
 //! The climb: price steps, the greatest Lagrangian, and the way back to it.
 
 ghost use Rattle.std.specs.Prelude.{◌≡◌, ℕ, ◌<◌, ◌≤◌, ◌≤ℤ◌, pos, neg_ℤ, length, IfOk, OnOk};
+ghost use Rattle.plan_core.specs.Limits.{most_items, most_price};
 ghost use Rattle.cover_core.specs.FirstLeast.{AllWithin};
 ghost use Rattle.cover_core.specs.Cover.{AllBelow};
 ghost use Rattle.cover_core.specs.Fitting.{AreFit};
@@ -76,7 +77,7 @@ fn begin(
     columns: usize,
     pace: u32,
 ) -> Result<Ascent, Memory>
-    requires moderate { AllWithin 10000000000000 prices.now.items }
+    requires moderate { AllWithin most_price prices.now.items }
     requires pace { pace ≤ 512 }
     ensures { IfOk result (IsAscent (length prices.now.items) classes columns) }
 {
@@ -137,7 +138,7 @@ fn rise(
 ) -> Result<u32, Memory>
     requires idle { idle < 20 }
     requires peak { IsPeak (length prices.now.items) (length class_prices) peak.old }
-    requires moderate { AllWithin 10000000000000 prices.now.items }
+    requires moderate { AllWithin most_price prices.now.items }
     requires asked { AreAsked class_prices }
     requires low { neg_ℤ (pos 10000000000000000000000) ≤ℤ bound }
     requires high { bound ≤ℤ pos 10000000000000000000000 }
@@ -168,7 +169,7 @@ fn go_on(
     bound: i128,
     ascent: Ascent,
 ) -> Result<Ascent, Memory>
-    requires items { length rest.now.fixed ≤ 3000 }
+    requires items { length rest.now.fixed ≤ most_items }
     requires fit { AreFit (length rest.now.fixed) 32 pool.now }
     requires spans { AreSpans spans.now }
     requires one_each { length spans.now ≡ length rest.now.fixed }
@@ -226,7 +227,7 @@ fn turn(
     ascent: Ascent,
 ) -> Result<Ascent, Memory>
     requires pool { length pool.now ≤ 200000 }
-    requires items { length rest.now.fixed ≤ 3000 }
+    requires items { length rest.now.fixed ≤ most_items }
     requires classes { length rest.now.caps ≤ 32 }
     requires playing { AllBelow (length pool.now) playing.now }
     requires count { length playing.now ≤ length pool.now }
@@ -304,7 +305,7 @@ pub fn climb(
     pace: u32,
 ) -> Result<Climbed, Memory>
     requires pool { length pool.now ≤ 200000 }
-    requires items { length rest.now.fixed ≤ 3000 }
+    requires items { length rest.now.fixed ≤ most_items }
     requires classes { length rest.now.caps ≤ 32 }
     requires fit { AreFit (length rest.now.fixed) (length rest.now.caps) pool.now }
     requires prices { IsPriced (length rest.now.fixed) prices.now }

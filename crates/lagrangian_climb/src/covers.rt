@@ -1,6 +1,7 @@
 //! How often items stand in chosen columns.
 
 ghost use Rattle.std.specs.Prelude.{◌≡◌, ℕ, ◌+◌, ◌<◌, ◌≤◌, length, slice_index, IfOk};
+ghost use Rattle.plan_core.specs.Limits.{most_items};
 ghost use Rattle.cover_core.specs.Cover.{AllBelow};
 ghost use Rattle.cover_core.specs.Fitting.{AreFit};
 ghost use Rattle.cover_core.specs.Plans.{times};
@@ -14,7 +15,7 @@ use std::alloc::Global;
 fn add_items(cover: &mut Seq<u32>, list: &[u32])
     requires items { AllBelow (length cover.old) list.now }
     requires small { (i : ℕ) → slice_index cover.old i ≤ 1000000 }
-    requires short { length list.now ≤ 3000 }
+    requires short { length list.now ≤ most_items }
     ensures added { (i : ℕ) → slice_index cover.new i ≡ slice_index cover.old i + times i list.now }
     ensures len { length cover.new ≡ length cover.old }
 {
@@ -31,7 +32,7 @@ pub fn covers(
     pool: &[Column],
     places: &[u32],
 ) -> Result<Seq<u32>, Memory>
-    requires items { items ≤ 3000 }
+    requires items { items ≤ most_items }
     requires fit { AreFit items 32 pool.now }
     requires below { AllBelow (length pool.now) places.now }
     requires few { length places.now ≤ 200000 }

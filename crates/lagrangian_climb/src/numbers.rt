@@ -2,6 +2,7 @@
 
 ghost use Rattle.std.specs.Prelude.{◌≡◌, ◌≤◌, ◌<◌, ◌≤ℤ◌, ◌*◌, ◌*ℤ◌, pos, neg_ℤ, int_div, unsigned_abs};
 ghost use Rattle.std.specs.Int.{int_max};
+ghost use Rattle.plan_core.specs.Limits.{most_price};
 ghost use Rattle.lagrangian_climb.specs.Numbers.{lack_of, direction_of, gap_of, unit_of, kept_within, moved_of};
 
 /// How far an item is from being covered once, where so many chosen columns have it: its part of the subgradient. A fixed item has 0.
@@ -123,8 +124,8 @@ fn keep(low: i64, high: i64, number: i64) -> i64
 /// A price after a price step.
 pub fn moved(low: i64, high: i64, unit: i64, direction: i64, price: i64) -> i64
     requires limits { low ≤ℤ high }
-    requires price_low { neg_ℤ (pos 10000000000000) ≤ℤ price }
-    requires price_high { price ≤ℤ pos 10000000000000 }
+    requires price_low { neg_ℤ (pos most_price) ≤ℤ price }
+    requires price_high { price ≤ℤ pos most_price }
     requires unit_low { pos 0 ≤ℤ unit }
     requires unit_high { unit ≤ℤ pos 1000000000000 }
     requires direction_low { neg_ℤ (pos 1600000) ≤ℤ direction }

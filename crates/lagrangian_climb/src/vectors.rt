@@ -1,6 +1,7 @@
 //! Directions and prices of all items: the numbers of a price step as vectors.
 
 ghost use Rattle.std.specs.Prelude.{◌≡◌, ℕ, ◌<◌, ◌≤◌, ◌≤ℤ◌, pos, neg_ℤ, length, slice_index, IfOk};
+ghost use Rattle.plan_core.specs.Limits.{most_items, most_price};
 ghost use Rattle.cover_core.specs.FirstLeast.{AllWithin};
 ghost use Rattle.cover_core.specs.Plans.{price_at, number_at};
 ghost use Rattle.lagrangian_climb.specs.Climbs.{AreNear, AreSpans};
@@ -42,10 +43,10 @@ fn direction_at(directions: &[i64], item: usize) -> i64
 /// The price of an item.
 fn price_at(prices: &Prices, item: usize) -> i64
     requires inside { item < length prices.now.items }
-    requires moderate { AllWithin 10000000000000 prices.now.items }
+    requires moderate { AllWithin most_price prices.now.items }
     ensures value { result ≡ price_at prices.now.items item }
-    ensures low { neg_ℤ (pos 10000000000000) ≤ℤ result }
-    ensures high { result ≤ℤ pos 10000000000000 }
+    ensures low { neg_ℤ (pos most_price) ≤ℤ result }
+    ensures high { result ≤ℤ pos most_price }
 {
     prices.items.as_slice()[item].0
 }
@@ -54,9 +55,9 @@ fn price_at(prices: &Prices, item: usize) -> i64
 fn span_at(spans: &[Span], item: usize) -> Span
     requires inside { item < length spans.now }
     requires spans { AreSpans spans.now }
-    ensures low { neg_ℤ (pos 10000000000000) ≤ℤ result.low }
+    ensures low { neg_ℤ (pos most_price) ≤ℤ result.low }
     ensures ordered { result.low ≤ℤ result.high }
-    ensures high { result.high ≤ℤ pos 10000000000000 }
+    ensures high { result.high ≤ℤ pos most_price }
 {
     spans[item]
 }
@@ -68,7 +69,7 @@ pub fn turned_heading(
     fixed: &[bool],
     cover: &[u32],
 ) -> Result<Heading, Memory>
-    requires few { length old.now ≤ 3000 }
+    requires few { length old.now ≤ most_items }
     requires near { AreNear 1600000 old.now }
     requires fixed { length fixed.now ≡ length old.now }
     requires cover { length cover.now ≡ length old.now }
@@ -99,7 +100,7 @@ pub fn moved_prices(
     spans: &[Span],
     unit: i64,
 ) -> Result<Prices, Memory>
-    requires moderate { AllWithin 10000000000000 prices.now.items }
+    requires moderate { AllWithin most_price prices.now.items }
     requires near { AreNear 1600000 directions.now }
     requires directions { length directions.now ≡ length prices.now.items }
     requires spans { AreSpans spans.now }
@@ -107,7 +108,7 @@ pub fn moved_prices(
     requires low { pos 0 ≤ℤ unit }
     requires high { unit ≤ℤ pos 1000000000000 }
     ensures len { IfOk result (λ new. length new.items ≡ length prices.now.items) }
-    ensures moderate { IfOk result (λ new. AllWithin 10000000000000 new.items) }
+    ensures moderate { IfOk result (λ new. AllWithin most_price new.items) }
 {
     let mut items = Seq::new(alloc);
     for item in 0..prices.items.len() {
@@ -121,8 +122,8 @@ pub fn moved_prices(
 
 /// The sum of the prices of the items that are not fixed.
 pub fn free_sum(fixed: &[bool], prices: &Prices) -> i128
-    requires few { length prices.now.items ≤ 3000 }
-    requires moderate { AllWithin 10000000000000 prices.now.items }
+    requires few { length prices.now.items ≤ most_items }
+    requires moderate { AllWithin most_price prices.now.items }
     requires fixed { length fixed.now ≡ length prices.now.items }
     ensures low { neg_ℤ (pos 30000000000000000) ≤ℤ result }
     ensures high { result ≤ℤ pos 30000000000000000 }

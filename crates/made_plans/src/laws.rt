@@ -1,6 +1,7 @@
 //! What holds of every problem and every day. The functions do nothing: their contracts are the theorems.
 
 ghost use Rattle.std.specs.Prelude.{◌≤◌, ℕ};
+ghost use Rattle.plan_core.specs.Limits.{most_items};
 ghost use Rattle.day_model.specs.Facts.{DayFacts};
 ghost use Rattle.made_plans.specs.MadeDays.{IsMadeDay};
 ghost use Rattle.made_plans.specs.MadeTables.{AreFaultless, HasKind, HasNoDayFault};
@@ -28,14 +29,14 @@ pub fn roomy_days_are_planned()
 
 /// A day that is made from a seed, with at most 3,000 trips, is roomy. So planning of it is refused for running out of memory alone.
 pub fn made_days_are_planned()
-    ensures roomy { (seed trips day : ℕ) (facts : DayFacts) → trips ≤ 3000 → IsMadeDay seed trips day facts → IsRoomy facts }
-    ensures refusal { (seed trips day : ℕ) (facts : DayFacts) → trips ≤ 3000 → IsMadeDay seed trips day facts → IsRefusedForMemory facts }
+    ensures roomy { (seed trips day : ℕ) (facts : DayFacts) → trips ≤ most_items → IsMadeDay seed trips day facts → IsRoomy facts }
+    ensures refusal { (seed trips day : ℕ) (facts : DayFacts) → trips ≤ most_items → IsMadeDay seed trips day facts → IsRefusedForMemory facts }
 {}
 
 /// The tables that are made from a seed, with at most 3,000 trips, have no fault, and no reason stands against a day that has a kind in
 /// their network, as 20260302 has.
 pub fn made_tables_tell_a_day()
-    ensures faultless { (seed trips : ℕ) → trips ≤ 3000 → AreFaultless seed trips }
-    ensures day { (seed trips : ℕ) → trips ≤ 3000 → HasNoDayFault seed trips }
+    ensures faultless { (seed trips : ℕ) → trips ≤ most_items → AreFaultless seed trips }
+    ensures day { (seed trips : ℕ) → trips ≤ most_items → HasNoDayFault seed trips }
     ensures kind { (seed trips : ℕ) → HasKind seed trips 20260302 }
 {}

@@ -1,5 +1,6 @@
 -- Promise: the ranges of what an estimate is made from.
 use Rattle.std.specs.Prelude.{ℕ, ℤ, pos, neg_ℤ, ◌≤ℤ◌, ◌≤◌, List, [], ◌∷◌}
+use Rattle.plan_core.specs.Limits.{most_places}
 use Rattle.offer_estimate.specs.declared.scales.Scale.{Scale}
 
 -- each least value is from -30,000,000,000,000,000 to 0
@@ -22,4 +23,4 @@ pub record IsScale (scale : Scale) : Type 0 where
 -- each cap is at most 10,000
 abbrev pub AreCaps : List ℕ → Type 0
 AreCaps [] = Unit {0}
-AreCaps (c ∷ cs) = (c ≤ 10000) × AreCaps cs
+AreCaps (c ∷ cs) = (c ≤ most_places) × AreCaps cs

@@ -1,6 +1,7 @@
 //! Guesses of the bounds of scaled prices.
 
 ghost use Rattle.std.specs.Prelude.{◌≡◌, ◌<◌, ◌≤◌, ◌≤ℤ◌, ◌<ℤ◌, ◌-ℤ◌, ◌*ℤ◌, int_div, pos, neg_ℤ, length, slice_index};
+ghost use Rattle.plan_core.specs.Limits.{most_places};
 ghost use Rattle.cover_core.specs.Plans.{number_at};
 ghost use Rattle.offer_estimate.specs.Scales.{AreLeasts, AreWorths, AreCaps, IsScale};
 ghost use Rattle.offer_estimate.specs.Estimates.{IsFirstGreatest, guesses, estimate_of, proposed, scaled_least};
@@ -87,7 +88,7 @@ fn scaled_value(part: i64, whole: i64, least: i64, worth: i64) -> i128
 
 /// What a class takes off a guess: each of its places the scaled least value.
 fn loss(cap: u32, value: i128) -> i128
-    requires cap { cap ≤ 10000 }
+    requires cap { cap ≤ most_places }
     requires low { neg_ℤ (pos 1000000000000000000000000000000) ≤ℤ value }
     requires high { value ≤ℤ pos 0 }
     ensures value { result ≡ pos cap *ℤ value }
@@ -163,7 +164,7 @@ fn cap_at(caps: &[u32], class: usize) -> u32
     requires inside { class < length caps.now }
     requires caps { AreCaps caps.now }
     ensures value { result ≡ slice_index caps.now class }
-    ensures few { result ≤ 10000 }
+    ensures few { result ≤ most_places }
 {
     caps[class]
 }

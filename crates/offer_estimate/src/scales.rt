@@ -1,6 +1,7 @@
 //! Scales, and prices at a scale.
 
 ghost use Rattle.std.specs.Prelude.{◌≡◌, ◌<◌, ◌≤◌, ◌≤ℤ◌, ◌*ℤ◌, pos, neg_ℤ, length, IfOk};
+ghost use Rattle.plan_core.specs.Limits.{most_price};
 ghost use Rattle.cover_core.specs.FirstLeast.{AllWithin};
 ghost use Rattle.cover_core.specs.Plans.{price_at};
 ghost use Rattle.cover_master.specs.Method.{clamped};
@@ -22,8 +23,8 @@ pub struct Scale {
 
 /// A price times a part.
 fn partial(part: i64, price: i128) -> i128
-    requires low { neg_ℤ (pos 10000000000000) ≤ℤ price }
-    requires high { price ≤ℤ pos 10000000000000 }
+    requires low { neg_ℤ (pos most_price) ≤ℤ price }
+    requires high { price ≤ℤ pos most_price }
     requires part_low { pos 1 ≤ℤ part }
     requires part_high { part ≤ℤ pos 4000000000000 }
     ensures value { result ≡ price *ℤ part }
@@ -35,14 +36,14 @@ fn partial(part: i64, price: i128) -> i128
 
 /// A price at a scale, rounded down.
 fn price_scaled(price: i64, part: i64, whole: i64) -> i64
-    requires low { neg_ℤ (pos 10000000000000) ≤ℤ price }
-    requires high { price ≤ℤ pos 10000000000000 }
+    requires low { neg_ℤ (pos most_price) ≤ℤ price }
+    requires high { price ≤ℤ pos most_price }
     requires part_low { pos 1 ≤ℤ part }
     requires part_high { part ≤ℤ pos 4000000000000 }
     requires whole { pos 1 ≤ℤ whole }
     ensures value { result ≡ scaled_price part whole price }
-    ensures low { neg_ℤ (pos 10000000000000) ≤ℤ result }
-    ensures high { result ≤ℤ pos 10000000000000 }
+    ensures low { neg_ℤ (pos most_price) ≤ℤ result }
+    ensures high { result ≤ℤ pos most_price }
 {
     clamp(partial(part, price as i128).div_euclid(whole as i128))
 }
@@ -50,8 +51,8 @@ fn price_scaled(price: i64, part: i64, whole: i64) -> i64
 /// A price kept in its range.
 fn clamp(price: i128) -> i64
     ensures value { result ≡ clamped price }
-    ensures low { neg_ℤ (pos 10000000000000) ≤ℤ result }
-    ensures high { result ≤ℤ pos 10000000000000 }
+    ensures low { neg_ℤ (pos most_price) ≤ℤ result }
+    ensures high { result ≤ℤ pos most_price }
 {
     if 10000000000000 < price {
         10000000000000
@@ -69,10 +70,10 @@ fn clamp(price: i128) -> i64
 ///
 /// [`Memory`] where it is refused.
 pub fn scaled(alloc: Global, prices: &Prices, scale: Scale) -> Result<Prices, Memory>
-    requires moderate { AllWithin 10000000000000 prices.now.items }
+    requires moderate { AllWithin most_price prices.now.items }
     requires scale { IsScale scale }
     ensures scaled { IfOk result (λ new. new.items ≡ scaled_prices scale prices.now.items) }
-    ensures moderate { IfOk result (λ new. AllWithin 10000000000000 new.items) }
+    ensures moderate { IfOk result (λ new. AllWithin most_price new.items) }
     ensures len { IfOk result (λ new. length new.items ≡ length prices.now.items) }
 {
     let mut items = Seq::new(alloc);
@@ -86,10 +87,10 @@ pub fn scaled(alloc: Global, prices: &Prices, scale: Scale) -> Result<Prices, Me
 /// The price of an item.
 fn price_of(prices: &Prices, item: usize) -> i64
     requires inside { item < length prices.now.items }
-    requires moderate { AllWithin 10000000000000 prices.now.items }
+    requires moderate { AllWithin most_price prices.now.items }
     ensures value { result ≡ price_at prices.now.items item }
-    ensures low { neg_ℤ (pos 10000000000000) ≤ℤ result }
-    ensures high { result ≤ℤ pos 10000000000000 }
+    ensures low { neg_ℤ (pos most_price) ≤ℤ result }
+    ensures high { result ≤ℤ pos most_price }
 {
     prices.items.as_slice()[item].0
 }

@@ -1,6 +1,7 @@
 //! What connections and pulls add to the cost of a path.
 
 ghost use Rattle.std.specs.Prelude.{◌≡◌, ◌<◌, ◌≤◌, ◌+◌, ◌*◌, IfSome, Some, length, slice_get};
+ghost use Rattle.plan_core.specs.Limits.{most_rate};
 ghost use Rattle.plan_params.specs.Limits.{IsPool};
 ghost use Rattle.day_model.specs.Blocks as blocks;
 ghost use Rattle.day_model.specs.Ranges.{IsShort};
@@ -13,10 +14,10 @@ use trip_times::Trip;
 
 /// What seconds cost at a rate.
 fn charged(rate: u32, seconds: u32) -> u64
-    requires rate { rate ≤ 10000 }
+    requires rate { rate ≤ most_rate }
     requires seconds { seconds ≤ 345600 }
     ensures value { result ≡ rate * seconds }
-    ensures bound { result ≤ 10000 * seconds }
+    ensures bound { result ≤ most_rate * seconds }
     ensures dear { result ≤ 345600 * rate }
 {
     u64::from(rate) * u64::from(seconds)
@@ -27,7 +28,7 @@ fn link_cost(pool: &Pool, next: &Trip, link: Link) -> u64
     requires pool { IsPool pool.now }
     requires short { IsShort link }
     ensures value { result ≡ blocks.link_cost pool.now next.now link }
-    ensures bound { result ≤ 10000 * walks.seconds_of link }
+    ensures bound { result ≤ most_rate * walks.seconds_of link }
     ensures dear { result ≤ dear_of pool.now }
 {
     match link {

@@ -1,6 +1,7 @@
 //! The network of a day with one pool.
 
 ghost use Rattle.std.specs.Prelude.{◌≡◌, ◌≤◌, ◌+◌, ◌*◌, length};
+ghost use Rattle.plan_core.specs.Limits.{most_items, most_places};
 ghost use Rattle.one_pool_flow.specs.DayNets.{IsLaid, dear_of};
 
 use day_model::Day;
@@ -16,8 +17,8 @@ pub(crate) struct DayArcs<'d> {
     pub rows: &'d [Seq<Option<u32>>],
     pub nodes: u32,
     ghost count: { nodes ≡ length day.now.trips },
-    ghost few: { nodes ≤ 3000 },
-    ghost cap: { pool.now.cap ≤ 10000 },
+    ghost few: { nodes ≤ most_items },
+    ghost cap: { pool.now.cap ≤ most_places },
     ghost laid: { IsLaid day.now pool.now nodes (nodes + 1) rows.now },
     ghost cheap: { (nodes + 2) * dear_of pool.now ≤ 750000000000 },
 }

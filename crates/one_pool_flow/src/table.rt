@@ -1,6 +1,7 @@
 //! The arcs of a day's network, laid out once, so that nothing is looked up while the search runs.
 
 ghost use Rattle.std.specs.Prelude.{◌≡◌, ◌≤◌, ◌+◌, IfOk, Some, length, slice_get};
+ghost use Rattle.plan_core.specs.Limits.{most_items};
 ghost use Rattle.plan_params.specs.Limits.{IsPool};
 ghost use Rattle.one_pool_flow.specs.DayNets.{IsLaid, IsLaidRow};
 
@@ -15,7 +16,7 @@ fn row(alloc: Global, day: &Day, pool: &Pool, n: u32, x: u32) -> Result<Seq<Opti
     requires pool { slice_get day.now.params.pools 0 ≡ Some pool.now }
     requires ranges { IsPool pool.now }
     requires count { n ≡ length day.now.trips }
-    requires few { n ≤ 3000 }
+    requires few { n ≤ most_items }
     requires row { x ≤ n }
     ensures { IfOk result (IsLaidRow day.now pool.now n x (n + 1)) }
 {
@@ -36,7 +37,7 @@ pub(crate) fn rows(
     requires pool { slice_get day.now.params.pools 0 ≡ Some pool.now }
     requires ranges { IsPool pool.now }
     requires count { n ≡ length day.now.trips }
-    requires few { n ≤ 3000 }
+    requires few { n ≤ most_items }
     ensures { IfOk result (IsLaid day.now pool.now n (n + 1)) }
 {
     let mut all = Seq::new(alloc);

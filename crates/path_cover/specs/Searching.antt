@@ -1,5 +1,6 @@
 -- Promise: the state of a search for an augmenting path, as it is kept.
 use Rattle.std.specs.Prelude.{List, [], ◌∷◌, ◌≡◌, ◌≢◌, ℕ, ℤ, pos, ◌<ℤ◌, ◌+◌, ◌<◌, ◌≤◌, Bool, true, false, cond, Option, Some, length, slice_index, slice_index_or, slice_set}
+use Rattle.plan_core.specs.Limits.{most_places}
 use Rattle.path_cover.specs.declared.growth.Falls.{Falls}
 use Rattle.path_cover.specs.declared.growth.Growth.{Growth}
 use Rattle.path_cover.specs.declared.growth.Target.{Target}
@@ -45,7 +46,7 @@ pub record IsSeat (net : Net) (falls : Falls) (placing : Placing) (m : Matching)
   pub tight : IsTightMatching net (potentials_of falls) m.to m.from m.spare
   pub places : HasPlaces net.nodes falls
   pub feasible : AreFeasible net (potentials_of falls)
-  pub few : net.most ≤ 10000
+  pub few : net.most ≤ most_places
 
 abbrev pub IsSeated : Net → Falls → Placing → Type 0
 IsSeated net falls placing = (m : Matching) × IsSeat net falls placing m

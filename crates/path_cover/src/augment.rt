@@ -1,6 +1,7 @@
 //! The walk back along an augmenting path.
 
 ghost use Rattle.std.specs.Prelude.{◌≡◌, ◌≢◌, ◌+◌, ◌<◌, ◌≤◌, ℕ, length, slice_index};
+ghost use Rattle.plan_core.specs.Limits.{most_places};
 ghost use Rattle.path_cover.specs.Augmenting.{IsFramed, IsTightAs, IsWalkOf};
 
 use crate::arcs::Arcs;
@@ -19,7 +20,7 @@ pub(crate) fn augment<A: Arcs>(
     requires via { length growth.now.via.items ≡ (A.net arcs.now).nodes + 1 }
     requires by { length growth.now.by.items ≡ (A.net arcs.now).nodes + 1 }
     requires depth { length growth.now.depth.items ≡ (A.net arcs.now).nodes + 1 }
-    requires most { (A.net arcs.now).most ≤ 10000 }
+    requires most { (A.net arcs.now).most ≤ most_places }
     requires walk { IsWalkOf (A.net arcs.now) falls.now target growth.now placing.old v }
     ensures tight { IsTightAs (A.net arcs.now) falls.now placing.new }
     ensures framed { IsFramed (A.net arcs.now).nodes target placing.old.to.items placing.new.to.items }

@@ -1,6 +1,7 @@
 //! A matching of least cost, and the first of several.
 
 ghost use Rattle.std.specs.Prelude.{◌≡◌, ℕ, ◌+◌, ◌*◌, ◌<◌, ◌≤◌, true, false, List, length, slice_index};
+ghost use Rattle.plan_core.specs.Limits.{most_items};
 ghost use Rattle.path_cover.specs.Nets.{IsCover};
 ghost use Rattle.path_cover.specs.Firsts.{AllPlaced, IsEarliest};
 ghost use Rattle.path_cover.specs.Searching.{AreLow, IsSeated, IsSized, one_search};
@@ -19,7 +20,7 @@ fn place_row<A: Arcs>(
     t: u32,
 ) -> bool
     requires row { t < (A.net arcs.now).nodes }
-    requires few { (A.net arcs.now).nodes ≤ 3000 }
+    requires few { (A.net arcs.now).nodes ≤ most_items }
     requires low { AreLow falls.old (t * one_search) }
     requires sized { IsSized (A.net arcs.now).nodes growth.old }
     requires seated { IsSeated (A.net arcs.now) falls.old placing.old }

@@ -1,6 +1,7 @@
 //! The tree of an augmenting path.
 
 ghost use Rattle.std.specs.Prelude.{◌≡◌, IfNone, ℕ, ◌+◌, ◌<◌, ◌≤◌, false, Some, None, length, cond, nat_lt, slice_index, slice_index_or, slice_set, IfSome};
+ghost use Rattle.plan_core.specs.Limits.{most_items};
 ghost use Rattle.path_cover.specs.Scans.{IsBest, IsNearer, IsScanned, offer_of, takes};
 
 use crate::arcs::Arcs;
@@ -151,7 +152,7 @@ pub(crate) fn is_free(placing: &Placing, n: u32, v: u32) -> bool
 
 /// The column that is not seen and keeps least, with what it keeps; of several a free one first.
 pub(crate) fn nearest(growth: &Growth, placing: &Placing, n: u32) -> Option<(u32, u64)>
-    requires few { n ≤ 3000 }
+    requires few { n ≤ most_items }
     requires from { length placing.now.from.items ≡ n }
     requires columns { length growth.now.columns.items ≡ n + 1 }
     requires least { length growth.now.least.items ≡ n + 1 }

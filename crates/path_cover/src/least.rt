@@ -1,6 +1,7 @@
 //! The first cover of least cost, with its greatest potentials.
 
 ghost use Rattle.std.specs.Prelude.{◌≡◌, ◌≤◌, ℕ, ◌+◌, List, IfNone, IfOk, IfSome, None, false, replicate};
+ghost use Rattle.plan_core.specs.Limits.{most_items};
 ghost use Rattle.path_cover.specs.Augmenting.{potentials_of};
 ghost use Rattle.path_cover.specs.Greatest.{AreGreatest};
 ghost use Rattle.path_cover.specs.Nets.{IsCover, IsFirstLeastCover};
@@ -37,7 +38,7 @@ fn filled<T: Copy>(alloc: Global, value: T, count: u32) -> Result<Vec<T>, Memory
 
 /// All potentials at 0.
 fn zero_falls(alloc: Global, n: u32) -> Result<Falls, Memory>
-    requires few { n ≤ 3000 }
+    requires few { n ≤ most_items }
     ensures tails { IfOk result (λ falls. falls.tails.items ≡ replicate (n + 1) 0) }
     ensures heads { IfOk result (λ falls. falls.heads.items ≡ replicate (n + 1) 0) }
 {
@@ -48,7 +49,7 @@ fn zero_falls(alloc: Global, n: u32) -> Result<Falls, Memory>
 
 /// A tree of which nothing is seen.
 fn no_growth(alloc: Global, n: u32) -> Result<Growth, Memory>
-    requires few { n ≤ 3000 }
+    requires few { n ≤ most_items }
     ensures { IfOk result (λ growth. IsSized n growth) }
 {
     let rows = filled(alloc, false, n + 1)?;

@@ -2,6 +2,7 @@
 use Rattle.std.specs.Prelude.{◌≡◌, ℕ, ℤ, pos, neg_ℤ, ◌-◌, ◌*◌, ◌<◌, ◌≤◌, ◌+ℤ◌, ◌-ℤ◌, ◌≤ℤ◌, Bool, List, [], ◌∷◌, length, Some}
 use Rattle.std.specs.Coded.{Unit-prop}
 use Rattle.std.proofs.Props.{props}
+use Rattle.plan_core.specs.Limits.{most_price}
 use Rattle.plan_core.specs.declared.Price.{Price}
 use Rattle.cover_core.specs.FirstLeast.{AllWithin}
 use Rattle.cover_core.specs.Labels.{Labelling}
@@ -32,7 +33,7 @@ StepsAbove day counts prices pool rests t end least =
 
 -- a rest is no lower than what the later trips' prices can take off, and not far above
 pub record IsDeep (count t : ℕ) (rest : ℤ) : Type 0 where
-  pub low : neg_ℤ (pos (10000000000000 * (count - t))) ≤ℤ rest
+  pub low : neg_ℤ (pos (most_price * (count - t))) ≤ℤ rest
   pub high : rest ≤ℤ pos 100000000000000000
 
 -- For each trip from one on a rest that no continuation adds less than: the pull-in does not, nor does a connection to a later trip with

@@ -2,6 +2,7 @@
 use Rattle.std.proofs.Common.{◌≡◌, ℕ, ℤ, pos, ◌+ℤ◌, ◌-ℤ◌, ◌≤ℤ◌, ◌<ℤ◌, Bool, true, false, cond, int_le, List, length, All, Some, None, is_some, refl, sym, ap, ◌∙◌, arith}
 use Rattle.std.proofs.lemmas.Bool.Decides.{nat_tests}
 use Rattle.std.proofs.lemmas.Int.{ints}
+use Rattle.plan_core.specs.Limits.{most_price}
 use Rattle.plan_core.specs.declared.Price.{Price}
 use Rattle.cover_core.specs.FirstLeast.{AllWithin}
 use Rattle.cover_core.specs.Labels.{IsKept, IsValued}
@@ -38,7 +39,7 @@ module _ (day : DayFacts) (counts : Bool) (prices : List Price) (pool : Pool) (f
   labels_stepwise = of_start-stepwise (opening day counts prices pool) (length day.trips) (λ a. a.trip) (is_between first end)
       (opening_stepwise day counts prices pool)
 
-  pub labels_safe : All IsDaily day.trips → IsPool pool → AllWithin 10000000000000 prices →
+  pub labels_safe : All IsDaily day.trips → IsPool pool → AllWithin most_price prices →
       IsSafe (block_labels day counts prices pool first end) (IsInRange (length day.trips) first)
   labels_safe daily ranges moderate =
       let safe = opening_safe day counts prices pool daily ranges moderate in

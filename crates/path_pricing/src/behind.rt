@@ -1,6 +1,7 @@
 //! What the continuations of a block add at least, point by point.
 
 ghost use Rattle.std.specs.Prelude.{◌≡◌, ◌<◌, ◌≤◌, ◌+◌, ◌-◌, ◌*◌, ◌+ℤ◌, ◌-ℤ◌, ◌≤ℤ◌, neg_ℤ, pos, ℕ, ℤ, IfOk, Some, length, slice_get};
+ghost use Rattle.plan_core.specs.Limits.{most_items, most_price};
 ghost use Rattle.cover_core.specs.FirstLeast.{AllWithin};
 ghost use Rattle.cover_core.specs.Plans.{number_at};
 ghost use Rattle.plan_params.specs.Limits.{IsPool};
@@ -39,9 +40,9 @@ pub(crate) fn with_pull_in(net: &PoolNet<'_>, class: u32, pool: &Pool, t: u32) -
 
 /// A number, raised to what the prices of so many trips can take off.
 fn settled(least: i64, trips: u32) -> i64
-    requires { trips ≤ 3000 }
-    ensures low { neg_ℤ (pos (10000000000000 * trips)) ≤ℤ result }
-    ensures least { (x : ℤ) → least ≤ℤ x → neg_ℤ (pos (10000000000000 * trips)) ≤ℤ x → result ≤ℤ x }
+    requires { trips ≤ most_items }
+    ensures low { neg_ℤ (pos (most_price * trips)) ≤ℤ result }
+    ensures least { (x : ℤ) → least ≤ℤ x → neg_ℤ (pos (most_price * trips)) ≤ℤ x → result ≤ℤ x }
 {
     let low = -10_000_000_000_000 * trips as i64;
     if least < low { low } else { least }
@@ -65,7 +66,7 @@ fn rest_behind(
 ) -> i64
     requires there { slice_get net.now.day.params.pools class ≡ Some pool.now }
     requires ranges { IsPool pool.now }
-    requires moderate { AllWithin 10000000000000 prices.now }
+    requires moderate { AllWithin most_price prices.now }
     requires trip { t < length net.now.day.trips }
     requires deep { (u : ℕ) → t < u → IsDeep (length net.now.day.trips) u (number_at rests.now u) }
     requires numbers { AreBeginNumbers net.now.day.trips numbers.now }
@@ -109,8 +110,8 @@ pub(crate) fn blank(alloc: Global, count: usize, value: i64) -> Result<Vec<i64>,
 fn less(rest: i64, price: i64) -> i64
     requires rest_low { neg_ℤ (pos 30000000000000000) ≤ℤ rest }
     requires rest_high { rest ≤ℤ pos 100000000000000000 }
-    requires price_low { neg_ℤ (pos 10000000000000) ≤ℤ price }
-    requires price_high { price ≤ℤ pos 10000000000000 }
+    requires price_low { neg_ℤ (pos most_price) ≤ℤ price }
+    requires price_high { price ≤ℤ pos most_price }
     ensures value { result ≡ rest -ℤ price }
     ensures low { neg_ℤ (pos 30010000000000000) ≤ℤ result }
     ensures high { result ≤ℤ pos 100010000000000000 }
@@ -143,7 +144,7 @@ pub(crate) fn rests_by_points(
 ) -> Result<Vec<i64>, Memory>
     requires there { slice_get net.now.day.params.pools class ≡ Some pool.now }
     requires ranges { IsPool pool.now }
-    requires moderate { AllWithin 10000000000000 prices.now }
+    requires moderate { AllWithin most_price prices.now }
     requires departures { AreDepartures net.now.day.trips departures.numbers.now departures.firsts.now departures.nexts.now }
     requires few { length departures.firsts.now ≤ 500 }
     requires from { from ≤ length net.now.day.trips }

@@ -2,6 +2,7 @@
 
 ghost use Rattle.std.specs.Prelude.{◌≡◌, ◌≤◌, ◌*◌, ◌≤ℤ◌, pos};
 ghost use Rattle.std.specs.Int.RustNames.{unsigned_abs};
+ghost use Rattle.plan_core.specs.Limits.{most_rate};
 ghost use Rattle.plan_params.specs.Limits.{IsPool};
 ghost use Rattle.day_model.specs.Ranges.{IsDaily};
 ghost use Rattle.depot_network.specs.Open.{scaled};
@@ -12,17 +13,17 @@ use trip_times::Trip;
 
 /// What seconds cost at a rate.
 fn charged(rate: u32, seconds: u32) -> u64
-    requires rate { rate ≤ 10000 }
+    requires rate { rate ≤ most_rate }
     requires seconds { seconds ≤ 345600 }
     ensures value { result ≡ rate * seconds }
-    ensures bound { result ≤ 10000 * seconds }
+    ensures bound { result ≤ most_rate * seconds }
 {
     u64::from(rate) * u64::from(seconds)
 }
 
 /// A thousand times that, or nothing where blocks are counted.
 pub(crate) fn charge(counts: bool, rate: u32, seconds: u32) -> i64
-    requires rate { rate ≤ 10000 }
+    requires rate { rate ≤ most_rate }
     requires seconds { seconds ≤ 345600 }
     ensures value { result ≡ scaled counts (rate * seconds) }
     ensures low { pos 0 ≤ℤ result }
@@ -57,7 +58,7 @@ pub(crate) fn end_of(trip: &Trip) -> u32
 pub(crate) fn stand_rate(pool: &Pool, trip: &Trip) -> u32
     requires { IsPool pool.now }
     ensures value { result ≡ stand_rate_at pool.now trip.now }
-    ensures bound { result ≤ 10000 }
+    ensures bound { result ≤ most_rate }
 {
     if trip.from == pool.depot {
         0

@@ -1,6 +1,7 @@
 //! The labels of the open blocks of a pool whose first trips are a range.
 
 ghost use Rattle.std.specs.Prelude.{◌≡◌, ◌≤◌, ◌+ℤ◌, ◌-ℤ◌, ◌≤ℤ◌, ◌<ℤ◌, neg_ℤ, pos, false, All, Some, cond, int_le, length, slice_get};
+ghost use Rattle.plan_core.specs.Limits.{most_items, most_price};
 ghost use Rattle.cover_core.specs.FirstLeast.{AllWithin};
 ghost use Rattle.cover_core.specs.Plans.{number_at};
 ghost use Rattle.plan_params.specs.Limits.{IsPool};
@@ -31,9 +32,9 @@ pub struct BlockLabels<'a> {
     pub end: u32,
     ghost there: { slice_get net.now.day.params.pools class ≡ Some pool },
     ghost ranges: { IsPool pool },
-    ghost few: { length net.now.day.trips ≤ 3000 },
+    ghost few: { length net.now.day.trips ≤ most_items },
     ghost daily: { All IsDaily net.now.day.trips },
-    ghost moderate: { AllWithin 10000000000000 prices.now } by { AllWithin-prop 10000000000000 prices.now },
+    ghost moderate: { AllWithin most_price prices.now } by { AllWithin-prop most_price prices.now },
     ghost bounds: { AreBoundsFrom net.now.day net.now.counts prices.now pool rests.now first },
 }
 

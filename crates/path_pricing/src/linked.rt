@@ -2,6 +2,7 @@
 //! points.
 
 ghost use Rattle.std.specs.Prelude.{◌≡◌, ◌<◌, ◌≤◌, ◌+◌, ◌-◌, ◌*◌, ◌+ℤ◌, ◌-ℤ◌, ◌≤ℤ◌, neg_ℤ, pos, ℕ, ℤ, IfOk, Some, length, slice_get};
+ghost use Rattle.plan_core.specs.Limits.{most_items, most_price};
 ghost use Rattle.cover_core.specs.FirstLeast.{AllWithin};
 ghost use Rattle.cover_core.specs.Plans.{number_at, price_at};
 ghost use Rattle.plan_params.specs.Limits.{IsPool};
@@ -22,8 +23,8 @@ use std::alloc::Global;
 fn sum_over(cost: i64, price: i64, rest: i64) -> i64
     requires cost_low { pos 0 ≤ℤ cost }
     requires cost_high { cost ≤ℤ pos 3456000000000 }
-    requires price_low { neg_ℤ (pos 10000000000000) ≤ℤ price }
-    requires price_high { price ≤ℤ pos 10000000000000 }
+    requires price_low { neg_ℤ (pos most_price) ≤ℤ price }
+    requires price_high { price ≤ℤ pos most_price }
     requires rest_low { neg_ℤ (pos 30000000000000000) ≤ℤ rest }
     requires rest_high { rest ≤ℤ pos 100000000000000000 }
     ensures { result ≡ cost -ℤ price +ℤ rest }
@@ -35,8 +36,8 @@ fn sum_over(cost: i64, price: i64, rest: i64) -> i64
 fn low_with(low: i64, rest: i64, price: i64) -> i64
     requires rest_low { neg_ℤ (pos 30000000000000000) ≤ℤ rest }
     requires rest_high { rest ≤ℤ pos 100000000000000000 }
-    requires price_low { neg_ℤ (pos 10000000000000) ≤ℤ price }
-    requires price_high { price ≤ℤ pos 10000000000000 }
+    requires price_low { neg_ℤ (pos most_price) ≤ℤ price }
+    requires price_high { price ≤ℤ pos most_price }
     ensures first { result ≤ℤ low }
     ensures second { result ≤ℤ (rest -ℤ price) }
 {
@@ -56,11 +57,11 @@ fn with_link(
 ) -> i64
     requires there { slice_get net.now.day.params.pools class ≡ Some pool.now }
     requires ranges { IsPool pool.now }
-    requires moderate { AllWithin 10000000000000 prices.now }
+    requires moderate { AllWithin most_price prices.now }
     requires trip { t < length net.now.day.trips }
     requires next { u < length net.now.day.trips }
     requires later { t < u }
-    requires few { length net.now.day.trips ≤ 3000 }
+    requires few { length net.now.day.trips ≤ most_items }
     requires deep { IsDeep (length net.now.day.trips) u (number_at rests.now u) }
     requires least_deep { IsDeep (length net.now.day.trips) t least }
     ensures least { result ≤ℤ least }
@@ -95,9 +96,9 @@ fn rest_behind(
 ) -> i64
     requires there { slice_get net.now.day.params.pools class ≡ Some pool.now }
     requires ranges { IsPool pool.now }
-    requires moderate { AllWithin 10000000000000 prices.now }
+    requires moderate { AllWithin most_price prices.now }
     requires trip { t < length net.now.day.trips }
-    requires few { length net.now.day.trips ≤ 3000 }
+    requires few { length net.now.day.trips ≤ most_items }
     requires deep { (u : ℕ) → t < u → IsDeep (length net.now.day.trips) u (number_at rests.now u) }
     requires count { length lows.now ≡ length net.now.day.trips }
     requires lows { AreLows prices.now rests.now lows.now (t + 1) (length net.now.day.trips) }
@@ -128,7 +129,7 @@ pub(crate) fn rests_by_links(
 ) -> Result<Vec<i64>, Memory>
     requires there { slice_get net.now.day.params.pools class ≡ Some pool.now }
     requires ranges { IsPool pool.now }
-    requires moderate { AllWithin 10000000000000 prices.now }
+    requires moderate { AllWithin most_price prices.now }
     requires from { from ≤ length net.now.day.trips }
     ensures { IfOk result (λ rests. AreBoundsFrom net.now.day net.now.counts prices.now pool.now rests.items from) }
 {

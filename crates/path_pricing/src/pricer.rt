@@ -1,6 +1,7 @@
 //! The pricer of blocks.
 
 ghost use Rattle.std.specs.Prelude.{◌≡◌, ◌<◌, ◌≤◌, ◌*◌, IfOk, IfSome, Some, length, slice_get};
+ghost use Rattle.plan_core.specs.Limits.{most_price, most_worth};
 ghost use Rattle.cover_core.specs.Best.{best_of, within};
 ghost use Rattle.cover_core.specs.FirstLeast.{AllWithin};
 ghost use Rattle.plan_params.specs.Limits.{IsPool};
@@ -80,11 +81,11 @@ fn best_of_pool(
     requires class { class < length (caps_of net.now.day.params.pools) }
     requires there { slice_get net.now.day.params.pools class ≡ Some pool }
     requires ranges { IsPool pool }
-    requires moderate { AllWithin 10000000000000 prices.now }
+    requires moderate { AllWithin most_price prices.now }
     requires group { 16 * group < length net.now.day.trips }
     requires bounds { AreBoundsFrom net.now.day net.now.counts prices.now pool rests.now (16 * group) }
     ensures best { IfOk result (λ answer. answer ≡ within limit prices.now (best_of (blocks net.now) prices.now class group)) }
-    ensures bound { IfOk result (λ answer. IfSome answer (λ column. column.worth ≤ 4000000000)) }
+    ensures bound { IfOk result (λ answer. IfSome answer (λ column. column.worth ≤ most_worth)) }
 {
     // Trips are few and daily: the day says so.
     let _ = net.day().trips();

@@ -1,6 +1,7 @@
 //! What the continuations of a block add at least.
 
 ghost use Rattle.std.specs.Prelude.{◌≡◌, ◌≤◌, IfOk, Some, length, slice_get};
+ghost use Rattle.plan_core.specs.Limits.{most_price};
 ghost use Rattle.cover_core.specs.FirstLeast.{AllWithin};
 ghost use Rattle.plan_params.specs.Limits.{IsPool};
 ghost use Rattle.path_pricing.specs.Blocks.{AreBoundsFrom};
@@ -29,7 +30,7 @@ pub fn rests_from(
 ) -> Result<Vec<i64>, Memory>
     requires there { slice_get net.now.day.params.pools class ≡ Some pool.now }
     requires ranges { IsPool pool.now }
-    requires moderate { AllWithin 10000000000000 prices.now }
+    requires moderate { AllWithin most_price prices.now }
     requires from { from ≤ length net.now.day.trips }
     ensures { IfOk result (λ rests. AreBoundsFrom net.now.day net.now.counts prices.now pool.now rests.items from) }
 {

@@ -1,6 +1,7 @@
 //! The parts of a certificate.
 
 ghost use Rattle.std.specs.Prelude.{◌≡◌, ◌≤◌, All, IfOk, length};
+ghost use Rattle.plan_core.specs.Limits.{most_items};
 ghost use Rattle.depot_network.specs.Network.{blocks_of, is_count};
 ghost use Rattle.block_cut.specs.Cuts.{IsShift};
 ghost use Rattle.duty_network.specs.Duties.{duties as duties_of, is_count as is_counted};
@@ -70,7 +71,7 @@ pub(crate) fn duty_part(
     worth: Worth,
     kept: Kept,
 ) -> Result<CertPart, Memory>
-    requires few { length pieces.now ≤ 3000 }
+    requires few { length pieces.now ≤ most_items }
     requires shifts { All IsShift pieces.now }
     requires paid { IsDualFeasible (duties_of (record { pieces = pieces.now; params = model.now.params; counts = is_counted worth })) kept }
     ensures { IfOk result (IsDutyPartOf (record { pieces = pieces.now; params = model.now.params; counts = is_counted worth }) kept) }

@@ -1,6 +1,7 @@
 //! The certificate of a plan, and its text.
 
 ghost use Rattle.std.specs.Prelude.{◌≡◌, ◌≤◌, ◌∷◌, [], All, IfOk, IfErr, length};
+ghost use Rattle.plan_core.specs.Limits.{most_items};
 ghost use Rattle.price_rounds.specs.Efforts.{IsEffort};
 ghost use Rattle.block_cut.specs.Cuts.{IsShift, pieces_of_plan};
 ghost use Rattle.plan_cert.specs.Shapes.{class_numbers_of};
@@ -49,7 +50,7 @@ fn cert_of(
 pub fn certificate_of(alloc: Global, model: &Day, plan: DayPlan) -> Result<Cert, Memory>
     requires paid { ArePaid model.now (side_of plan.blocks) (side_of plan.duties) }
     requires pieces { plan.pieces ≡ pieces_of_plan model.now plan.blocks.plan.columns }
-    requires few { length plan.pieces ≤ 3000 }
+    requires few { length plan.pieces ≤ most_items }
     requires shifts { All IsShift plan.pieces }
     ensures cert { IfOk result (IsCertOf model.now (side_of plan.blocks) (side_of plan.duties)) }
     ensures classes { IfOk result (λ cert. HaveClasses (class_numbers_of model.now) cert.parts) }
@@ -70,7 +71,7 @@ pub fn certificate_of(alloc: Global, model: &Day, plan: DayPlan) -> Result<Cert,
 fn text_of(alloc: Global, model: &Day, plan: DayPlan) -> Result<Bytes, Memory>
     requires paid { ArePaid model.now (side_of plan.blocks) (side_of plan.duties) }
     requires pieces { plan.pieces ≡ pieces_of_plan model.now plan.blocks.plan.columns }
-    requires few { length plan.pieces ≤ 3000 }
+    requires few { length plan.pieces ≤ most_items }
     requires shifts { All IsShift plan.pieces }
     ensures { IfOk result (IsCertTextOf model.now (side_of plan.blocks) (side_of plan.duties)) }
 {

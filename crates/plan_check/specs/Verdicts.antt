@@ -1,5 +1,6 @@
 -- Promise: whether lists are a plan, and if not, why: the first cause by its kind and numbers.
 use Rattle.std.specs.Prelude.{◌≡◌, ◌≢◌, ℕ, ◌<◌, ◌≤◌, List, [], ◌∷◌, length, Some, slice_get, slice_index}
+use Rattle.plan_core.specs.Limits.{most_items}
 use Rattle.cover_core.specs.declared.Column.{Column}
 use Rattle.cover_core.specs.Cover.{Problem}
 use Rattle.cover_core.specs.Plans.{IsPlan, times, all_items, all_classes}
@@ -60,7 +61,7 @@ IsVerdict p lists (Over class used) = StandOnce p lists × HaveWorths p lists (l
 
 -- a plan that was found has at most 3,000 lists
 abbrev pub HasFewLists : PlanVerdict → Type 0
-HasFewLists (Lawful plan) = length plan.columns ≤ 3000
+HasFewLists (Lawful plan) = length plan.columns ≤ most_items
 HasFewLists (Times item count) = Unit {0}
 HasFewLists (Unlawful place) = Unit {0}
 HasFewLists (Over class used) = Unit {0}

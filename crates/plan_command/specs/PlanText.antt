@@ -1,5 +1,6 @@
 -- Promise: the text of the plan of a day.
 use Rattle.std.specs.Prelude.{◌≡◌, ◌<◌, ◌≤◌, ◌^◌, ℕ, false, All, List, [], ◌∷◌, length, map}
+use Rattle.plan_core.specs.Limits.{most_items}
 use Rattle.vdv451_text.specs.declared.table.Table.{Table}
 use Rattle.vdv451_text.specs.Plain.{text}
 use Rattle.trip_times.specs.declared.trip.Trip.{Trip}
@@ -46,8 +47,8 @@ pub record IsPlanTextOver (facts : DayFacts) (asked : Asked) (table : Table) (by
 pub record IsPrintable (facts : DayFacts) (blocks duties : SidePlan) : Type 0 where
   pub blocks_are : IsPlan (blocks_of facts false) blocks.columns
   pub duties_are : IsPlan (duties_over facts blocks.columns false) duties.columns
-  pub few_blocks : length blocks.columns ≤ 3000
-  pub few_pieces : length (pieces_of_plan facts blocks.columns) ≤ 3000
+  pub few_blocks : length blocks.columns ≤ most_items
+  pub few_pieces : length (pieces_of_plan facts blocks.columns) ≤ most_items
   pub cheap_blocks : AreCheap blocks.columns
   pub cheap_duties : AreCheap duties.columns
   pub bounds : All (λ bound. bound < 2 ^ 63) (four_bounds blocks duties)

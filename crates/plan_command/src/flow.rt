@@ -1,6 +1,7 @@
 //! The blocks of a day that are known before any pass with costs.
 
 ghost use Rattle.std.specs.Prelude.{◌≡◌, ◌<◌, ◌≤◌, [], ◌∷◌, All, false, true, length, map, IfOk, IfSome};
+ghost use Rattle.plan_core.specs.Limits.{most_worth};
 ghost use Rattle.cover_core.specs.Cover.{AllBelow};
 ghost use Rattle.cover_core.specs.FirstLeast.{AreCheap};
 ghost use Rattle.cover_core.specs.Plans.{IsPlan};
@@ -40,7 +41,7 @@ fn path_block(alloc: Global, net: &PoolNet<'_>, path: &[u32]) -> Result<Column, 
     requires pool { 0 < length net.now.day.params.pools }
     requires below { AllBelow (length net.now.day.trips) path.now }
     ensures column { IfOk result (λ column. column ≡ block_column net.now.day path.now) }
-    ensures cheap { IfOk result (λ column. column.worth ≤ 4000000000) }
+    ensures cheap { IfOk result (λ column. column.worth ≤ most_worth) }
 {
     Ok(Column {
         class: 0,

@@ -1,6 +1,7 @@
 //! The blocks and duties of a day.
 
 ghost use Rattle.std.specs.Prelude.{◌≡◌, ◌<◌, ◌≤◌, ℕ, true, false, List, Some, None, All, IfOk, IfErr, IfSome, length};
+ghost use Rattle.plan_core.specs.Limits.{most_items};
 ghost use Rattle.cover_core.specs.declared.Column.{Column as PlanColumn};
 ghost use Rattle.cover_core.specs.FirstLeast.{AreCheap};
 ghost use Rattle.cover_core.specs.Laws.{IsCountOf};
@@ -178,7 +179,7 @@ pub fn duty_net<'p>(
     params: &'p Params,
     worth: Worth,
 ) -> Result<DutyNet<'p>, Memory>
-    requires few { length pieces.now ≤ 3000 }
+    requires few { length pieces.now ≤ most_items }
     requires shifts { All IsShift pieces.now }
     requires params { HaveRanges params.now }
     ensures { IfOk result (λ net. net ≡ record { pieces = pieces.now; params = params.now; counts = is_count worth }) }
@@ -197,7 +198,7 @@ fn planned_duties<R: Threads + Sync, G: Gate + Sync>(
     gate: &G,
 ) -> Result<Planned, CoverFault>
     requires effort { IsEffort effort.now }
-    requires few { length pieces.now ≤ 3000 }
+    requires few { length pieces.now ≤ most_items }
     requires shifts { All IsShift pieces.now }
     requires params { HaveRanges params.now }
     ensures duties { IfOk result (λ duties. IsPlannedSide (duties_of (record { pieces = pieces.now; params = params.now; counts = true })) (duties_of (record { pieces = pieces.now; params = params.now; counts = false })) (numbers_of effort.now) (IsThis None) (side_of duties)) }
@@ -251,7 +252,7 @@ pub fn block_pieces(alloc: Global, model: &Day, blocks: &Plan) -> Result<Seq<Pie
     requires plan { IsPlan (blocks_of model.now false) blocks.now.columns }
     ensures pieces { IfOk result (λ pieces. pieces ≡ pieces_of_plan model.now blocks.now.columns) }
     ensures shifts { IfOk result (λ pieces. All IsShift pieces) }
-    ensures few { IfOk result (λ pieces. length pieces ≤ 3000) }
+    ensures few { IfOk result (λ pieces. length pieces ≤ most_items) }
 {
     // The trips of a day are few: it says so.
     let _ = model.trips();
@@ -272,7 +273,7 @@ fn with_duties<R: Threads + Sync, G: Gate + Sync>(
     requires cheap { AreCheap blocks.plan.columns }
     ensures plan { IfOk result (λ plan. IsDayPlan model.now (asked_of method.now) (side_of plan.blocks) (side_of plan.duties)) }
     ensures pieces { IfOk result (λ plan. plan.pieces ≡ pieces_of_plan model.now plan.blocks.plan.columns) }
-    ensures few { IfOk result (λ plan. length plan.pieces ≤ 3000) }
+    ensures few { IfOk result (λ plan. length plan.pieces ≤ most_items) }
     ensures shifts { IfOk result (λ plan. All IsShift plan.pieces) }
     ensures cheap_blocks { IfOk result (λ plan. AreCheap plan.blocks.plan.columns) }
     ensures cheap_duties { IfOk result (λ plan. AreCheap plan.duties.plan.columns) }
@@ -316,7 +317,7 @@ pub fn plan_day<R: Threads + Sync, G: Gate + Sync>(
     requires effort { IsEffort method.now.effort }
     ensures plan { IfOk result (λ plan. IsDayPlan model.now (asked_of method.now) (side_of plan.blocks) (side_of plan.duties)) }
     ensures pieces { IfOk result (λ plan. plan.pieces ≡ pieces_of_plan model.now plan.blocks.plan.columns) }
-    ensures few { IfOk result (λ plan. length plan.pieces ≤ 3000) }
+    ensures few { IfOk result (λ plan. length plan.pieces ≤ most_items) }
     ensures shifts { IfOk result (λ plan. All IsShift plan.pieces) }
     ensures cheap_blocks { IfOk result (λ plan. AreCheap plan.blocks.plan.columns) }
     ensures cheap_duties { IfOk result (λ plan. AreCheap plan.duties.plan.columns) }

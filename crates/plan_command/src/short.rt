@@ -1,6 +1,7 @@
 //! The short text of the plan of a day: how many trips, blocks, pieces and duties it has, and the bounds.
 
 ghost use Rattle.std.specs.Prelude.{◌≡◌, ◌<◌, ◌≤◌, All, IsTrue, IfOk, IfErr, length, slice_index_or, true};
+ghost use Rattle.plan_core.specs.Limits.{most_items};
 ghost use Rattle.vdv451_text.specs.Plain.{are_plain, is_plain_table, text};
 ghost use Rattle.price_rounds.specs.Efforts.{IsEffort};
 ghost use Rattle.block_cut.specs.Cuts.{IsShift, pieces_of_plan};
@@ -29,10 +30,10 @@ fn count_table(
     pieces: usize,
     duties: usize,
 ) -> Result<Table, Memory>
-    requires trips { trips ≤ 3000 }
-    requires blocks { blocks ≤ 3000 }
-    requires pieces { pieces ≤ 3000 }
-    requires duties { duties ≤ 3000 }
+    requires trips { trips ≤ most_items }
+    requires blocks { blocks ≤ most_items }
+    requires pieces { pieces ≤ most_items }
+    requires duties { duties ≤ most_items }
     ensures table { IfOk result (λ table. table ≡ count_table_of trips blocks pieces duties) }
     ensures plain { IfOk result (λ table. is_plain_table table ≡ true) }
 {
@@ -77,7 +78,7 @@ fn short_text_of(
 ) -> Result<Bytes, Memory>
     requires plain { IsTrue (is_plain_table rec_frt.now) }
     requires trips { HasTripRows model.now rec_frt.now }
-    requires few_trips { length model.now.trips ≤ 3000 }
+    requires few_trips { length model.now.trips ≤ most_items }
     requires printable { IsPrintable model.now (side_of plan.blocks) (side_of plan.duties) }
     requires pieces { plan.pieces ≡ pieces_of_plan model.now plan.blocks.plan.columns }
     requires shifts { All IsShift plan.pieces }

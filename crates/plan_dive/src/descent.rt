@@ -1,6 +1,7 @@
 //! What is fixed on the way down.
 
 ghost use Rattle.std.specs.Prelude.{pos, ◌*◌, ◌≡◌, ◌<◌, ◌≤◌, ◌∷◌, [], length, IfOk, OnOk};
+ghost use Rattle.plan_core.specs.Limits.{most_worth};
 ghost use Rattle.cover_core.specs.Cover.{AllBelow};
 ghost use Rattle.price_rounds.specs.Steps.{AreReady};
 ghost use Rattle.worker_price.specs.Work.{ArePricesFor};
@@ -80,7 +81,7 @@ fn take_place(caps: &mut Seq<u32>, class: u32)
 
 /// A thousand times what a column is worth.
 fn thousandfold(worth: u64) -> i64
-    requires { worth ≤ 4000000000 }
+    requires { worth ≤ most_worth }
     ensures { result ≡ pos (1000 * worth) }
 {
     1000 * worth as i64

@@ -1,6 +1,7 @@
 //! Dives.
 
 ghost use Rattle.std.specs.Prelude.{◌≡◌, ◌<◌, ◌≤◌, ◌∷◌, [], length, IfOk, OnOk};
+ghost use Rattle.plan_core.specs.Limits.{most_price};
 ghost use Rattle.cover_core.specs.Plans.{AreColumns};
 ghost use Rattle.cover_core.specs.FirstLeast.{AllWithin, AreCheap};
 ghost use Rattle.price_rounds.specs.Steps.{AreReady, IsSized};
@@ -51,9 +52,9 @@ fn climb_twice<C: Columns>(
 /// Makes the price of an item so low that no column with it pays.
 fn shut(items: &mut Seq<Price>, item: usize)
     requires inside { item < length items.old }
-    requires moderate { AllWithin 10000000000000 items.old }
+    requires moderate { AllWithin most_price items.old }
     ensures len { length items.new ≡ length items.old }
-    ensures moderate { AllWithin 10000000000000 items.new }
+    ensures moderate { AllWithin most_price items.new }
 {
     items.set(item, Price(-10000000000000));
 }

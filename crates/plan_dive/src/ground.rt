@@ -1,6 +1,7 @@
 //! What stays the same of a problem while prices climb.
 
 ghost use Rattle.std.specs.Prelude.{◌≡◌, ◌<◌, ◌≤◌, ◌≤ℤ◌, ◌∷◌, [], pos, neg_ℤ, length, IfOk, IfSome};
+ghost use Rattle.plan_core.specs.Limits.{most_price, most_worth};
 ghost use Rattle.plan_dive.specs.Grounds.{IsGround, IsRest};
 
 use cover_core::Columns;
@@ -31,18 +32,18 @@ pub fn worth_alone<C: Columns>(problem: &C, class: u32, item: u32) -> Option<u64
     requires class { class < length (C.problem problem.now).caps }
     requires item { item < (C.problem problem.now).items }
     ensures value { result ≡ (C.problem problem.now).worth class (item ∷ []) }
-    ensures bound { IfSome result (λ worth. worth ≤ 4000000000) }
+    ensures bound { IfSome result (λ worth. worth ≤ most_worth) }
 {
     problem.worth(class, [item].as_slice())
 }
 
 /// The least and the greatest worth so far and one worth more.
 fn with_worth(so_far: Alone, worth: u64) -> Alone
-    requires least { so_far.least ≤ 4000000000 }
-    requires greatest { so_far.greatest ≤ 4000000000 }
-    requires worth { worth ≤ 4000000000 }
-    ensures least { result.least ≤ 4000000000 }
-    ensures greatest { result.greatest ≤ 4000000000 }
+    requires least { so_far.least ≤ most_worth }
+    requires greatest { so_far.greatest ≤ most_worth }
+    requires worth { worth ≤ most_worth }
+    ensures least { result.least ≤ most_worth }
+    ensures greatest { result.greatest ≤ most_worth }
 {
     let least = if so_far.known && so_far.least < worth {
         so_far.least
@@ -64,8 +65,8 @@ fn with_worth(so_far: Alone, worth: u64) -> Alone
 /// What an item alone is worth over all classes.
 fn alone_in_all<C: Columns>(problem: &C, item: u32) -> Alone
     requires { item < (C.problem problem.now).items }
-    ensures least { result.least ≤ 4000000000 }
-    ensures greatest { result.greatest ≤ 4000000000 }
+    ensures least { result.least ≤ most_worth }
+    ensures greatest { result.greatest ≤ most_worth }
 {
     let mut so_far = Alone {
         known: false,
@@ -83,11 +84,11 @@ fn alone_in_all<C: Columns>(problem: &C, item: u32) -> Alone
 
 /// The span of worths.
 fn span_between(least: u64, greatest: u64) -> Span
-    requires least { least ≤ 4000000000 }
-    requires greatest { greatest ≤ 4000000000 }
-    ensures low { neg_ℤ (pos 10000000000000) ≤ℤ result.low }
+    requires least { least ≤ most_worth }
+    requires greatest { greatest ≤ most_worth }
+    ensures low { neg_ℤ (pos most_price) ≤ℤ result.low }
     ensures ordered { result.low ≤ℤ result.high }
-    ensures high { result.high ≤ℤ pos 10000000000000 }
+    ensures high { result.high ≤ℤ pos most_price }
 {
     Span {
         low: -(1000 * least as i64),
@@ -98,9 +99,9 @@ fn span_between(least: u64, greatest: u64) -> Span
 /// The span of an item's price.
 fn span_of<C: Columns>(problem: &C, item: u32) -> Span
     requires { item < (C.problem problem.now).items }
-    ensures low { neg_ℤ (pos 10000000000000) ≤ℤ result.low }
+    ensures low { neg_ℤ (pos most_price) ≤ℤ result.low }
     ensures ordered { result.low ≤ℤ result.high }
-    ensures high { result.high ≤ℤ pos 10000000000000 }
+    ensures high { result.high ≤ℤ pos most_price }
 {
     let alone = alone_in_all(problem, item);
     span_between(alone.least, alone.greatest)

@@ -3,6 +3,7 @@
 //! Whether it is in the ranges that writing asks for is looked at first.
 
 ghost use Rattle.std.specs.Prelude.{◌<◌, ◌≤◌, ◌≡◌, ◌^◌, ◌↔◌, All, IsTrue, count_by, length};
+ghost use Rattle.plan_core.specs.Limits.{most_items, most_worth};
 ghost use Rattle.vdv452_rows.specs.Cells.{whole_number as whole_number_spec};
 ghost use Rattle.cover_core.specs.Cover.{AllBelow};
 ghost use Rattle.cover_core.specs.FirstLeast.{AreCheap};
@@ -178,7 +179,7 @@ fn have_items_below(columns: &[Column], count: usize) -> bool
 }
 
 fn have_few_items(columns: &[Column]) -> bool
-    ensures { IsTrue result ↔ All (λ column. length column.items ≤ 3000) columns.now }
+    ensures { IsTrue result ↔ All (λ column. length column.items ≤ most_items) columns.now }
 {
     columns
         .iter()
@@ -186,7 +187,7 @@ fn have_few_items(columns: &[Column]) -> bool
 }
 
 fn each_is_cheap(columns: &[Column]) -> bool
-    ensures { IsTrue result ↔ All (λ column. column.worth ≤ 4000000000) columns.now }
+    ensures { IsTrue result ↔ All (λ column. column.worth ≤ most_worth) columns.now }
 {
     columns.iter().all(|column| column.worth <= 4_000_000_000)
 }

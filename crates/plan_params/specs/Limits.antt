@@ -1,5 +1,6 @@
 -- Promise: the ranges of the settings.
 use Rattle.std.specs.Prelude.{◌≤◌, All, AllPairs, length}
+use Rattle.plan_core.specs.Limits.{most_places, most_rate, most_fixed_cost}
 use Rattle.vdv452_tables.specs.Ranges.{IsTime}
 use Rattle.plan_params.specs.declared.rows.ParamRows.{ParamRows}
 use Rattle.plan_params.specs.declared.rows.group.Group.{Group}
@@ -13,15 +14,15 @@ pub record AreSettings (settings : Settings) : Type 0 where
   pub handover : IsTime settings.handover
 
 pub record IsPool (pool : Pool) : Type 0 where
-  pub cap : pool.cap ≤ 10000
-  pub fixed : pool.fixed ≤ 100000000
-  pub dead_rate : pool.dead_rate ≤ 10000
-  pub stand_rate : pool.stand_rate ≤ 10000
+  pub cap : pool.cap ≤ most_places
+  pub fixed : pool.fixed ≤ most_fixed_cost
+  pub dead_rate : pool.dead_rate ≤ most_rate
+  pub stand_rate : pool.stand_rate ≤ most_rate
 
 pub record IsGroup (group : Group) : Type 0 where
-  pub cap : group.cap ≤ 10000
-  pub fixed : group.fixed ≤ 100000000
-  pub rate : group.rate ≤ 10000
+  pub cap : group.cap ≤ most_places
+  pub fixed : group.fixed ≤ most_fixed_cost
+  pub rate : group.rate ≤ most_rate
   pub sign_on : IsTime group.sign_on
   pub sign_off : IsTime group.sign_off
 

@@ -1,5 +1,6 @@
 -- Promise: a plan's tables stand for it.
 use Rattle.std.specs.Prelude.{◌≡◌, ◌≢◌, ℕ, ◌<◌, ◌≤◌, All, AllPairs, List, length, map, Ok, IsTrue, is_some, codes}
+use Rattle.plan_core.specs.Limits.{most_items}
 use Rattle.plan_core.specs.declared.types.Piece.{Piece}
 use Rattle.vdv451_text.specs.declared.table.Table.{Table}
 use Rattle.vdv451_text.specs.Plain.{is_plain_table}
@@ -45,7 +46,7 @@ pub record IsAnswerOf (day : DayFacts) (of_blocks of_duties : Problem) (answer :
   pub block_lists : HasListedColumns of_blocks
   pub trips : of_blocks.items ≡ length day.trips
   pub pools : length of_blocks.caps ≡ length day.params.pools
-  pub few : length answer.blocks.columns ≤ 3000
+  pub few : length answer.blocks.columns ≤ most_items
   pub duties : IsPlan of_duties answer.duties.columns
   pub duty_lists : HasListedColumns of_duties
   pub pieces : of_duties.items ≡ length answer.pieces

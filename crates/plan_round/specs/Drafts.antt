@@ -1,5 +1,6 @@
 -- Inner: what a draft of a plan keeps beside its columns.
 use Rattle.std.specs.Prelude.{◌≡◌, ℕ, ◌<◌, ◌≤◌, Bool, true, false, List, length, Option, Some, None, slice_index, slice_index_or}
+use Rattle.plan_core.specs.Limits.{most_worth, most_places}
 use Rattle.cover_core.specs.declared.Column.{Column}
 use Rattle.cover_core.specs.Cover.{Problem}
 use Rattle.cover_core.specs.Plans.{times, all_classes}
@@ -16,12 +17,12 @@ IsCounted columns counts = (class : ℕ) → class < length counts → slice_ind
 -- the item can be put there
 abbrev pub IsSpotOf : List Column → List ℕ → Spot → Type 0
 IsSpotOf columns counts (Into place) = place < length columns
-IsSpotOf columns counts (New class) = (class < length counts) × (slice_index counts class < 10000)
+IsSpotOf columns counts (New class) = (class < length counts) × (slice_index counts class < most_places)
 
 -- the worth of a choice is at most 4,000,000,000
 abbrev pub IsCheapChoice : Option Choice → Type 0
 IsCheapChoice None = Unit {0}
-IsCheapChoice (Some c) = c.worth ≤ 4000000000
+IsCheapChoice (Some c) = c.worth ≤ most_worth
 
 -- which items stand in no column
 abbrev pub ShowsFree : List Column → List Bool → Type 0

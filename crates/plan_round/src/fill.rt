@@ -1,6 +1,7 @@
 //! The items that no column has yet, put in one after another.
 
 ghost use Rattle.std.specs.Prelude.{◌≡◌, ℕ, ◌<◌, ◌≤◌, Some, None, length, IfOk, IfErr, IfSome, OnOk};
+ghost use Rattle.plan_core.specs.Limits.{most_worth};
 ghost use Rattle.cover_core.specs.Cover.{Problem};
 ghost use Rattle.cover_core.specs.Plans.{AreColumns, IsPlan};
 ghost use Rattle.cover_core.specs.Parts.{IsPart};
@@ -21,8 +22,8 @@ use std::alloc::Global;
 
 /// The better of the best choice so far and a new one, if the list has a worth.
 fn consider(best: Option<Choice>, before: u64, spot: Spot, worth: Option<u64>) -> Option<Choice>
-    requires before { before ≤ 4000000000 }
-    requires worth { IfSome worth (λ w. w ≤ 4000000000) }
+    requires before { before ≤ most_worth }
+    requires worth { IfSome worth (λ w. w ≤ most_worth) }
     requires cheap { IsCheapChoice best }
     ensures best { result ≡ first_cheapest best (choice_for before spot worth) }
     ensures cheap { IsCheapChoice result }
@@ -121,7 +122,7 @@ fn put(alloc: Global, draft: &mut Draft, item: u32, choice: Choice) -> Result<()
     requires spot { IsSpotOf draft.old.columns draft.old.counts choice.spot }
     requires counted { IsCounted draft.old.columns draft.old.counts }
     requires cheap { AreCheap draft.old.columns }
-    requires worth { choice.worth ≤ 4000000000 }
+    requires worth { choice.worth ≤ most_worth }
     ensures columns { OnOk result (draft.new.columns ≡ put_at item draft.old.columns choice.worth choice.spot) }
     ensures counted { OnOk result (IsCounted draft.new.columns draft.new.counts) }
     ensures sized { length draft.new.counts ≡ length draft.old.counts }

@@ -1,6 +1,7 @@
 //! Rounding a pool.
 
 ghost use Rattle.std.specs.Prelude.{◌≡◌, ◌<◌, ℕ, true, false, length, slice_index, slice_index_or, IfOk, IfErr};
+ghost use Rattle.plan_core.specs.Limits.{most_price};
 ghost use Rattle.column_pool.specs.Pools.{IsByValue};
 ghost use Rattle.cover_core.specs.Cover.{AllBelow};
 ghost use Rattle.cover_core.specs.Plans.{AreColumns, IsPlan};
@@ -23,7 +24,7 @@ fn by_value<C: Columns>(columns: &C, pool: &Pool, prices: &Prices) -> Result<Seq
     requires pool { AreColumns (C.problem columns.now) pool.now }
     requires cheap { AreCheap pool.now }
     requires prices { length prices.now.items ≡ (C.problem columns.now).items }
-    requires moderate { AllWithin 10000000000000 prices.now.items }
+    requires moderate { AllWithin most_price prices.now.items }
     ensures { IfOk result (λ places. IsByValue prices.now.items pool.now places) }
 {
     // items and classes are few, which a problem says where it is asked
@@ -108,7 +109,7 @@ pub fn round<C: Columns>(
     requires pool { AreColumns (C.problem columns.now) pool.now }
     requires cheap { AreCheap pool.now }
     requires prices { length prices.now.items ≡ (C.problem columns.now).items }
-    requires moderate { AllWithin 10000000000000 prices.now.items }
+    requires moderate { AllWithin most_price prices.now.items }
     ensures rounded { IfOk result (λ plan. RoundsTo (C.problem columns.now) prices.now.items pool.now (whole plan.columns)) }
     ensures plan { IfOk result (λ plan. IsPlan (C.problem columns.now) plan.columns) }
     ensures cheap { IfOk result (λ plan. AreCheap plan.columns) }

@@ -2,6 +2,7 @@
 
 ghost use Rattle.std.specs.Prelude.{◌≡◌, ◌<◌, ◌≤◌, ◌==◌, ◌&&◌, ◌++◌, ◌∷◌, [], ℕ, true, false, length, OnOk, IfOk, IfErr, slice_index, slice_index_or};
 ghost use Rattle.std.specs.Bool.{OnTrue};
+ghost use Rattle.plan_core.specs.Limits.{most_worth, most_places};
 ghost use Rattle.cover_core.specs.Cover.{AllBelow};
 ghost use Rattle.cover_core.specs.Parts.{has_place};
 ghost use Rattle.cover_core.specs.Plans.{IsColumn, AreColumns, IsPlan, times};
@@ -47,7 +48,7 @@ fn can_take<C: Columns>(columns: &C, draft: &Draft, free: &[bool], column: &Colu
     requires items { length free.now ≡ (C.problem columns.now).items }
     requires free { ShowsFree draft.now.columns free.now }
     ensures value { result ≡ (all_free draft.now.columns column.now.items && has_place (C.problem columns.now) draft.now.columns column.now.class) }
-    ensures room { OnTrue result (slice_index draft.now.counts column.now.class < 10000) }
+    ensures room { OnTrue result (slice_index draft.now.counts column.now.class < most_places) }
 {
     let class = column.class;
     let all = all_free(draft.columns.as_slice(), free, column.items.as_slice());
@@ -62,9 +63,9 @@ fn add(
     column: &Column,
 ) -> Result<(), Memory>
     requires items { AllBelow (length free.old) column.now.items }
-    requires worth { column.now.worth ≤ 4000000000 }
+    requires worth { column.now.worth ≤ most_worth }
     requires class { column.now.class < length draft.old.counts }
-    requires room { slice_index draft.old.counts column.now.class < 10000 }
+    requires room { slice_index draft.old.counts column.now.class < most_places }
     requires cheap { AreCheap draft.old.columns }
     requires counted { IsCounted draft.old.columns draft.old.counts }
     requires free { ShowsFree draft.old.columns free.old }
@@ -97,7 +98,7 @@ fn take_column<C: Columns>(
     column: &Column,
 ) -> Result<(), Memory>
     requires column { IsColumn (C.problem columns.now) column.now }
-    requires worth { column.now.worth ≤ 4000000000 }
+    requires worth { column.now.worth ≤ most_worth }
     requires cheap { AreCheap draft.old.columns }
     requires sized { length draft.old.counts ≡ length (C.problem columns.now).caps }
     requires counted { IsCounted draft.old.columns draft.old.counts }

@@ -2,6 +2,7 @@
 use Rattle.std.specs.Prelude.{◌≡◌, ℕ, ◌+◌, nat_lt, List, length, Option, Some, None, Result, Ok, Err, is_none, position, if◌then◌else◌}
 use Rattle.std.specs.List.{filter_map}
 use Rattle.std.specs.Borrow.{Bor}
+use Rattle.plan_core.specs.Limits.{most_items}
 use Rattle.vdv451_text.specs.declared.table.Field.{Field}
 use Rattle.vdv451_text.specs.declared.table.Head.{Head}
 use Rattle.vdv451_text.specs.declared.table.Table.{Table}
@@ -79,22 +80,22 @@ rows_of t most entry tables = do
   said_of t (entry table.columns) table.rows
 
 abbrev pub trips_of : List Table → Result (List TripRow) Place
-trips_of tables = rows_of which.Trips 3000 trip_of tables
+trips_of tables = rows_of which.Trips most_items trip_of tables
 
 abbrev pub vehicles_of : List Table → Result (List VehicleRow) Place
-vehicles_of tables = rows_of which.Vehicles 3000 vehicle_of tables
+vehicles_of tables = rows_of which.Vehicles most_items vehicle_of tables
 
 abbrev pub blocks_of : List Table → Result (List BlockRow) Place
-blocks_of tables = rows_of which.Blocks 3000 block_of tables
+blocks_of tables = rows_of which.Blocks most_items block_of tables
 
 abbrev pub legs_of : List TripRow → List BlockRow → List Table → Result (List LegRow) Place
 legs_of trips blocks tables = rows_of which.Legs 30000 (leg_of trips blocks) tables
 
 abbrev pub duties_of : List Table → Result (List DutyRow) Place
-duties_of tables = rows_of which.Duties 3000 duty_of tables
+duties_of tables = rows_of which.Duties most_items duty_of tables
 
 abbrev pub pieces_of : List DutyRow → List Table → Result (List PieceRow) Place
-pieces_of duties tables = rows_of which.Pieces 3000 (piece_of duties) tables
+pieces_of duties tables = rows_of which.Pieces most_items (piece_of duties) tables
 
 abbrev pub bounds_of : List Table → Result (List BoundRow) Place
 bounds_of tables = rows_of which.Bounds 4 bound_of tables

@@ -1,5 +1,6 @@
 -- Promise: the trips of a day: the table that the command writes, and why a day has none.
 use Rattle.std.specs.Prelude.{◌≡◌, ℕ, ◌<◌, ◌≤◌, List, [], ◌∷◌, length, map, ◌⊎◌, None, Some, IsSomeAnd, slice_index_or}
+use Rattle.plan_core.specs.Limits.{most_items}
 use Rattle.vdv451_text.specs.declared.table.Field.{Field}
 use Rattle.vdv451_text.specs.declared.table.Table.{Table}
 use Rattle.vdv451_text.specs.Plain.{text}
@@ -18,7 +19,6 @@ use Rattle.day_calendar.specs.declared.day.DayFault.TheVariants as days
 use Rattle.day_calendar.specs.Days.{IsCivilDay}
 use Rattle.day_calendar.specs.Kinds.{IsKindOf}
 use Rattle.day_calendar.specs.DayTrips.{AreDayRows}
-use Rattle.day_model.specs.Building.{most_trips}
 use Rattle.planner_run.specs.declared.status.Status.{Status}
 use Rattle.planner_run.specs.declared.status.Status.TheVariants as statuses
 use Rattle.planner_run.specs.declared.status.InputFault.TheVariants as inputs
@@ -43,7 +43,7 @@ pub record IsTripsText (tables : List Table) (day : ℕ) (bytes : List ℕ) : Ty
   pub places : List ℕ
   pub table : Table
   pub day_is : IsDayOf tables day kind places
-  pub few : length places ≤ most_trips
+  pub few : length places ≤ most_items
   pub found : table_of schema.trips tables ≡ Some table
   pub written : bytes ≡ text (picked_table table places ∷ [])
 
@@ -58,7 +58,7 @@ pub record HasTooMany (tables : List Table) (day count : ℕ) : Type 0 where
   pub kind : DayKind
   pub places : List ℕ
   pub day_is : IsDayOf tables day kind places
-  pub many : most_trips < length places
+  pub many : most_items < length places
   pub count_is : count ≡ length places
 
 -- why the tables are refused for a day
@@ -94,14 +94,14 @@ IsDayRefusal net day status = (fault : DayFault) × (status ≡ statuses.Day fau
 abbrev pub IsCrowdRefusal : List TripRow → ℕ → ℕ → Status → Type 0
 IsCrowdRefusal trips version kind status =
     (status ≡ statuses.Memory)
-    ⊎ ((places : List ℕ) × AreDayRows trips version kind places × (most_trips < length places)
+    ⊎ ((places : List ℕ) × AreDayRows trips version kind places × (most_items < length places)
     × (status ≡ statuses.Input (inputs.Trips (length places))))
 
 -- the day's kind in a network, and the places of its trips, which are not too many
 pub record IsDayIn (net : Net) (day : ℕ) (kind : DayKind) (places : List ℕ) : Type 0 where
   pub kind_is : IsKindOf net day kind
   pub rows : AreDayRows net.trips kind.version kind.kind places
-  pub few : length places ≤ most_trips
+  pub few : length places ≤ most_items
 
 -- why a network is refused for a day
 abbrev pub IsRefusalIn : Net → ℕ → Status → Type 0

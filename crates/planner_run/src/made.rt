@@ -1,6 +1,7 @@
 //! The command `make`: a day that is made from a seed, as the tables of its planning files, or planned.
 
 ghost use Rattle.std.specs.Prelude.{◌≤◌, List, IfOk, IfErr, false};
+ghost use Rattle.plan_core.specs.Limits.{most_items};
 ghost use Rattle.vdv451_text.specs.declared.table.Table.{Table as TextTable};
 ghost use Rattle.day_maker.specs.Made.{made_tables};
 ghost use Rattle.price_rounds.specs.Efforts.{IsEffort};
@@ -22,7 +23,7 @@ use vdv451_text::write_tables;
 
 /// The text of the tables of a day that is made.
 fn tables_text(alloc: Global, making: Making) -> Result<Bytes, Memory>
-    requires { making.trips ≤ 3000 }
+    requires { making.trips ≤ most_items }
     ensures { IfOk result (IsMadeText making.seed making.trips) }
 {
     let tables = make_tables(alloc, making.seed, making.trips)?;
@@ -38,7 +39,7 @@ fn planned_text<R: Threads + Sync, G: Gate + Sync>(
     effort: &Effort,
     gate: &G,
 ) -> Result<Bytes, Status>
-    requires trips { making.trips ≤ 3000 }
+    requires trips { making.trips ≤ most_items }
     requires effort { IsEffort effort.now }
     ensures written { IfOk result (IsShortText (asked_by effort.now false) (made_tables making.seed making.trips) day) }
     ensures cause { IfErr result (IsPlanRefused (asked_by effort.now false) (made_tables making.seed making.trips) day) }
@@ -67,7 +68,7 @@ pub fn made_text<R: Threads + Sync, G: Gate + Sync>(
     effort: &Effort,
     gate: &G,
 ) -> Result<Bytes, Status>
-    requires trips { making.trips ≤ 3000 }
+    requires trips { making.trips ≤ most_items }
     requires effort { IsEffort effort.now }
     ensures written { (tables : List TextTable) → IfOk result (IsText (make_task making.run making.seed making.trips (asked_by effort.now false)) tables day) }
     ensures cause { (tables : List TextTable) → IfErr result (IsRefused (make_task making.run making.seed making.trips (asked_by effort.now false)) tables day) }

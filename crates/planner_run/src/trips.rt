@@ -1,13 +1,13 @@
 //! The command `trips`: the rows of a day's trips.
 
 ghost use Rattle.std.specs.Prelude.{◌≡◌, ◌≢◌, ◌<◌, ◌≤◌, ◌^◌, ◌⊎◌, ℕ, List, None, Some, All, IsTrue, IfOk, IfErr, OnOk, length, slice_index_or, ◌∷◌, []};
+ghost use Rattle.plan_core.specs.Limits.{most_items};
 ghost use Rattle.vdv451_text.specs.Plain.{are_plain, text};
 ghost use Rattle.vdv452_tables.specs.declared.reading.Needs.TheVariants as needs;
 ghost use Rattle.vdv452_rows.specs.Schema.{trips as trips_schema};
 ghost use Rattle.vdv452_tables.specs.Calendar.{net_of, schemas_of};
 ghost use Rattle.vdv452_rows.specs.Rows.{first_fault, table_of};
 ghost use Rattle.vdv451_text.specs.declared.table.Table.{Table as TextTable};
-ghost use Rattle.day_model.specs.Building.{most_trips};
 ghost use Rattle.planner_run.specs.Trips.{IsDayCause, IsTripsText, picked_table, rows_at};
 ghost use Rattle.planner_run.specs.Trips.{IsCrowdRefusal, IsDayIn, IsRefusalIn, IsRefused};
 ghost use Rattle.day_calendar.specs.DayTrips.{AreDayRows};
@@ -81,7 +81,7 @@ fn day_places(alloc: Global, net: &Network, kind: &DayKind) -> Result<Seq<u32>, 
     requires { length net.now.trips < 2 ^ 32 }
     ensures rows { IfOk result (AreDayRows net.now.trips kind.now.version kind.now.kind) }
     ensures within { IfOk result (All (λ place. place < length net.now.trips)) }
-    ensures few { IfOk result (λ places. length places ≤ most_trips) }
+    ensures few { IfOk result (λ places. length places ≤ most_items) }
     ensures cause { IfErr result (IsCrowdRefusal net.now.trips kind.now.version kind.now.kind) }
 {
     let places = day_rows(alloc, net, kind)?;

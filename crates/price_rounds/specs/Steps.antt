@@ -1,5 +1,6 @@
 -- Promise: what holds between the steps of a pass.
 use Rattle.std.specs.Prelude.{◌≡◌, ℕ, neg_ℤ, pos, ◌≤◌, ◌++◌, List, length}
+use Rattle.plan_core.specs.Limits.{most_items}
 use Rattle.plan_core.specs.declared.Price.{Price}
 use Rattle.cover_core.specs.declared.Column.{Column}
 use Rattle.cover_core.specs.Cover.{Problem}
@@ -15,7 +16,7 @@ use Rattle.price_rounds.specs.Rounds.{after_rounds, after_lowering, offer_at, ro
 
 -- at most 3,000 items and 32 classes
 pub record IsSized (p : Problem) : Type 0 where
-  pub items : p.items ≤ 3000
+  pub items : p.items ≤ most_items
   pub classes : length p.caps ≤ 32
 
 -- columns of a problem that may be valued, lowered and turned over

@@ -1,6 +1,7 @@
 //! How columns move prices, and how a pool gets them.
 
 ghost use Rattle.std.specs.Prelude.{◌≡◌, ◌≢◌, ◌≤◌, ◌≤ℤ◌, pos, List, length, IfOk, OnOk};
+ghost use Rattle.plan_core.specs.Limits.{most_price};
 ghost use Rattle.cover_core.specs.Cover.{Problem};
 ghost use Rattle.cover_core.specs.FirstLeast.{AllWithin};
 ghost use Rattle.cover_core.specs.Fitting.{AreFit};
@@ -33,10 +34,10 @@ pub fn caps_of<C: Columns>(alloc: Global, columns: &C) -> Result<Seq<u32>, Memor
 
 /// The greatest price, at least 0.
 pub(crate) fn greatest(prices: &[Price]) -> i64
-    requires { AllWithin 10000000000000 prices.now }
+    requires { AllWithin most_price prices.now }
     ensures value { result ≡ greatest_of prices.now }
     ensures low { pos 0 ≤ℤ result }
-    ensures high { result ≤ℤ pos 10000000000000 }
+    ensures high { result ≤ℤ pos most_price }
 {
     let mut greatest = 0;
     for price in prices {
@@ -80,7 +81,7 @@ pub(crate) fn turn_often<C: Columns>(
     requires pool { AreReady (C.problem columns.now) pool.now }
     requires prices { ArePricesFor (C.problem columns.now) prices.items }
     requires size_low { pos 0 ≤ℤ size }
-    requires size_high { size ≤ℤ pos 10000000000000 }
+    requires size_high { size ≤ℤ pos most_price }
     ensures turned { IfOk result (λ new. new.items ≡ turned_often 16 pool.now (C.problem columns.now).caps size prices.items) }
     ensures ready { IfOk result (λ new. ArePricesFor (C.problem columns.now) new.items) }
 {

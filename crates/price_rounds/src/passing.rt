@@ -1,6 +1,7 @@
 //! A whole pass.
 
 ghost use Rattle.std.specs.Prelude.{◌≡◌, ◌+◌, ◌<◌, ◌≤◌, ◌≤ℤ◌, pos, length, IfOk};
+ghost use Rattle.plan_core.specs.Limits.{most_price};
 ghost use Rattle.cover_core.specs.Plans.{AreColumns, IsPaid, bound_of};
 ghost use Rattle.cover_core.specs.FirstLeast.{AreCheap};
 ghost use Rattle.cover_master.specs.Method.{starting_prices, step_size_of};
@@ -25,11 +26,11 @@ use worker_price::least_values;
 /// The size of the price steps of a round, counted from 1.
 fn size_of(greatest: i64, round: u32) -> i64
     requires low { pos 0 ≤ℤ greatest }
-    requires high { greatest ≤ℤ pos 10000000000000 }
+    requires high { greatest ≤ℤ pos most_price }
     requires round { round ≤ 200 }
     ensures value { result ≡ step_size_of greatest round }
     ensures low { pos 0 ≤ℤ result }
-    ensures high { result ≤ℤ pos 10000000000000 }
+    ensures high { result ≤ℤ pos most_price }
 {
     step_size(greatest, round)
 }
@@ -52,7 +53,7 @@ fn first_round<R: Threads + Sync, P: Pricer + Sync, G: Gate + Sync>(
     requires prices { ArePricesFor (P.problem pricer.now) start.items }
     requires greatest { greatest ≡ greatest_of (starting_prices (P.problem pricer.now)) }
     requires low { pos 0 ≤ℤ greatest }
-    requires high { greatest ≤ℤ pos 10000000000000 }
+    requires high { greatest ≤ℤ pos most_price }
     ensures { IfOk result (HasRounds (P.problem pricer.now) 1) }
 {
     let (kept, columns) = first_offer(rt, alloc, workers, pricer, caps, &start, gate)?;
@@ -82,7 +83,7 @@ fn next_round<R: Threads + Sync, P: Pricer + Sync, G: Gate + Sync>(
     requires done { done < 200 }
     requires greatest { greatest ≡ greatest_of (starting_prices (P.problem pricer.now)) }
     requires low { pos 0 ≤ℤ greatest }
-    requires high { greatest ≤ℤ pos 10000000000000 }
+    requires high { greatest ≤ℤ pos most_price }
     ensures { IfOk result (HasRounds (P.problem pricer.now) (done + 1)) }
 {
     let Progress {

@@ -1,6 +1,7 @@
 //! The duties of a day that is planned anew.
 
 ghost use Rattle.std.specs.Prelude.{◌≡◌, ◌<◌, ◌≤◌, Some, All, IfOk, IfErr, length, false};
+ghost use Rattle.plan_core.specs.Limits.{most_items};
 ghost use Rattle.cover_core.specs.FirstLeast.{AreCheap};
 ghost use Rattle.price_rounds.specs.Efforts.{IsEffort};
 ghost use Rattle.cover_plan.specs.Endings.{numbers_of};
@@ -91,7 +92,7 @@ pub(crate) fn new_duties<R: Threads + Sync, G: Gate + Sync>(
     requires earlier { IsEarlierPlan model.now earlier.now }
     requires blocks { AreNewBlocks (replan_of model.now earlier.now moment) (numbers_of effort.now) (side_of blocks.now) }
     requires pieces { pieces.now ≡ pieces_of_plan model.now blocks.now.plan.columns }
-    requires few { length pieces.now ≤ 3000 }
+    requires few { length pieces.now ≤ most_items }
     requires shifts { All IsShift pieces.now }
     ensures duties { IfOk result (λ duties. AreNewDuties (replan_of model.now earlier.now moment) (numbers_of effort.now) blocks.now.plan.columns (side_of duties)) }
     ensures cheap { IfOk result (λ duties. AreCheap duties.plan.columns) }

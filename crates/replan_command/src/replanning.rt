@@ -1,6 +1,7 @@
 //! The new plan of a day from a moment on.
 
 ghost use Rattle.std.specs.Prelude.{◌≡◌, ◌≤◌, All, IfOk, IfErr, length};
+ghost use Rattle.plan_core.specs.Limits.{most_items};
 ghost use Rattle.cover_core.specs.FirstLeast.{AreCheap};
 ghost use Rattle.price_rounds.specs.Efforts.{IsEffort};
 ghost use Rattle.cover_plan.specs.Endings.{numbers_of};
@@ -37,7 +38,7 @@ fn with_duties<R: Threads + Sync, G: Gate + Sync>(
     requires cheap { AreCheap blocks.plan.columns }
     ensures plan { IfOk result (λ plan. IsReplanned (replan_of model.now earlier.now moment) (numbers_of effort.now) (side_of plan.blocks) (side_of plan.duties)) }
     ensures pieces { IfOk result (λ plan. plan.pieces ≡ pieces_of_plan model.now plan.blocks.plan.columns) }
-    ensures few { IfOk result (λ plan. length plan.pieces ≤ 3000) }
+    ensures few { IfOk result (λ plan. length plan.pieces ≤ most_items) }
     ensures shifts { IfOk result (λ plan. All IsShift plan.pieces) }
     ensures cheap_blocks { IfOk result (λ plan. AreCheap plan.blocks.plan.columns) }
     ensures cheap_duties { IfOk result (λ plan. AreCheap plan.duties.plan.columns) }
@@ -73,7 +74,7 @@ pub(crate) fn replan_day<R: Threads + Sync, G: Gate + Sync>(
     requires earlier { IsEarlierPlan model.now earlier.now }
     ensures plan { IfOk result (λ plan. IsReplanned (replan_of model.now earlier.now moment) (numbers_of effort.now) (side_of plan.blocks) (side_of plan.duties)) }
     ensures pieces { IfOk result (λ plan. plan.pieces ≡ pieces_of_plan model.now plan.blocks.plan.columns) }
-    ensures few { IfOk result (λ plan. length plan.pieces ≤ 3000) }
+    ensures few { IfOk result (λ plan. length plan.pieces ≤ most_items) }
     ensures shifts { IfOk result (λ plan. All IsShift plan.pieces) }
     ensures cheap_blocks { IfOk result (λ plan. AreCheap plan.blocks.plan.columns) }
     ensures cheap_duties { IfOk result (λ plan. AreCheap plan.duties.plan.columns) }

@@ -1,6 +1,7 @@
 //! The best column of a rest.
 
 ghost use Rattle.std.specs.Prelude.{◌≡◌, ◌<◌, ◌≤◌, ℕ, Bool, List, IfOk, IfSome, length};
+ghost use Rattle.plan_core.specs.Limits.{most_worth};
 ghost use Rattle.plan_core.specs.declared.Price.{Price};
 ghost use Rattle.cover_core.specs.Best.{best_of, within};
 ghost use Rattle.cover_core.specs.Cover.{Problem};
@@ -32,7 +33,7 @@ pub fn best_of_rest<C: Columns, W: Labels>(
     requires class { class < length (C.problem rest.now).caps }
     requires items { length labels.now.bodies.now ≤ (C.problem rest.now).items }
     ensures best { (p : Problem) (heads : List Begun) (may : ℕ → List ℕ → Bool) (prices spread : List Price) → PricesRest p heads may class labels.now.group (C.problem rest.now) labels.now.bodies.now labels.now.starts.now labels.now.ended.now (W.labelling labels.now.labels.now) (W.close_of labels.now.labels.now) prices spread → IfOk result (λ answer. answer ≡ within limit prices (best_of (C.problem rest.now) prices class labels.now.group)) }
-    ensures bound { IfOk result (λ answer. IfSome answer (λ column. column.worth ≤ 4000000000)) }
+    ensures bound { IfOk result (λ answer. IfSome answer (λ column. column.worth ≤ most_worth)) }
 {
     rest_is_tied::<W>();
     best_column(alloc, rest, labels, class, likely, limit)

@@ -2,6 +2,7 @@
 use Rattle.std.specs.Prelude.{ℕ, ◌≤◌, ◌==◌, ◌&&◌, nat_lt, cond, List, [], ◌∷◌, Option, Some, None}
 use Rattle.std.proofs.Common.{◌≡◌, ◌<◌, arith}
 use Rattle.std.proofs.lemmas.Bool.Decides.{nat_tests}
+use Rattle.plan_core.specs.Limits.{most_worth}
 use Rattle.cover_core.specs.declared.Column.{Column}
 use Rattle.plan_core.specs.declared.Price.{Price}
 use Rattle.cover_core.specs.Best.{earlier}
@@ -39,7 +40,7 @@ pair-listed alone both places class (x ∷ y ∷ z ∷ rest) worth has = absurd 
 pub record MayBeValued (count : ℕ) (c : Column) : Type 0 where
   pub rises : Rises c.items
   pub items : AllBelow count c.items
-  pub cheap : c.worth ≤ 4000000000
+  pub cheap : c.worth ≤ most_worth
 
 -- the earliest column of two items, where both together have no worth, or one
 abbrev pub best_alone : List Price → ℕ → Column

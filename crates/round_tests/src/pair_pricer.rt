@@ -3,6 +3,7 @@
 ghost use Rattle.std.specs.Prelude.{◌≡◌, ◌<◌, ◌≤◌, [], ◌∷◌, IfOk, IfSome, Some, length, true, false};
 ghost use Rattle.std.proofs.Props.{props};
 ghost use Rattle.std.specs.Ordering.{is_gt};
+ghost use Rattle.plan_core.specs.Limits.{most_items, most_price, most_worth, most_places};
 ghost use Rattle.cover_core.specs.Best.{within, earlier};
 ghost use Rattle.cover_core.specs.Cover.{AllBelow, Rises};
 ghost use Rattle.cover_core.specs.FirstLeast.{AllWithin, backward_cmp};
@@ -18,9 +19,9 @@ pub(crate) struct Pair {
     pub(crate) alone: u64,
     pub(crate) both: Option<u64>,
     pub(crate) places: u32,
-    ghost moderate: { alone ≤ 4000000000 },
-    ghost together: { IfSome both (λ worth. worth ≤ 4000000000) } by { Prim.hlevel props },
-    ghost few: { places ≤ 10000 },
+    ghost moderate: { alone ≤ most_worth },
+    ghost together: { IfSome both (λ worth. worth ≤ most_worth) } by { Prim.hlevel props },
+    ghost few: { places ≤ most_places },
 }
 
 impl Columns for Pair {
@@ -67,8 +68,8 @@ fn column(alloc: Global, worth: u64, list: &[u32]) -> Result<Column, Memory>
 
 /// The earlier of two columns, the first of which comes first by its list.
 fn first_of(first: Column, other: Column, prices: &Prices) -> Column
-    requires few { length prices.now.items ≤ 3000 }
-    requires moderate { AllWithin 10000000000000 prices.now.items }
+    requires few { length prices.now.items ≤ most_items }
+    requires moderate { AllWithin most_price prices.now.items }
     requires first { MayBeValued (length prices.now.items) first }
     requires other { MayBeValued (length prices.now.items) other }
     requires order { is_gt (backward_cmp first.items other.items) ≡ false }
@@ -83,8 +84,8 @@ fn first_of(first: Column, other: Column, prices: &Prices) -> Column
 
 /// The earlier of two columns, the second of which comes first by its list.
 fn second_of(first: Column, other: Column, prices: &Prices) -> Column
-    requires few { length prices.now.items ≤ 3000 }
-    requires moderate { AllWithin 10000000000000 prices.now.items }
+    requires few { length prices.now.items ≤ most_items }
+    requires moderate { AllWithin most_price prices.now.items }
     requires first { MayBeValued (length prices.now.items) first }
     requires other { MayBeValued (length prices.now.items) other }
     requires order { is_gt (backward_cmp first.items other.items) ≡ true }
@@ -100,8 +101,8 @@ fn second_of(first: Column, other: Column, prices: &Prices) -> Column
 /// The earliest column of one item.
 fn best_alone(alloc: Global, alone: u64, prices: &Prices) -> Result<Column, Memory>
     requires two { length prices.now.items ≡ 2 }
-    requires moderate { AllWithin 10000000000000 prices.now.items }
-    requires cheap { alone ≤ 4000000000 }
+    requires moderate { AllWithin most_price prices.now.items }
+    requires cheap { alone ≤ most_worth }
     ensures { IfOk result (λ best. best ≡ best_alone_of prices.now.items alone) }
 {
     let first = column(alloc, alone, [0].as_slice())?;
@@ -117,9 +118,9 @@ fn best_column(
     prices: &Prices,
 ) -> Result<Column, Memory>
     requires two { length prices.now.items ≡ 2 }
-    requires moderate { AllWithin 10000000000000 prices.now.items }
-    requires cheap { alone ≤ 4000000000 }
-    requires together { IfSome both (λ worth. worth ≤ 4000000000) }
+    requires moderate { AllWithin most_price prices.now.items }
+    requires cheap { alone ≤ most_worth }
+    requires together { IfSome both (λ worth. worth ≤ most_worth) }
     ensures { IfOk result (λ best. best ≡ best_column_of prices.now.items alone both) }
 {
     let single = best_alone(alloc, alone, prices)?;
@@ -134,11 +135,11 @@ fn best_column(
 
 /// A column where its value is within a limit.
 fn limited(column: Column, prices: &Prices, limit: i64) -> Option<Column>
-    requires few { length prices.now.items ≤ 3000 }
-    requires moderate { AllWithin 10000000000000 prices.now.items }
+    requires few { length prices.now.items ≤ most_items }
+    requires moderate { AllWithin most_price prices.now.items }
     requires valued { MayBeValued (length prices.now.items) column }
     ensures within { result ≡ within limit prices.now.items (Some column) }
-    ensures bound { IfSome result (λ found. found.worth ≤ 4000000000) }
+    ensures bound { IfSome result (λ found. found.worth ≤ most_worth) }
 {
     match value(&column, prices) <= limit {
         true => Some(column),

@@ -1,6 +1,7 @@
 //! A pricer of many items, each a list by itself.
 
 ghost use Rattle.std.specs.Prelude.{◌≡◌, ◌≤◌, ◌<◌, ◌+◌, ◌*◌, ◌≤ℤ◌, pos, neg_ℤ, [], ◌∷◌, length, Some, IfOk};
+ghost use Rattle.plan_core.specs.Limits.{most_items, most_price, most_worth};
 ghost use Rattle.cover_core.specs.Cover.{Rises, AllBelow};
 ghost use Rattle.cover_core.specs.Best.{within};
 ghost use Rattle.cover_core.specs.FirstLeast.{AllWithin};
@@ -16,13 +17,13 @@ use std::alloc::Global;
 #[derive(Drop)]
 pub(crate) struct Singles {
     pub(crate) items: u32,
-    ghost few: { items ≤ 3000 },
+    ghost few: { items ≤ most_items },
 }
 
 impl Singles {
     /// So many items, at most 3,000.
     pub(crate) fn new(items: u32) -> Singles
-        requires { items ≤ 3000 }
+        requires { items ≤ most_items }
         ensures { result.items ≡ items }
     {
         Singles { items }
@@ -74,7 +75,7 @@ impl Pricer for Singles {
 
 /// The one column of a class and group.
 fn only_column(alloc: Global, class: u32, group: u32) -> Result<Column, Memory>
-    requires { 16 * group < 3000 }
+    requires { 16 * group < most_items }
     ensures class { IfOk result (λ column. column.class ≡ class) }
     ensures worth { IfOk result (λ column. column.worth ≡ class + 1) }
     ensures items { IfOk result (λ column. column.items ≡ 16 * group ∷ []) }
@@ -89,11 +90,11 @@ fn only_column(alloc: Global, class: u32, group: u32) -> Result<Column, Memory>
 
 /// A column where its value is within a limit.
 fn limited(column: Column, prices: &Prices, limit: i64) -> Option<Column>
-    requires few { length prices.now.items ≤ 3000 }
-    requires moderate { AllWithin 10000000000000 prices.now.items }
+    requires few { length prices.now.items ≤ most_items }
+    requires moderate { AllWithin most_price prices.now.items }
     requires rises { Rises column.items }
     requires items { AllBelow (length prices.now.items) column.items }
-    requires cheap { column.worth ≤ 4000000000 }
+    requires cheap { column.worth ≤ most_worth }
     ensures { result ≡ within limit prices.now.items (Some column) }
 {
     match value(&column, prices) <= limit {
@@ -104,8 +105,8 @@ fn limited(column: Column, prices: &Prices, limit: i64) -> Option<Column>
 
 /// The price of an item: that of its place for the first of a group, and 0 for any other.
 fn price_of(item: u32, firsts: &[u32]) -> Price
-    ensures low { neg_ℤ (pos 10000000000000) ≤ℤ result.0 }
-    ensures high { result.0 ≤ℤ pos 10000000000000 }
+    ensures low { neg_ℤ (pos most_price) ≤ℤ result.0 }
+    ensures high { result.0 ≤ℤ pos most_price }
 {
     let place = (item / 16) as usize;
     if item % 16 == 0 && place < firsts.len() {
@@ -118,7 +119,7 @@ fn price_of(item: u32, firsts: &[u32]) -> Price
 /// Prices of so many items, from those of the first items of the groups.
 pub(crate) fn prices(alloc: Global, items: u32, firsts: &[u32]) -> Result<Prices, Memory>
     ensures len { IfOk result (λ prices. length prices.items ≡ items) }
-    ensures moderate { IfOk result (λ prices. AllWithin 10000000000000 prices.items) }
+    ensures moderate { IfOk result (λ prices. AllWithin most_price prices.items) }
 {
     let mut list = Seq::new(alloc);
     for item in 0..items {

@@ -2,6 +2,7 @@
 
 ghost use Rattle.std.specs.Prelude.{◌≡◌, ◌<◌, ◌≤◌, ◌+◌, ◌++◌, length, take, drop, IfSome};
 ghost use Rattle.std.specs.Bool.{OnTrue, OnFalse};
+ghost use Rattle.plan_core.specs.Limits.{most_items, most_worth};
 ghost use Rattle.cover_core.specs.Cover.{AllBelow, Rises};
 ghost use Rattle.cover_core.specs.Plans.{IsPlan};
 ghost use Rattle.cover_core.specs.Parts.{column_at};
@@ -15,7 +16,7 @@ use cover_core::{Column, Columns, plan_sizes};
 pub fn columns_of<C: Columns>(columns: &C, plan: &[Column]) -> u32
     requires { IsPlan (C.problem columns.now) plan.now }
     ensures value { result ≡ length plan.now }
-    ensures few { result ≤ 3000 }
+    ensures few { result ≤ most_items }
 {
     let _items = columns.items();
     plan_sizes::<C>();
@@ -28,8 +29,8 @@ pub fn column_of<'a, C: Columns>(columns: &C, plan: &'a [Column], place: u32) ->
     requires place { place < length plan.now }
     ensures is { result.now ≡ column_at plan.now place }
     ensures class { result.now.class < length (C.problem columns.now).caps }
-    ensures worth { result.now.worth ≤ 4000000000 }
-    ensures few { length result.now.items ≤ 3000 }
+    ensures worth { result.now.worth ≤ most_worth }
+    ensures few { length result.now.items ≤ most_items }
 {
     let _items = columns.items();
     &plan[place as usize]
@@ -40,7 +41,7 @@ pub fn len_of<C: Columns>(columns: &C, plan: &[Column], place: u32) -> u32
     requires ready { IsSearchable (C.problem columns.now) plan.now }
     requires place { place < length plan.now }
     ensures value { result ≡ length (column_at plan.now place).items }
-    ensures few { result ≤ 3000 }
+    ensures few { result ≤ most_items }
 {
     let column = column_of(columns, plan, place);
     column.items.as_slice().len() as u32
@@ -72,7 +73,7 @@ pub fn worth_of<C: Columns>(columns: &C, class: u32, list: &[u32]) -> Option<u64
     requires class { class < length (C.problem columns.now).caps }
     requires items { AllBelow (C.problem columns.now).items list.now }
     ensures value { result ≡ worth_of (C.problem columns.now) class list.now }
-    ensures bound { IfSome result (λ worth. worth ≤ 4000000000) }
+    ensures bound { IfSome result (λ worth. worth ≤ most_worth) }
 {
     if list.is_empty() {
         Some(0)
@@ -93,7 +94,7 @@ pub fn may_join(front: &[u32], tail: &[u32]) -> bool
 
 /// Puts items behind a list.
 fn append(list: &mut ArrayVec<u32, 3000>, more: &[u32])
-    requires { length list.old.items + length more.now ≤ 3000 }
+    requires { length list.old.items + length more.now ≤ most_items }
     ensures { list.new.items ≡ list.old.items ++ more.now }
 {
     let _ = list.try_extend_from_slice(more);
@@ -112,7 +113,7 @@ pub fn joined_worth<C: Columns>(
     requires tail { AllBelow (C.problem columns.now).items tail.now }
     requires rises { Rises (front.now ++ tail.now) }
     ensures value { result ≡ worth_of (C.problem columns.now) class (front.now ++ tail.now) }
-    ensures bound { IfSome result (λ worth. worth ≤ 4000000000) }
+    ensures bound { IfSome result (λ worth. worth ≤ most_worth) }
 {
     let _items = columns.items();
     list.clear();

@@ -1,6 +1,7 @@
 //! The least candidate so far.
 
 ghost use Rattle.std.specs.Prelude.{◌≡◌, ◌≤◌, ◌+◌, ◌-ℤ◌, pos, Some};
+ghost use Rattle.plan_core.specs.Limits.{most_worth};
 ghost use Rattle.tail_exchange.specs.Exchange.{step_for};
 ghost use Rattle.tail_exchange.specs.Leasts.{lesser, least_from};
 
@@ -23,8 +24,8 @@ fn lesser(best: Option<Candidate>, candidate: Candidate) -> Candidate
 /// By how much the cost rises where columns of worth `before` turn into two of worths `left` and `right`.
 fn change(before: u64, left: u64, right: u64) -> i64
     requires before { before ≤ 8000000000 }
-    requires left { left ≤ 4000000000 }
-    requires right { right ≤ 4000000000 }
+    requires left { left ≤ most_worth }
+    requires right { right ≤ most_worth }
     ensures { result ≡ pos (left + right) -ℤ pos before }
 {
     (left + right) as i64 - before as i64
@@ -39,8 +40,8 @@ pub fn consider(
     right: u64,
 ) -> Option<Candidate>
     requires before { before ≤ 8000000000 }
-    requires left { left ≤ 4000000000 }
-    requires right { right ≤ 4000000000 }
+    requires left { left ≤ most_worth }
+    requires right { right ≤ most_worth }
     ensures { result ≡ least_from best (step_for before step.kind step.a step.b step.i step.j (Some left) (Some right)) }
 {
     let candidate = Candidate {

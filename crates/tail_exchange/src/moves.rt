@@ -1,6 +1,7 @@
 //! A step made.
 
 ghost use Rattle.std.specs.Prelude.{◌≡◌, ◌<◌, ◌≤◌, ◌++◌, ◌∷◌, [], length, take, drop, filter, slice_set, IfOk, OnOk, OnErr};
+ghost use Rattle.plan_core.specs.Limits.{most_worth};
 ghost use Rattle.cover_core.specs.Cover.{AllBelow};
 ghost use Rattle.cover_core.specs.Parts.{column_at};
 ghost use Rattle.cover_core.specs.FirstLeast.{AreCheap};
@@ -20,7 +21,7 @@ fn made<C: Columns>(alloc: Global, columns: &C, class: u32, list: &[u32]) -> Res
     requires class { class < length (C.problem columns.now).caps }
     requires items { AllBelow (C.problem columns.now).items list.now }
     ensures made { IfOk result (λ column. column ≡ made (C.problem columns.now) class list.now) }
-    ensures cheap { IfOk result (λ column. column.worth ≤ 4000000000) }
+    ensures cheap { IfOk result (λ column. column.worth ≤ most_worth) }
 {
     let worth = worth_of(columns, class, list).unwrap_or(0);
     let items = Items::from_slice(alloc, list)?;
@@ -43,7 +44,7 @@ fn made_of_two<C: Columns>(
     requires front { AllBelow (C.problem columns.now).items front.now }
     requires tail { AllBelow (C.problem columns.now).items tail.now }
     ensures made { IfOk result (λ column. column ≡ made (C.problem columns.now) class (front.now ++ tail.now)) }
-    ensures cheap { IfOk result (λ column. column.worth ≤ 4000000000) }
+    ensures cheap { IfOk result (λ column. column.worth ≤ most_worth) }
 {
     let mut list = Vec::from_slice(alloc, front)?;
     list.extend_from_slice(tail)?;

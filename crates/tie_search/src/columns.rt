@@ -1,6 +1,7 @@
 //! From the first least list to the best column of a class and group.
 
 ghost use Rattle.std.specs.Prelude.{◌≡◌, ◌<◌, ◌≤◌, length, IfOk, IfSome, ℕ, List};
+ghost use Rattle.plan_core.specs.Limits.{most_worth};
 ghost use Rattle.plan_core.specs.declared.Price.{Price};
 ghost use Rattle.cover_core.specs.Best.{best_of, within};
 ghost use Rattle.label_search.specs.Pricing.{IsTiedInGroup};
@@ -29,7 +30,7 @@ pub fn best_column_by_value<C: Columns, W: Labels>(
     requires class { class < length (C.problem columns.now).caps }
     requires items { W.count labels.now ≤ (C.problem columns.now).items }
     ensures best { (prices : List Price) (group : ℕ) → IsTiedInGroup (W.labelling labels.now) (W.close_of labels.now) prices group ((C.problem columns.now).worth class) → IfOk result (λ answer. answer ≡ within limit prices (best_of (C.problem columns.now) prices class group)) }
-    ensures bound { IfOk result (λ answer. IfSome answer (λ column. column.worth ≤ 4000000000)) }
+    ensures bound { IfOk result (λ answer. IfSome answer (λ column. column.worth ≤ most_worth)) }
 {
     best_is_first_least::<C>();
     match search_by_value(alloc, labels, early, closing, limit)? {

@@ -1,6 +1,7 @@
 //! The tables of blocks.
 
 ghost use Rattle.std.specs.Prelude.{◌≡◌, ◌<◌, ◌≤◌, true, All, IfOk, length};
+ghost use Rattle.plan_core.specs.Limits.{most_items, most_worth};
 ghost use Rattle.vdv451_text.specs.Plain.{is_plain_table};
 ghost use Rattle.cover_core.specs.FirstLeast.{AreCheap};
 ghost use Rattle.number_tables.specs.Numbers.{number_row as row_of, number_rows};
@@ -36,7 +37,7 @@ fn block_row(alloc: Global, day: &Day, number: u32, pool: &Pool) -> Result<Seq<F
 
 /// The rows of REC_UMLAUF.
 fn block_rows(alloc: Global, day: &Day, blocks: &[Column]) -> Result<Seq<Seq<Field>>, Memory>
-    requires few { length blocks.now ≤ 3000 }
+    requires few { length blocks.now ≤ most_items }
     requires classes { All (λ block. block.class < length day.now.params.pools) blocks.now }
     ensures { IfOk result (λ rows. rows ≡ number_rows (numbered (block_row_of day.now) 1 blocks.now)) }
 {
@@ -51,7 +52,7 @@ fn block_rows(alloc: Global, day: &Day, blocks: &[Column]) -> Result<Seq<Seq<Fie
 
 /// The row of a block in X_UMLAUF.
 fn cost_row(alloc: Global, number: u32, pool: &Pool, cost: u64) -> Result<Seq<Field>, Memory>
-    requires { cost ≤ 4000000000 }
+    requires { cost ≤ most_worth }
     ensures { IfOk result (λ row. row ≡ row_of (cost_numbers number pool.now cost)) }
 {
     number_row(
@@ -66,7 +67,7 @@ fn cost_row(alloc: Global, number: u32, pool: &Pool, cost: u64) -> Result<Seq<Fi
 
 /// The rows of X_UMLAUF.
 fn cost_rows(alloc: Global, day: &Day, blocks: &[Column]) -> Result<Seq<Seq<Field>>, Memory>
-    requires few { length blocks.now ≤ 3000 }
+    requires few { length blocks.now ≤ most_items }
     requires classes { All (λ block. block.class < length day.now.params.pools) blocks.now }
     requires cheap { AreCheap blocks.now }
     ensures { IfOk result (λ rows. rows ≡ number_rows (numbered (cost_row_of day.now) 1 blocks.now)) }
@@ -83,7 +84,7 @@ fn cost_rows(alloc: Global, day: &Day, blocks: &[Column]) -> Result<Seq<Seq<Fiel
 /// The table REC_UMLAUF of blocks: for each the version and kind of the day, its number from 1, the points where it begins and ends,
 /// and the type of its vehicle.
 pub(crate) fn block_table(alloc: Global, day: &Day, blocks: &[Column]) -> Result<Table, Memory>
-    requires few { length blocks.now ≤ 3000 }
+    requires few { length blocks.now ≤ most_items }
     requires classes { All (λ block. block.class < length day.now.params.pools) blocks.now }
     ensures table { IfOk result (λ table. table ≡ block_table_of day.now blocks.now) }
     ensures plain { IfOk result (λ table. is_plain_table table ≡ true) }
@@ -108,7 +109,7 @@ pub(crate) fn block_table(alloc: Global, day: &Day, blocks: &[Column]) -> Result
 
 /// The table X_UMLAUF of blocks: for each its number from 1, its pool and its cost.
 pub(crate) fn cost_table(alloc: Global, day: &Day, blocks: &[Column]) -> Result<Table, Memory>
-    requires few { length blocks.now ≤ 3000 }
+    requires few { length blocks.now ≤ most_items }
     requires classes { All (λ block. block.class < length day.now.params.pools) blocks.now }
     requires cheap { AreCheap blocks.now }
     ensures table { IfOk result (λ table. table ≡ cost_table_of day.now blocks.now) }

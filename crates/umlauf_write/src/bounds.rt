@@ -1,6 +1,7 @@
 //! The table of bounds.
 
 ghost use Rattle.std.specs.Prelude.{◌≡◌, ◌<◌, ◌≤◌, ◌^◌, ◌+◌, ◌∷◌, [], true, All, IfOk, length};
+ghost use Rattle.plan_core.specs.Limits.{most_items};
 ghost use Rattle.cover_core.specs.FirstLeast.{AreCheap};
 ghost use Rattle.cover_core.specs.Plans.{cost};
 ghost use Rattle.vdv451_text.specs.Plain.{is_plain_table};
@@ -15,7 +16,7 @@ use vdv451_text::{Field, Table};
 
 /// The cost of a plan, which is small.
 fn small_cost(plan: &Plan) -> u64
-    requires few { length plan.now.columns ≤ 3000 }
+    requires few { length plan.now.columns ≤ most_items }
     requires cheap { AreCheap plan.now.columns }
     ensures value { result ≡ cost plan.now.columns }
     ensures small { result < 2 ^ 63 }
@@ -55,8 +56,8 @@ pub(crate) fn bound_table(
     duties: &Plan,
     bounds: &[u64],
 ) -> Result<Table, Memory>
-    requires few_blocks { length blocks.now.columns ≤ 3000 }
-    requires few_duties { length duties.now.columns ≤ 3000 }
+    requires few_blocks { length blocks.now.columns ≤ most_items }
+    requires few_duties { length duties.now.columns ≤ most_items }
     requires cheap_blocks { AreCheap blocks.now.columns }
     requires cheap_duties { AreCheap duties.now.columns }
     requires passes { length bounds.now ≤ 4 }

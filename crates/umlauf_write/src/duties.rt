@@ -1,6 +1,7 @@
 //! The tables of duties.
 
 ghost use Rattle.std.specs.Prelude.{◌≡◌, ◌<◌, ◌≤◌, ◌^◌, ◌+◌, ◌*◌, ◌++◌, true, All, IfOk, OnOk, length, pos};
+ghost use Rattle.plan_core.specs.Limits.{most_items, most_worth};
 ghost use Rattle.cover_core.specs.FirstLeast.{AreCheap};
 ghost use Rattle.plan_params.specs.Limits.{IsGroup};
 ghost use Rattle.vdv451_text.specs.Plain.{is_plain_table};
@@ -83,7 +84,7 @@ fn sign_off(day: &Day, group: &Group, last: &Piece) -> Option<i64>
 /// The seconds driven on the pieces of a duty.
 fn driving_of(pieces: &[Piece], items: &[u32]) -> i64
     requires pieces { All IsPiece pieces.now }
-    requires few { length items.now ≤ 3000 }
+    requires few { length items.now ≤ most_items }
     ensures { result ≡ pos (driving_of_spec pieces.now items.now) }
 {
     let mut seconds: u64 = 0;
@@ -104,8 +105,8 @@ fn duty_row(
 ) -> Result<Seq<Field>, Memory>
     requires group { IsGroup group.now }
     requires pieces { All IsPiece pieces.now }
-    requires few { length duty.now.items ≤ 3000 }
-    requires cheap { duty.now.worth ≤ 4000000000 }
+    requires few { length duty.now.items ≤ most_items }
+    requires cheap { duty.now.worth ≤ most_worth }
     requires place { place < 2 ^ 62 }
     ensures { IfOk result (λ row. row ≡ row_of (duty_numbers (place + 1) group.now (sign_on_of day.now group.now (piece_at_of pieces.now (first_of_spec duty.now.items))) (sign_off_of day.now group.now (piece_at_of pieces.now (last_of_spec duty.now.items))) (driving_of_spec pieces.now duty.now.items) duty.now.worth)) }
 {
@@ -136,7 +137,7 @@ fn duty_rows(
 ) -> Result<Seq<Seq<Field>>, Memory>
     requires pieces { All IsPiece pieces.now }
     requires classes { All (λ duty. duty.class < length day.now.params.groups) duties.now }
-    requires items { All (λ duty. length duty.items ≤ 3000) duties.now }
+    requires items { All (λ duty. length duty.items ≤ most_items) duties.now }
     requires cheap { AreCheap duties.now }
     ensures { IfOk result (λ rows. rows ≡ signed_rows (numbered (duty_row_of day.now pieces.now) 1 duties.now)) }
 {
@@ -159,7 +160,7 @@ pub(crate) fn duty_table(
 ) -> Result<Table, Memory>
     requires pieces { All IsPiece pieces.now }
     requires classes { All (λ duty. duty.class < length day.now.params.groups) duties.now }
-    requires items { All (λ duty. length duty.items ≤ 3000) duties.now }
+    requires items { All (λ duty. length duty.items ≤ most_items) duties.now }
     requires cheap { AreCheap duties.now }
     ensures table { IfOk result (λ table. table ≡ duty_table_of day.now pieces.now duties.now) }
     ensures plain { IfOk result (λ table. is_plain_table table ≡ true) }

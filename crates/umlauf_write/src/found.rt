@@ -2,6 +2,7 @@
 
 ghost use Rattle.std.specs.Prelude.{◌≡◌, ◌<◌, ◌≤◌, ◌^◌, true, [], All, IsTrue, IfOk, codes, filter, length, unwrap_or};
 ghost use Rattle.std.specs.List.{find};
+ghost use Rattle.plan_core.specs.Limits.{most_items};
 ghost use Rattle.cover_core.specs.Cover.{AllBelow};
 ghost use Rattle.vdv451_text.specs.Plain.{is_plain_table};
 ghost use Rattle.vdv452_rows.specs.Cells.{whole_number as whole_number_of};
@@ -93,7 +94,7 @@ fn found_rows(
 ) -> Result<Seq<Seq<Field>>, Memory>
     requires plain { IsTrue (is_plain_table table.now) }
     requires one { All (λ trip. HasOneRow table.now day.now.kind.version trip.fid) day.now.trips }
-    requires few { length blocks.now ≤ 3000 }
+    requires few { length blocks.now ≤ most_items }
     requires items { All (λ block. AllBelow (length day.now.trips) block.items) blocks.now }
     ensures { IfOk result (λ rows. rows ≡ numbered (found_row table.now day.now.kind.version blocks.now) 0 day.now.trips) }
 {
@@ -120,7 +121,7 @@ pub(crate) fn found_table(
 ) -> Result<Table, Memory>
     requires plain { IsTrue (is_plain_table table.now) }
     requires one { All (λ trip. HasOneRow table.now day.now.kind.version trip.fid) day.now.trips }
-    requires few { length blocks.now ≤ 3000 }
+    requires few { length blocks.now ≤ most_items }
     requires items { All (λ block. AllBelow (length day.now.trips) block.items) blocks.now }
     ensures table { IfOk result (λ written. written ≡ found_table_of day.now table.now blocks.now) }
     ensures plain { IfOk result (λ written. is_plain_table written ≡ true) }

@@ -2,6 +2,7 @@
 
 ghost use Rattle.std.specs.Prelude.{◌≡◌, ◌==◌, ◌+◌, ◌<◌, ◌≤◌, ℕ, All, IfOk, length, slice_index, if◌then◌else◌};
 ghost use Rattle.std.specs.List.{list_any};
+ghost use Rattle.plan_core.specs.Limits.{most_items};
 ghost use Rattle.cover_core.specs.Cover.{AllBelow};
 ghost use Rattle.umlauf_write.specs.Tables.{block_of};
 
@@ -32,7 +33,7 @@ pub(crate) fn block_numbers(
     trips: usize,
     blocks: &[Column],
 ) -> Result<Vec<u32>, Memory>
-    requires few { length blocks.now ≤ 3000 }
+    requires few { length blocks.now ≤ most_items }
     requires items { All (λ block. AllBelow trips block.items) blocks.now }
     ensures count { IfOk result (λ numbers. length numbers.items ≡ trips) }
     ensures numbers { IfOk result (λ numbers. (trip : ℕ) → trip < trips → slice_index numbers.items trip ≡ block_of 1 blocks.now trip) }

@@ -1,6 +1,7 @@
 //! The tables of a plan.
 
 ghost use Rattle.std.specs.Prelude.{◌≡◌, ◌<◌, ◌≤◌, ◌^◌, All, IsTrue, IfOk, length};
+ghost use Rattle.plan_core.specs.Limits.{most_items};
 ghost use Rattle.cover_core.specs.Cover.{AllBelow};
 ghost use Rattle.cover_core.specs.FirstLeast.{AreCheap};
 ghost use Rattle.vdv451_text.specs.Plain.{are_plain, is_plain_table};
@@ -34,7 +35,7 @@ pub fn block_tables(
 ) -> Result<Seq<Table>, Memory>
     requires plain { IsTrue (is_plain_table rec_frt.now) }
     requires rows { All (λ place. place < length rec_frt.now.rows) day.now.rows }
-    requires few { length blocks.now.columns ≤ 3000 }
+    requires few { length blocks.now.columns ≤ most_items }
     requires classes { All (λ block. block.class < length day.now.params.pools) blocks.now.columns }
     requires items { All (λ block. AllBelow (length day.now.trips) block.items) blocks.now.columns }
     requires cheap { AreCheap blocks.now.columns }
@@ -76,14 +77,14 @@ pub fn plan_tables(
     requires plain { IsTrue (is_plain_table rec_frt.now) }
     requires one { All (λ trip. HasOneRow rec_frt.now day.now.kind.version trip.fid) day.now.trips }
     requires fids { All (λ trip. trip.fid ≤ 10 ^ 18) day.now.trips }
-    requires few_blocks { length answer.now.blocks.columns ≤ 3000 }
+    requires few_blocks { length answer.now.blocks.columns ≤ most_items }
     requires pools { All (λ block. block.class < length day.now.params.pools) answer.now.blocks.columns }
     requires trips { All (λ block. AllBelow (length day.now.trips) block.items) answer.now.blocks.columns }
     requires cheap_blocks { AreCheap answer.now.blocks.columns }
     requires pieces { All IsPiece answer.now.pieces }
-    requires few_duties { length answer.now.duties.columns ≤ 3000 }
+    requires few_duties { length answer.now.duties.columns ≤ most_items }
     requires groups { All (λ duty. duty.class < length day.now.params.groups) answer.now.duties.columns }
-    requires parts { All (λ duty. length duty.items ≤ 3000) answer.now.duties.columns }
+    requires parts { All (λ duty. length duty.items ≤ most_items) answer.now.duties.columns }
     requires cheap_duties { AreCheap answer.now.duties.columns }
     requires passes { length answer.now.bounds ≤ 4 }
     requires bounds { All (λ bound. bound < 2 ^ 63) answer.now.bounds }

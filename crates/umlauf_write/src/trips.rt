@@ -1,6 +1,7 @@
 //! The table REC_FRT of the trips of a plan.
 
 ghost use Rattle.std.specs.Prelude.{◌≡◌, ◌<◌, ◌≤◌, ℕ, true, [], All, IsTrue, IfOk, IfSome, codes, length, slice_get, slice_index, slice_index_or};
+ghost use Rattle.plan_core.specs.Limits.{most_items};
 ghost use Rattle.cover_core.specs.Cover.{AllBelow};
 ghost use Rattle.vdv451_text.specs.Plain.{is_plain_table};
 ghost use Rattle.umlauf_write.specs.Tables.{block_of, format_at, numbered, trip_row as trip_row_of, trip_table as trip_table_of, uid_field as uid_field_of, with_uid as with_uid_of};
@@ -68,7 +69,7 @@ fn trip_rows(
 ) -> Result<Seq<Seq<Field>>, Memory>
     requires plain { IsTrue (is_plain_table table.now) }
     requires rows { All (λ place. place < length table.now.rows) day.now.rows }
-    requires few { length blocks.now ≤ 3000 }
+    requires few { length blocks.now ≤ most_items }
     requires items { All (λ block. AllBelow (length day.now.trips) block.items) blocks.now }
     ensures { IfOk result (λ rows. rows ≡ numbered (trip_row_of table.now blocks.now) 0 day.now.rows) }
 {
@@ -92,7 +93,7 @@ pub(crate) fn trip_table(
 ) -> Result<Table, Memory>
     requires plain { IsTrue (is_plain_table table.now) }
     requires rows { All (λ place. place < length table.now.rows) day.now.rows }
-    requires few { length blocks.now ≤ 3000 }
+    requires few { length blocks.now ≤ most_items }
     requires items { All (λ block. AllBelow (length day.now.trips) block.items) blocks.now }
     ensures table { IfOk result (λ written. written ≡ trip_table_of day.now table.now blocks.now) }
     ensures plain { IfOk result (λ written. is_plain_table written ≡ true) }

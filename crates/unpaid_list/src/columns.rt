@@ -2,6 +2,7 @@
 #![tactic(auto)]
 
 ghost use Rattle.std.specs.Prelude.{◌≡◌, ◌<◌, ◌≤◌, ◌<ℤ◌, ◌-ℤ◌, neg_ℤ, pos, IfOk, IfSome, IfNone, None, length};
+ghost use Rattle.plan_core.specs.Limits.{most_worth};
 ghost use Rattle.cover_core.specs.Cover.{AllBelow};
 ghost use Rattle.cover_core.specs.FirstLeast.{IsAtMostAll, value};
 ghost use Rattle.cover_core.specs.Plans.{number_at};
@@ -47,7 +48,7 @@ fn class_unpaid<C: Columns, M: ValuedLists>(
     ensures least { IfOk result (λ answer. IfSome answer (λ column. IsLeastOfClass (C.problem columns.now) (M.prices m.now) class column)) }
     ensures unpaid { IfOk result (λ answer. IfSome answer (λ column. value (M.prices m.now) column <ℤ neg_ℤ class_price)) }
     ensures none { IfOk result (λ answer. IfNone answer (IsAtMostAll (C.problem columns.now) (M.prices m.now) class (neg_ℤ class_price))) }
-    ensures bound { IfOk result (λ answer. IfSome answer (λ column. column.worth ≤ 4000000000)) }
+    ensures bound { IfOk result (λ answer. IfSome answer (λ column. column.worth ≤ most_worth)) }
 {
     let labels = ClassLabels { m, class };
     match search(alloc, &labels, &[], limit_of(class_price))? {
@@ -77,7 +78,7 @@ pub fn first_unpaid<C: Columns, M: ValuedLists>(
     ensures first { IfOk result (λ answer. IfSome answer (λ column. IsFirstUnpaid (C.problem columns.now) (M.prices m.now) class_prices.now column)) }
     ensures none { IfOk result (λ answer. IfNone answer (AreClassesPaid (C.problem columns.now) (M.prices m.now) class_prices.now (length (C.problem columns.now).caps))) }
     ensures onto { IfOk result (λ answer. AreClassesPaid (C.problem columns.now) (M.prices m.now) class_prices.now (length (C.problem columns.now).caps) → answer ≡ None) }
-    ensures bound { IfOk result (λ answer. IfSome answer (λ column. column.worth ≤ 4000000000)) }
+    ensures bound { IfOk result (λ answer. IfSome answer (λ column. column.worth ≤ most_worth)) }
 {
     for class in 0..columns.classes() {
         match class_unpaid(alloc, columns, m, class, price_of(class_prices, class))? {

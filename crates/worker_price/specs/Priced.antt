@@ -2,6 +2,7 @@
 use Rattle.std.specs.Prelude.{◌≡◌, ◌<◌, ◌≤◌, neg_ℤ, ◌≤ℤ◌, ◌⊎◌, Some, ℕ, ℤ, pos, ◌+◌, ◌/◌, ◌&&◌, ◌+ℤ◌, int_lt, int_le, Bool, List, [], ◌∷◌, map, length}
 use Rattle.std.specs.List.{filter, filter_map, flat_map, range_with_len}
 use Rattle.std.specs.Int.{int_min}
+use Rattle.plan_core.specs.Limits.{most_items, most_price}
 use Rattle.plan_core.specs.declared.Price.{Price}
 use Rattle.cover_core.specs.declared.Column.{Column}
 use Rattle.cover_core.specs.Cover.{Problem}
@@ -55,5 +56,5 @@ LeastIsOfLists p = (prices : List Price) (class : ℕ) → class < length p.caps
 -- where prices are within 10,000,000,000,000 and there are at most 3,000 of them, no least value is below -30,000,000,000,000,000
 abbrev pub LeastIsBounded : Problem → Type 0
 LeastIsBounded p =
-    (prices : List Price) (class : ℕ) → p.items ≤ 3000 → AllWithin 10000000000000 prices → class < length p.caps →
+    (prices : List Price) (class : ℕ) → p.items ≤ most_items → AllWithin most_price prices → class < length p.caps →
     neg_ℤ (pos 30000000000000000) ≤ℤ least_of p prices class

@@ -2,6 +2,7 @@
 use Rattle.std.specs.Prelude.{◌≡◌, ℕ, ℤ, pos, negsuc, ◌+◌, ◌*◌, ◌/◌, ◌%◌, ◌<◌, ◌≤◌, ◌⊎◌, List, [], ◌∷◌, ◌++◌, map, max, length, Option, Some, None, IfSome, All}
 use Rattle.std.specs.List.{AllZip}
 use Rattle.std.specs.Int.{int_min}
+use Rattle.plan_core.specs.Limits.{most_price, most_worth}
 use Rattle.plan_core.specs.declared.Price.{Price}
 use Rattle.cover_core.specs.declared.Column.{Column}
 use Rattle.cover_core.specs.Cover.{Problem, Rises, AllBelow}
@@ -21,7 +22,7 @@ IsBoardFor p board = extent_of board ≡ extent (length p.caps * groups_of p.ite
 
 -- there is a price for each item, each from -10,000,000,000,000 to 10,000,000,000,000
 abbrev pub ArePricesFor : Problem → List Price → Type 0
-ArePricesFor p prices = (length prices ≡ p.items) × AllWithin 10000000000000 prices
+ArePricesFor p prices = (length prices ≡ p.items) × AllWithin most_price prices
 
 -- half, rounded down
 abbrev pub half : ℤ → ℤ
@@ -90,7 +91,7 @@ pub record IsSound (prices : List Price) (class : ℕ) (c : Column) : Type 0 whe
   pub of_class : c.class ≡ class
   pub rises : Rises c.items
   pub items : AllBelow (length prices) c.items
-  pub cheap : c.worth ≤ 4000000000
+  pub cheap : c.worth ≤ most_worth
 
 -- what was found is a task of so many classes and groups, with such a column of its class if there is one
 pub record IsSoundFound (prices : List Price) (classes groups : ℕ) (f : Found) : Type 0 where

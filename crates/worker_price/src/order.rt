@@ -2,6 +2,7 @@
 
 ghost use Rattle.std.specs.Prelude.{◌≡◌, ◌*◌, ◌/◌, ◌<◌, ◌≤◌, ℕ, ℤ, pos, length, map, replicate, None, All, IfOk, IfSome};
 ghost use Rattle.std.specs.List.{filter_map, range_with_len};
+ghost use Rattle.plan_core.specs.Limits.{most_items, most_price};
 ghost use Rattle.cover_core.specs.FirstLeast.{AllWithin};
 ghost use Rattle.worker_price.specs.Work.{lowerings, IsSound, IsSoundFound};
 ghost use Rattle.worker_price.specs.Gathered.{least_lowered};
@@ -24,8 +25,8 @@ fn zeros(alloc: Global, count: u32) -> Result<Seq<i64>, Memory>
 /// Lowers the least value of a class to that of a column, if there is one and its value is less.
 fn lower_least(least: &mut Seq<i64>, prices: &Prices, class: u32, column: &Option<Column>)
     requires class { class < length least.old }
-    requires few { length prices.now.items ≤ 3000 }
-    requires moderate { AllWithin 10000000000000 prices.now.items }
+    requires few { length prices.now.items ≤ most_items }
+    requires moderate { AllWithin most_price prices.now.items }
     requires sound { IfSome column.now (IsSound prices.now.items class) }
     ensures { least.new ≡ least_after prices.now.items least.old class column.now }
 {
@@ -43,8 +44,8 @@ pub(crate) fn least_found(
     found: &[Found],
     prices: &Prices,
 ) -> Result<Seq<i64>, Memory>
-    requires few { length prices.now.items ≤ 3000 }
-    requires moderate { AllWithin 10000000000000 prices.now.items }
+    requires few { length prices.now.items ≤ most_items }
+    requires moderate { AllWithin most_price prices.now.items }
     requires sound { All (IsSoundFound prices.now.items classes groups) found.now }
     ensures { IfOk result (λ least. least ≡ map (least_lowered (lowerings prices.now.items groups found.now)) (range_with_len 0 classes)) }
 {
@@ -58,8 +59,8 @@ pub(crate) fn least_found(
 /// The column of a class where it is kept: its value is below 0 and twice its value is at most the least of the class.
 fn keep(least: &Seq<i64>, prices: &Prices, class: u32, column: Option<Column>) -> Option<Column>
     requires class { class < length least.now }
-    requires few { length prices.now.items ≤ 3000 }
-    requires moderate { AllWithin 10000000000000 prices.now.items }
+    requires few { length prices.now.items ≤ most_items }
+    requires moderate { AllWithin most_price prices.now.items }
     requires sound { IfSome column (IsSound prices.now.items class) }
     ensures { result ≡ kept prices.now.items least.now class column }
 {
@@ -94,8 +95,8 @@ pub(crate) fn kept_slots<P: Pricer>(
     _pricer: &P,
 ) -> Result<Seq<Option<Column>>, Memory>
     requires classes { classes ≡ length least.now }
-    requires few { length prices.now.items ≤ 3000 }
-    requires moderate { AllWithin 10000000000000 prices.now.items }
+    requires few { length prices.now.items ≤ most_items }
+    requires moderate { AllWithin most_price prices.now.items }
     requires tasks { classes * groups < 4294967296 }
     requires sound { All (IsSoundFound prices.now.items classes groups) found.items }
     requires all { IsFoundOfAll (classes * groups) found.items }

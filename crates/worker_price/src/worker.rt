@@ -1,6 +1,7 @@
 //! One worker at a board.
 
 ghost use Rattle.std.specs.Prelude.{◌≡◌, ◌+◌, ◌*◌, ◌/◌, ◌%◌, ◌<◌, ◌≤◌, ℤ, length, max, IfOk, IfErr, IfSome};
+ghost use Rattle.plan_core.specs.Limits.{most_items, most_price};
 ghost use Rattle.cover_core.specs.Best.{best_of, within};
 ghost use Rattle.cover_core.specs.FirstLeast.{AllWithin};
 ghost use Rattle.task_board.specs.Sheets.{looked};
@@ -31,7 +32,7 @@ pub(crate) fn limit(seen: i64) -> i64
 /// How many groups the items have.
 pub(crate) fn group_count<C: Columns>(columns: &C) -> u32
     ensures value { result ≡ groups_of (C.problem columns.now).items }
-    ensures few { (C.problem columns.now).items ≤ 3000 }
+    ensures few { (C.problem columns.now).items ≤ most_items }
 {
     columns.items().div_ceil(16)
 }
@@ -59,8 +60,8 @@ fn best<P: Pricer>(
 fn lower_by(board: &Board, desk: &mut Desk, prices: &Prices, class: u32, column: &Option<Column>)
     requires desk { IsDeskOf board.now desk.old }
     requires class { class < (extent_of board.now).classes }
-    requires few { length prices.now.items ≤ 3000 }
-    requires moderate { AllWithin 10000000000000 prices.now.items }
+    requires few { length prices.now.items ≤ most_items }
+    requires moderate { AllWithin most_price prices.now.items }
     requires sound { IfSome column.now (IsSound prices.now.items class) }
     ensures desk { IsDeskOf board.now desk.new }
     ensures sheet { sheet_of desk.new ≡ lowered_by_all (sheet_of desk.old) (lowering prices.now.items class column.now) }
