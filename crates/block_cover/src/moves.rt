@@ -25,7 +25,7 @@ use trip_times::Trip;
 const LONGEST_DRIVING: u64 = 16_200;
 
 /// What seconds cost at a rate.
-fn charged(rate: u32, seconds: u32) -> u64
+fn cost_at_rate(rate: u32, seconds: u32) -> u64
     requires rate { rate ≤ most_rate }
     requires seconds { seconds ≤ 345600 }
     ensures value { result ≡ rate * seconds }
@@ -44,13 +44,13 @@ fn link_cost(pool: &Pool, next: &Trip, link: Link) -> u64
     match link {
         Link::Direct { dead, stand } => {
             let stood = if next.from == pool.depot { 0 } else { stand };
-            charged(pool.dead_rate, dead) + charged(pool.stand_rate, stood)
+            cost_at_rate(pool.dead_rate, dead) + cost_at_rate(pool.stand_rate, stood)
         }
         Link::Depot {
             inward,
             outward,
             ..
-        } => charged(pool.dead_rate, inward + outward),
+        } => cost_at_rate(pool.dead_rate, inward + outward),
     }
 }
 
@@ -61,7 +61,7 @@ fn first_cost(pool: &Pool, out: u32) -> u64
     ensures value { result ≡ pool.now.fixed + pool.now.dead_rate * out }
     ensures bound { result ≤ 6912000000 }
 {
-    u64::from(pool.fixed) + charged(pool.dead_rate, out)
+    u64::from(pool.fixed) + cost_at_rate(pool.dead_rate, out)
 }
 
 /// What a pull-in costs.
@@ -71,7 +71,7 @@ fn last_cost(pool: &Pool, inward: u32) -> u64
     ensures value { result ≡ pool.now.dead_rate * inward }
     ensures bound { result ≤ 6912000000 }
 {
-    charged(pool.dead_rate, inward)
+    cost_at_rate(pool.dead_rate, inward)
 }
 
 /// What a cost adds to a value: a thousand times it, or nothing where blocks are counted.
@@ -162,7 +162,7 @@ fn is_cut(day: &Day, pool: &Pool, at: Point, stand: u32) -> bool
 }
 
 /// An open block whose driving keeps the limit.
-fn kept(made: OpenMark) -> Option<OpenMark>
+fn mark_within_limit(made: OpenMark) -> Option<OpenMark>
     ensures { option_map seen_mark result ≡ rules.kept (seen_mark made) }
 {
     if made.driving <= LONGEST_DRIVING {
@@ -186,7 +186,7 @@ fn driven_on(
     ensures { option_map seen_mark result ≡ rules.driven_on cut first second class value trip }
 {
     if !cut {
-        return kept(OpenMark {
+        return mark_within_limit(OpenMark {
             class,
             trip,
             driving: first + second,
@@ -194,7 +194,7 @@ fn driven_on(
         });
     }
     if first <= LONGEST_DRIVING {
-        kept(OpenMark {
+        mark_within_limit(OpenMark {
             class,
             trip,
             driving: second,
@@ -263,7 +263,7 @@ pub(crate) fn first_made(
     }
     let out = day.pull_out(class, item)?;
     let cost = first_cost(pool, out);
-    kept(OpenMark {
+    mark_within_limit(OpenMark {
         class,
         trip: item,
         driving: u64::from(out) + trip_seconds(trip),

@@ -39,7 +39,7 @@ fn is_cut(day: &Day, pool: &Pool, leg: &Leg) -> bool
 }
 
 /// A piece of one leg.
-fn begun(block: u32, index: u32, leg: &Leg) -> Piece
+fn piece_of_leg(block: u32, index: u32, leg: &Leg) -> Piece
     requires { IsAfter None leg.now }
     ensures value { result ≡ begun_of block index leg.now }
     ensures shift { IsShift result }
@@ -56,7 +56,7 @@ fn begun(block: u32, index: u32, leg: &Leg) -> Piece
 }
 
 /// A piece with one leg more.
-fn continued(piece: Piece, leg: &Leg) -> Piece
+fn longer_piece(piece: Piece, leg: &Leg) -> Piece
     requires { IsAfter (Some piece) leg.now }
     ensures value { result ≡ continued_of piece leg.now }
     ensures shift { IsShift result }
@@ -70,14 +70,14 @@ fn continued(piece: Piece, leg: &Leg) -> Piece
 }
 
 /// The piece that is begun, with one leg more.
-fn grown(block: u32, index: u32, held: Option<Piece>, leg: &Leg) -> Piece
+fn open_piece(block: u32, index: u32, held: Option<Piece>, leg: &Leg) -> Piece
     requires { IsAfter held leg.now }
     ensures value { result ≡ grown_of block index held leg.now }
     ensures shift { IsShift result }
 {
     match held {
-        None => begun(block, index, leg),
-        Some(piece) => continued(piece, leg),
+        None => piece_of_leg(block, index, leg),
+        Some(piece) => longer_piece(piece, leg),
     }
 }
 
@@ -138,7 +138,7 @@ fn cut_leg(
     }
     Ok(Cutting {
         index: at.index,
-        held: Some(grown(block, at.index, at.held, leg)),
+        held: Some(open_piece(block, at.index, at.held, leg)),
     })
 }
 

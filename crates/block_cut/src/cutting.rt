@@ -36,7 +36,7 @@ fn add_block(
 }
 
 /// The pieces of blocks that are numbered from 1, block after block.
-fn collected(alloc: Global, day: &Day, blocks: &[Column]) -> Result<Seq<Piece>, Memory>
+fn pieces_of_blocks(alloc: Global, day: &Day, blocks: &[Column]) -> Result<Seq<Piece>, Memory>
     requires few { length blocks.now ≤ most_items }
     requires worths { All (HasWorth day.now) blocks.now }
     ensures pieces { IfOk result (λ pieces. pieces ≡ pieces_by_block day.now 1 blocks.now) }
@@ -83,6 +83,6 @@ pub fn cut(alloc: Global, day: &Day, blocks: &Plan) -> Result<Seq<Piece>, Memory
     ensures few { IfOk result (λ pieces. length pieces ≤ length (all_items blocks.now.columns)) }
     ensures plan { (p : Problem) → HasListedColumns p → IsPlan p blocks.now.columns → IfOk result (λ pieces. length pieces ≤ p.items) }
 {
-    let pieces = collected(alloc, day, blocks.columns.as_slice())?;
+    let pieces = pieces_of_blocks(alloc, day, blocks.columns.as_slice())?;
     in_order(pieces)
 }

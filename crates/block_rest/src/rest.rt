@@ -11,7 +11,7 @@ ghost use Rattle.depot_network.specs.Network.{blocks_of, is_count};
 ghost use Rattle.block_rest.specs.Rest.{begun_of, may_begin, rests};
 
 use crate::begins::begins;
-use crate::begun::begun;
+use crate::begun::begun_columns;
 use crate::head::Head;
 use crate::pricing::best_list;
 use crate::walk::written_worth;
@@ -96,7 +96,7 @@ impl<'d> BlockRest<'d> {
         ensures heads { IfOk result (λ rest. rest.heads ≡ heads) }
         ensures moment { IfOk result (λ rest. rest.moment ≡ moment) }
     {
-        let begun = begun(alloc, heads.as_slice())?;
+        let begun = begun_columns(alloc, heads.as_slice())?;
         let bodies = bodies(alloc, begun.as_slice(), day.trips().len() as u32)?;
         // The items stand for each trip once, so they are few.
         bodies_stand_for_all();

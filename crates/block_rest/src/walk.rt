@@ -20,7 +20,7 @@ use plan_core::Seq;
 use plan_params::Pool;
 
 /// An open block with further trips, if they may follow.
-fn walked(
+fn block_with_trips(
     net: &PoolNet<'_>,
     class: u32,
     pool: &Pool,
@@ -44,7 +44,7 @@ fn walked(
 }
 
 /// The open block of a list of trips, if it may be one.
-fn opened(net: &PoolNet<'_>, class: u32, pool: &Pool, list: &[u32]) -> Option<OpenBlock>
+fn block_of_trips(net: &PoolNet<'_>, class: u32, pool: &Pool, list: &[u32]) -> Option<OpenBlock>
     requires pool { slice_get net.now.day.params.pools class ≡ Some pool.now }
     requires ranges { IsPool pool.now }
     requires list { AllBelow (length net.now.day.trips) list.now }
@@ -57,7 +57,7 @@ fn opened(net: &PoolNet<'_>, class: u32, pool: &Pool, list: &[u32]) -> Option<Op
         [] => None,
         [trip, rest @ ..] => {
             let first = net.first_open(class, pool, &[], *trip)?;
-            walked(net, class, pool, first, rest)
+            block_with_trips(net, class, pool, first, rest)
         }
     }
 }
@@ -81,7 +81,7 @@ fn walked_on(
 {
     let mut open = first;
     for item in rest {
-        open = walked(net, class, pool, open, body(bodies, *item))?;
+        open = block_with_trips(net, class, pool, open, body(bodies, *item))?;
     }
     Some(open)
 }
@@ -119,7 +119,7 @@ fn opened_list(
     match list {
         [] => None,
         [item, rest @ ..] => {
-            let first = opened(net, class, pool, body(bodies, *item))?;
+            let first = block_of_trips(net, class, pool, body(bodies, *item))?;
             walked_on(net, class, pool, bodies, first, rest)
         }
     }

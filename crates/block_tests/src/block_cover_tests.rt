@@ -75,7 +75,7 @@ const fn make_case(kind: u32, worth: Worth, prices: (i32, i32), class_price: i64
 }
 
 /// What an answer tells.
-fn told(answer: Result<BlockCover, CoverFault>) -> Made {
+fn outcome_of(answer: Result<BlockCover, CoverFault>) -> Made {
     match answer {
         Ok(cover) => Made::Marks(cover.marks.len(), front(cover.marks.as_slice())),
         Err(CoverFault::Unpaid { column }) => Made::Unpaid(
@@ -91,7 +91,7 @@ fn what_is_made(alloc: Global, case: &Case) -> Result<Made, Fail> {
     let prices = two_prices(alloc, case.prices.0, case.prices.1)?;
     let day = day(alloc, case.kind)?;
     let net = PoolNet::new(&day, case.worth);
-    Ok(told(make_block_cover(alloc, &net, &prices, &[case.class_price])))
+    Ok(outcome_of(make_block_cover(alloc, &net, &prices, &[case.class_price])))
 }
 
 /// Whether this is made of days' blocks.

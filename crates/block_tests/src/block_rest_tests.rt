@@ -42,7 +42,7 @@ fn earlier(alloc: Global, day: &Day) -> Result<Plan, Memory>
 }
 
 /// For each head its class, its trips, and 1 where it is finished.
-fn shown(alloc: Global, heads: &[Head]) -> Result<Seq<u32>, Memory> {
+fn heads_as_numbers(alloc: Global, heads: &[Head]) -> Result<Seq<u32>, Memory> {
     let mut numbers = Seq::new(alloc);
     for head in heads {
         numbers.push(head.class)?;
@@ -60,7 +60,7 @@ fn has_heads(alloc: Global, day: &Day, moment: u32, expected: &[u32]) -> Result<
     }
     let earlier = earlier(alloc, day)?;
     let heads = heads(alloc, day, &earlier, moment)?;
-    Ok(shown(alloc, heads.as_slice())?.as_slice() == expected)
+    Ok(heads_as_numbers(alloc, heads.as_slice())?.as_slice() == expected)
 }
 
 fn has_all_heads(alloc: Global) -> Result<bool, Fail> {
@@ -246,7 +246,7 @@ fn all_trips(alloc: Global, columns: &[Column]) -> Result<Seq<u32>, Memory> {
 }
 
 /// The class and the trips of a column of the rest, written out, if its list has a worth.
-fn expanded(
+fn column_as_numbers(
     alloc: Global,
     rest: &BlockRest<'_>,
     class: u32,
@@ -272,7 +272,7 @@ fn has_columns(alloc: Global, rest: &BlockRest<'_>) -> Result<bool, Memory> {
         (0, &[0, 1], &[]),
     ];
     for (class, list, trips) in rows {
-        if expanded(alloc, rest, class, list)?.as_slice() != trips {
+        if column_as_numbers(alloc, rest, class, list)?.as_slice() != trips {
             return Ok(false);
         }
     }

@@ -98,7 +98,7 @@ fn negative_in(parts: FourParts<'_>) -> Option<Negative>
 }
 
 /// Tests that no class price of a certificate is below 0.
-pub(crate) fn charged(
+pub(crate) fn check_class_prices(
     case: &Case<'_>,
     text: &PlanText,
     blocks: &Plan,

@@ -102,7 +102,7 @@ fn gap_in(
 }
 
 /// Tests that the marks of each part are a cover.
-pub(crate) fn covered(
+pub(crate) fn check_covers(
     alloc: Global,
     case: &Case<'_>,
     text: &PlanText,

@@ -136,7 +136,7 @@ fn new_pieces(
 }
 
 /// A duty over the pieces of the blocks in printed order.
-fn renumbered(
+fn printed_duty(
     alloc: Global,
     blocks: &[Column],
     sorted: &[Column],
@@ -175,7 +175,7 @@ fn renumbered_all(
 {
     let mut made = Seq::new(alloc);
     for duty in duties {
-        made.push(renumbered(alloc, blocks, sorted, pieces, anew, duty)?)?;
+        made.push(printed_duty(alloc, blocks, sorted, pieces, anew, duty)?)?;
     }
     Ok(made)
 }

@@ -6,10 +6,10 @@ ghost use Rattle.cert_check.specs.Reasons.{IsAnswer};
 ghost use Rattle.cert_check.specs.Steps.{IsCase, IsStop};
 
 use crate::blocks::{lawful_blocks, plan_text};
-use crate::bounds::{bounds_shown, certificate, charged};
+use crate::bounds::{bounds_shown, certificate, check_class_prices};
 use crate::case::Case;
 use crate::duties::{block_pieces, lawful_duties};
-use crate::gaps::covered;
+use crate::gaps::check_covers;
 use crate::printing::printed_plan;
 use crate::reason::Answered;
 use crate::stop::Stop;
@@ -18,7 +18,7 @@ use plan_core::Memory;
 use std::alloc::Global;
 
 /// All tests in their order.
-fn judged(alloc: Global, case: &Case<'_>) -> Result<Answered, Stop>
+fn answer_of_tests(alloc: Global, case: &Case<'_>) -> Result<Answered, Stop>
     requires { IsCase case.now }
     ensures answer { IfOk result (IsAnswer case.now) }
     ensures stop { IfErr result (IsStop case.now) }
@@ -29,8 +29,8 @@ fn judged(alloc: Global, case: &Case<'_>) -> Result<Answered, Stop>
     let duties = lawful_duties(alloc, case, &text, &blocks, &pieces)?;
     let anew = printed_plan(alloc, case, &text, &blocks, pieces.as_slice(), &duties)?;
     let cert = certificate(alloc, case, &text, &blocks, &duties, anew.len() as u32)?;
-    charged(case, &text, &blocks, &duties, &cert)?;
-    covered(alloc, case, &text, &blocks, &duties, &anew, &cert)?;
+    check_class_prices(case, &text, &blocks, &duties, &cert)?;
+    check_covers(alloc, case, &text, &blocks, &duties, &anew, &cert)?;
     bounds_shown(alloc, case, &text, &blocks, &duties, &cert)?;
     Ok(Answered::Yes {
         vehicles: blocks.columns.len() as u64,
@@ -58,7 +58,7 @@ pub fn check(alloc: Global, case: &Case<'_>) -> Result<Answered, Memory>
     requires { IsCase case.now }
     ensures { IfOk result (IsAnswer case.now) }
 {
-    match judged(alloc, case) {
+    match answer_of_tests(alloc, case) {
         Ok(answer) => Ok(answer),
         Err(Stop::Against(reason)) => Ok(Answered::No(reason)),
         Err(Stop::Memory) => Err(Memory),

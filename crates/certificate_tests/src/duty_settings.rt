@@ -101,7 +101,7 @@ const DEPOT: Point = Point { typ: 2, nr: 9 };
 const STOP: Point = Point { typ: 1, nr: 2 };
 
 /// How long a piece lasts.
-fn lasting(begin: i64, end: i64) -> i64
+fn duration(begin: i64, end: i64) -> i64
     requires begin { pos 0 ≤ℤ begin }
     requires order { begin ≤ℤ end }
     ensures { result ≡ end -ℤ begin }
@@ -114,7 +114,7 @@ fn is_shift(piece: &Piece) -> bool
     ensures { IsTrue result ↔ IsShift piece.now }
 {
     let (begin, end) = (piece.begin.0, piece.end.0);
-    0 <= begin && begin <= end && end <= 345_600 && piece.driving as i64 <= lasting(begin, end)
+    0 <= begin && begin <= end && end <= 345_600 && piece.driving as i64 <= duration(begin, end)
 }
 
 fn are_shifts(pieces: &[Piece]) -> bool

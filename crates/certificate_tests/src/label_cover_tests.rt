@@ -61,7 +61,7 @@ fn counted_marks() -> [Mark; 3] {
 }
 
 /// These marks without the one at a place, with another one behind them.
-fn changed(
+fn marks_with_change(
     alloc: Global,
     marks: [Mark; 3],
     without: Option<usize>,
@@ -140,7 +140,7 @@ fn has_gap(
         with,
         gap,
     } = change;
-    let marks = changed(alloc, counted_marks(), without, with)?;
+    let marks = marks_with_change(alloc, counted_marks(), without, with)?;
     Ok(gap_of(net, prices, class_price, marks) == Some(gap))
 }
 
@@ -190,7 +190,7 @@ fn covers_and_gaps(rt: HostRuntime) -> Result<(), Fail> {
 }
 
 /// The marks of the cover, or the unpaid duty that there is.
-fn covered(
+fn cover_or_duty(
     alloc: Global,
     net: &DutyNet<'_>,
     prices: &Prices,
@@ -212,7 +212,7 @@ fn covered(
 fn unpaid_of(alloc: Global, net: &DutyNet<'_>, prices: &Prices) -> Result<Option<Column>, Memory>
     requires { AllWithin 3000000000000000 prices.now.items }
 {
-    match covered(alloc, net, prices, 0)? {
+    match cover_or_duty(alloc, net, prices, 0)? {
         Ok(_) => Ok(None),
         Err(column) => Ok(Some(column)),
     }
@@ -330,7 +330,7 @@ fn agrees_in(
 ) -> Result<bool, Memory>
     requires { AllWithin 3000000000000000 prices.now.items }
 {
-    match covered(alloc, net, prices, CLASS_PRICE)? {
+    match cover_or_duty(alloc, net, prices, CLASS_PRICE)? {
         Ok(marks) => {
             let same = are_best(alloc, net, prices, marks.as_slice(), count)?;
             Ok(same && gap_of(net, prices, CLASS_PRICE, marks) == Some(None))

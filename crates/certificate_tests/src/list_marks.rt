@@ -56,7 +56,7 @@ fn if_open(mark: Mark, end: i64) -> Option<Mark> {
     }
 }
 
-fn begun(net: &DutyNet<'_>, prices: &Prices, item: u32) -> Option<Mark> {
+fn first_mark(net: &DutyNet<'_>, prices: &Prices, item: u32) -> Option<Mark> {
     if item as usize >= net.pieces().len() || net.groups().len() != 1 {
         return None;
     }
@@ -108,7 +108,7 @@ fn mark_of(net: &DutyNet<'_>, prices: &Prices, list: &[u32]) -> Option<Mark> {
     let mut found = None;
     for place in 0..list.len() {
         found = match found {
-            None if place == 0 => begun(net, prices, list[place]),
+            None if place == 0 => first_mark(net, prices, list[place]),
             None => None,
             Some(mark) => gone_on(net, prices, mark, list[place]),
         };

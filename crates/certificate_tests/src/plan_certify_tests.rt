@@ -176,7 +176,7 @@ fn are_few(tables: &[Table]) -> bool
 }
 
 /// The day of few planning tables.
-fn built(alloc: Global, tables: &[Table]) -> Result<Day, Fail>
+fn day_of_tables(alloc: Global, tables: &[Table]) -> Result<Day, Fail>
     requires { All (λ table. length table.rows < 2 ^ 32) tables.now }
 {
     let net = read_tables(alloc, tables, Needs::All)?;
@@ -192,7 +192,7 @@ fn built(alloc: Global, tables: &[Table]) -> Result<Day, Fail>
 /// The day of planning tables.
 fn day_of(alloc: Global, tables: &[Table]) -> Result<Day, Fail> {
     if are_few(tables) {
-        built(alloc, tables)
+        day_of_tables(alloc, tables)
     } else {
         Err(Fail::from("large"))
     }
@@ -201,7 +201,7 @@ fn day_of(alloc: Global, tables: &[Table]) -> Result<Day, Fail> {
 /// The day of a text of planning files.
 fn day_in(alloc: Global, text: &[u8]) -> Result<Day, Fail> {
     let tables = read_file(alloc, text, 100_000)?;
-    built(alloc, tables.as_slice())
+    day_of_tables(alloc, tables.as_slice())
 }
 
 /// The example day. The texts stand in functions of their own, so that no other proof carries them along.

@@ -18,7 +18,7 @@ const CERT_WRITTEN: &str =
     "tbl; X_PREIS\natr; ART; LFD_NR; PREIS\nfrm; num[19.0]; num[19.0]; num[19.0]\nrec; 1; 1; 500\nrec; 1; 2; 500\nrec; 2; 1; 1100000\nrec; 2; 2; 1100000\nrec; 3; 1; 500\nrec; 3; 2; 500\nrec; 4; 1; 5200000\nrec; 4; 2; 5200000\nend; 8\ntbl; X_KLASSENPREIS\natr; ART; KLASSE; PREIS\nfrm; num[19.0]; num[19.0]; num[19.0]\nrec; 1; 1; 0\nrec; 2; 1; 0\nrec; 3; 1; 0\nrec; 4; 1; 0\nend; 4\ntbl; X_MARKE\natr; ART; GRUPPE_NR; STUECK; BEGINN; LENK; VIERTEL; GESAMT; DREI; WERT\nfrm; num[19.0]; num[19.0]; num[19.0]; num[19.0]; num[19.0]; num[19.0]; num[19.0]; num[19.0]; num[19.0]\nrec; 3; 1; 1; 27600; 4200; 0; 4200; 0; 500\nrec; 3; 1; 2; 27600; 8400; 0; 8400; 0; 0\nrec; 3; 1; 2; 31200; 4200; 0; 4200; 0; 500\nrec; 4; 1; 1; 27600; 4200; 0; 4200; 0; -32300000\nrec; 4; 1; 2; 27600; 8400; 0; 8400; 0; -37500000\nrec; 4; 1; 2; 31200; 4200; 0; 4200; 0; -35900000\nend; 6\ntbl; X_UMARKE\natr; ART; HOF_NR; LFD_NR; LENK; WERT\nfrm; num[19.0]; num[19.0]; num[19.0]; num[19.0]; num[19.0]\nrec; 1; 1; 1; 4200; 500\nrec; 1; 1; 2; 3600; 0\nrec; 2; 1; 1; 4200; 500000\nrec; 2; 1; 2; 3600; -600000\nend; 4\neof; 4\n";
 
 /// What a command writes of the network with some changes, and nothing on standard error.
-fn made<R: Threads + Sync>(
+fn text_of_command<R: Threads + Sync>(
     rt: &R,
     alloc: Global,
     command: &str,
@@ -98,7 +98,7 @@ fn is_cert(alloc: Global, text: &Bytes) -> Result<bool, Fail> {
 }
 
 fn is_certified<R: Threads + Sync>(rt: &R, alloc: Global) -> Result<bool, Fail> {
-    let cert = made(rt, alloc, "certify", NO_CHANGE)?;
+    let cert = text_of_command(rt, alloc, "certify", NO_CHANGE)?;
     is_cert(alloc, &cert)
 }
 
@@ -125,8 +125,16 @@ struct Check {
 fn sets_of<R: Threads + Sync>(rt: &R, alloc: Global, check: &Check) -> Result<Sets, Fail> {
     Ok(Sets {
         planning: demo(alloc, check.planning)?,
-        plan: with(alloc, made(rt, alloc, "plan", check.before)?, check.plan)?,
-        cert: with(alloc, made(rt, alloc, "certify", check.before)?, check.cert)?,
+        plan: with(
+            alloc,
+            text_of_command(rt, alloc, "plan", check.before)?,
+            check.plan,
+        )?,
+        cert: with(
+            alloc,
+            text_of_command(rt, alloc, "certify", check.before)?,
+            check.cert,
+        )?,
     })
 }
 
@@ -603,7 +611,11 @@ const OLD: [Old; 7] = [
 
 fn is_old<R: Threads + Sync>(rt: &R, alloc: Global, row: Old) -> Result<bool, Fail> {
     let (planning, changes, found) = row;
-    let plan = with(alloc, made(rt, alloc, "plan", NO_CHANGE)?, changes)?;
+    let plan = with(
+        alloc,
+        text_of_command(rt, alloc, "plan", NO_CHANGE)?,
+        changes,
+    )?;
     Ok(old_numbers(alloc, planning, &plan)? == found)
 }
 
@@ -632,7 +644,7 @@ fn earlier_plans_are_checked(rt: HostRuntime) -> Result<(), Fail> {
 
 /// Whether a plan of two blocks and two duties stays one where these changes came after it was made.
 fn stays<R: Threads + Sync>(rt: &R, alloc: Global, changes: &[Change]) -> Result<bool, Fail> {
-    let plan = made(rt, alloc, "plan", TOGETHER)?;
+    let plan = text_of_command(rt, alloc, "plan", TOGETHER)?;
     Ok(old_numbers(alloc, changes, &plan)? == [0, 2, 2, 0])
 }
 

@@ -180,7 +180,7 @@ fn any_number_of_workers_writes_one_new_plan(rt: HostRuntime) -> Result<(), Fail
 }
 
 /// A copy of a text.
-fn copied(alloc: Global, text: &Bytes) -> Result<Bytes, Fail> {
+fn copy_of(alloc: Global, text: &Bytes) -> Result<Bytes, Fail> {
     Ok(Bytes::from_vec(text.as_slice().to_vec(alloc)?))
 }
 
@@ -196,9 +196,9 @@ fn text_of_day<R: Threads + Sync>(
     let files = three_files(
         alloc,
         ["f", "g", "p"],
-        copied(alloc, day)?,
+        copy_of(alloc, day)?,
         nothing,
-        copied(alloc, plan)?,
+        copy_of(alloc, plan)?,
     )?;
     let end = end_in_room(rt, alloc, words, files, &NoGate)?;
     text_of(alloc, &end)

@@ -8,7 +8,7 @@ ghost use Rattle.worker_price.specs.Work.{ArePricesFor};
 ghost use Rattle.plan_dive.specs.Grounds.{IsGround, IsStock};
 ghost use Rattle.climb_rounds.specs.Searches.{IsLeft, IsSearch};
 
-use crate::best::{Best, Search, found, improved};
+use crate::best::{Best, Search, exchanged_plan, search_of_plan};
 use column_pool::Pool;
 use cover_core::{Column, Columns, Items, Plan, Pricer, Prices};
 use lagrangian_climb::Span;
@@ -30,7 +30,7 @@ fn no_prices<C: Columns>(alloc: Global, problem: &C) -> Result<Prices, Memory>
 }
 
 /// A plan from no columns, each item put where the cost rises least.
-fn rounded<C: Columns>(alloc: Global, problem: &C) -> Result<Plan, RoundFault>
+fn plan_of_insertion<C: Columns>(alloc: Global, problem: &C) -> Result<Plan, RoundFault>
     ensures plan { IfOk result (λ plan. IsPlan (C.problem problem.now) plan.columns) }
     ensures cheap { IfOk result (λ plan. AreCheap plan.columns) }
     ensures left { IfErr result (IsLeft (C.problem problem.now)) }
@@ -123,7 +123,7 @@ fn first_plan<R: Threads + Sync, P: Pricer + Sync>(
 {
     let stock = Stock::new(alloc, problem)?;
     let cost = single_costs(ground.spans.as_slice());
-    match rounded(alloc, problem) {
+    match plan_of_insertion(alloc, problem) {
         Err(RoundFault::Memory) => Err(Memory),
         Err(RoundFault::NotPlaced { item, partial }) => Ok(Search {
             stock,
@@ -131,8 +131,8 @@ fn first_plan<R: Threads + Sync, P: Pricer + Sync>(
             cost,
         }),
         Ok(plan) => {
-            let plan = improved(alloc, problem, rt, steps, plan)?;
-            found(alloc, problem, stock, plan)
+            let plan = exchanged_plan(alloc, problem, rt, steps, plan)?;
+            search_of_plan(alloc, problem, stock, plan)
         }
     }
 }

@@ -110,7 +110,7 @@ fn add_plan<C: Columns>(
 }
 
 /// A plan after exchange steps.
-pub(crate) fn improved<R: Threads + Sync, P: Pricer + Sync>(
+pub(crate) fn exchanged_plan<R: Threads + Sync, P: Pricer + Sync>(
     alloc: Global,
     problem: &P,
     rt: &R,
@@ -128,7 +128,7 @@ pub(crate) fn improved<R: Threads + Sync, P: Pricer + Sync>(
 }
 
 /// A search whose best plan is this one; its columns are added to the stock.
-pub(crate) fn found<C: Columns>(
+pub(crate) fn search_of_plan<C: Columns>(
     alloc: Global,
     problem: &C,
     stock: Stock,
@@ -164,10 +164,10 @@ pub(crate) fn settle<R: Threads + Sync, P: Pricer + Sync>(
     ensures search { IfOk result (IsSearch (P.problem problem.now)) }
     ensures cheap { IfOk result (λ new. new.cost ≤ cost plan.columns) }
 {
-    let plan = improved(alloc, problem, rt, steps, plan)?;
+    let plan = exchanged_plan(alloc, problem, rt, steps, plan)?;
     if search.has_plan() && search.cost <= cost_of(problem, &plan) {
         return Ok(search);
     }
     let Search { stock, .. } = search;
-    found(alloc, problem, stock, plan)
+    search_of_plan(alloc, problem, stock, plan)
 }

@@ -81,7 +81,7 @@ fn ranks_of<C: Columns>(
 }
 
 /// The columns of a plan in the order in which they are freed.
-fn ranked<C: Columns>(
+fn freeing_order<C: Columns>(
     alloc: Global,
     problem: &C,
     columns: &[Column],
@@ -110,7 +110,7 @@ fn is_freed(rank: usize, turn: usize, width: usize, count: usize) -> bool
 }
 
 /// Which columns of a plan stay: all but those that are freed.
-fn marked(alloc: Global, ranks: &[Rank], turn: usize) -> Result<Seq<bool>, Memory>
+fn stay_marks(alloc: Global, ranks: &[Rank], turn: usize) -> Result<Seq<bool>, Memory>
     requires turn { turn < 40 }
     requires few { length ranks.now ≤ most_items }
     ensures { IfOk result (λ stays. length stays ≡ length ranks.now) }
@@ -154,7 +154,7 @@ fn keep_one<C: Columns>(
 }
 
 /// Copies of the columns that stay.
-fn staying<C: Columns>(
+fn staying_columns<C: Columns>(
     alloc: Global,
     problem: &C,
     columns: &[Column],
@@ -193,9 +193,9 @@ fn stay_of<C: Columns>(
     if columns.len() < 2 {
         return Ok(None);
     }
-    let ranks = ranked(alloc, problem, columns, prices)?;
-    let stays = marked(alloc, ranks.as_slice(), turn)?;
-    Ok(Some(staying(alloc, problem, columns, stays.as_slice())?))
+    let ranks = freeing_order(alloc, problem, columns, prices)?;
+    let stays = stay_marks(alloc, ranks.as_slice(), turn)?;
+    Ok(Some(staying_columns(alloc, problem, columns, stays.as_slice())?))
 }
 
 /// A partial dive: some columns of the best plan are freed, those of great value and others that turn by turn go on through the plan, and

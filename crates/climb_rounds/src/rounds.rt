@@ -23,7 +23,7 @@ use std::alloc::Global;
 use std::thread::Threads;
 
 /// A pace four times as great, from 1 to 512.
-fn raised(pace: u32) -> u32
+fn next_pace(pace: u32) -> u32
     requires { pace ≤ 512 }
     ensures { result ≤ 512 }
 {
@@ -50,7 +50,7 @@ pub(crate) fn climb_often<C: Columns>(
     for _climb in 0..5u32 {
         let pace = course.pace;
         course = climb_once(alloc, problem, ground, stock, rest, &course.prices, pace)?;
-        course.pace = raised(course.pace);
+        course.pace = next_pace(course.pace);
         if !course.grew {
             return Ok(course);
         }

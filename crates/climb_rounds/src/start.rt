@@ -110,7 +110,7 @@ fn set_prices(prices: &mut Seq<Price>, spans: &[Span], list: &[u32], share: i64)
 }
 
 /// The prices at the start: each column of the plan shares its worth equally among its items.
-fn starting<C: Columns>(
+fn start_prices<C: Columns>(
     alloc: Global,
     problem: &C,
     ground: &Ground,
@@ -181,7 +181,7 @@ pub(crate) fn first_walk<C: Columns>(
     requires best { IsBest (C.problem problem.now) best.now }
     ensures { IfOk result (IsWalk (C.problem problem.now)) }
 {
-    let prices = starting(alloc, problem, ground, best)?;
+    let prices = start_prices(alloc, problem, ground, best)?;
     let at = copy_of(alloc, &prices)?;
     let centre = copy_of(alloc, &prices)?;
     let scaled = copy_of(alloc, &prices)?;

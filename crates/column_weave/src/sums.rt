@@ -80,7 +80,7 @@ pub fn is_less(next: Least, best: Least) -> bool
 }
 
 /// A list whose last item is paid.
-fn paid(best: Least, price: i64) -> Least
+fn least_with_price(best: Least, price: i64) -> Least
     requires sum_low { neg_ℤ (pos 100000000000000000) ≤ℤ best.sum }
     requires sum_high { best.sum ≤ℤ pos 100000000000000000 }
     requires low { neg_ℤ (pos most_price) ≤ℤ price }
@@ -111,5 +111,5 @@ pub fn least_at(least: &[Least], links: &[Link], single: Option<i64>, price: i64
             best = next;
         }
     }
-    paid(best, price)
+    least_with_price(best, price)
 }

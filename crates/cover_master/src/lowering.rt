@@ -61,7 +61,7 @@ pub fn lower_items(prices: &mut Seq<Price>, items: &[u32], share: i64)
     for item in items {
         let place = *item as usize;
         let price = price_in(prices, place);
-        prices.set(place, Price(lowered(price, share)));
+        prices.set(place, Price(price_less_share(price, share)));
     }
 }
 
@@ -74,7 +74,7 @@ fn price_in(prices: &Seq<Price>, item: usize) -> i64
 }
 
 /// A price that is lowered by a share.
-fn lowered(price: i64, share: i64) -> i64
+fn price_less_share(price: i64, share: i64) -> i64
     requires price_low { neg_ℤ (pos most_price) ≤ℤ price }
     requires price_high { price ≤ℤ pos most_price }
     requires low { pos 0 ≤ℤ share }

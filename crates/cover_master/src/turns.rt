@@ -107,7 +107,7 @@ fn change(size: i64, times: u32) -> i64
 }
 
 /// The price of such an item after the price step.
-fn moved(price: i64, size: i64, times: u32) -> i64
+fn price_after_step(price: i64, size: i64, times: u32) -> i64
     requires low { neg_ℤ (pos most_price) ≤ℤ price }
     requires high { price ≤ℤ pos most_price }
     requires size_low { pos 0 ≤ℤ size }
@@ -212,7 +212,7 @@ fn moved_prices(
 {
     let mut new = Seq::new(alloc);
     for (item, price) in prices.items.as_slice().iter().enumerate() {
-        new.push(Price(moved(price.0, size, cover[item])))?;
+        new.push(Price(price_after_step(price.0, size, cover[item])))?;
     }
     Ok(new)
 }

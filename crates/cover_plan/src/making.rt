@@ -113,7 +113,7 @@ pub fn count_of<R: Threads + Sync, P: Pricer + Sync, G: Gate + Sync>(
 }
 
 /// A rounded plan after its exchange steps.
-fn improved<R: Threads + Sync, P: Pricer + Sync>(
+fn plan_after_exchange<R: Threads + Sync, P: Pricer + Sync>(
     rt: &R,
     alloc: Global,
     costed: &P,
@@ -162,7 +162,7 @@ fn rounded_plan<R: Threads + Sync, P: Pricer + Sync, G: Gate + Sync>(
                 partial,
             }),
             Err(RoundFault::Memory) => Err(PlanFault::Memory),
-            Ok(plan) => improved(rt, alloc, costed, plan, kept, effort),
+            Ok(plan) => plan_after_exchange(rt, alloc, costed, plan, kept, effort),
         },
     }
 }

@@ -100,7 +100,7 @@ fn links_of_columns(rt: HostRuntime) -> Result<(), Fail> {
 }
 
 /// What is woven of class 0 at prices 1,500, 100 and 4,000.
-fn woven(alloc: Global, fixed: bool, free: u32, asked: i64) -> Result<Seq<Column>, Memory>
+fn woven_columns(alloc: Global, fixed: bool, free: u32, asked: i64) -> Result<Seq<Column>, Memory>
     requires low { pos 0 ≤ℤ asked }
     requires high { asked ≤ℤ pos 1000 }
 {
@@ -123,7 +123,7 @@ fn woven(alloc: Global, fixed: bool, free: u32, asked: i64) -> Result<Seq<Column
 
 /// Whether the one column over a link from item 0 is the list of 0 and 2, of the value -500.
 fn one_is_woven(alloc: Global) -> Result<bool, Memory> {
-    let found = woven(alloc, false, 1, 499)?;
+    let found = woven_columns(alloc, false, 1, 499)?;
     Ok(match found.as_slice() {
         [column] => {
             column.class == 0 && column.worth == 5 && column.items.as_slice() == [0, 2].as_slice()
@@ -138,7 +138,7 @@ fn one_is_woven(alloc: Global) -> Result<bool, Memory> {
 fn weaves(rt: HostRuntime) -> Result<(), Fail> {
     assert!(rt; one_is_woven(rt.alloc())?);
     for (fixed, free, asked) in [(false, 0, 0), (false, 1, 500), (true, 1, 0)] {
-        let none = woven(rt.alloc(), fixed, free, asked)?;
+        let none = woven_columns(rt.alloc(), fixed, free, asked)?;
         assert_eq!(rt; none.len(), 0);
     }
     Ok(())

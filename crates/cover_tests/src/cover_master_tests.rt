@@ -50,7 +50,7 @@ fn empty_pool_raises(alloc: Global) -> Result<bool, Memory> {
 }
 
 /// Two prices of 2,000 after a price step over a column of item 1 and one of item 0, both worth 1, in a class with so many places.
-fn turned(alloc: Global, places: u32) -> Result<Prices, Memory> {
+fn prices_after_step(alloc: Global, places: u32) -> Result<Prices, Memory> {
     let equal = prices(alloc, [Price(2000), Price(2000)].as_slice())?;
     let pool = vec![in alloc;
         column(alloc, 0, 1, [1].as_slice())?,
@@ -64,7 +64,7 @@ fn turned(alloc: Global, places: u32) -> Result<Prices, Memory> {
 fn turns(rt: HostRuntime) -> Result<(), Fail> {
     assert!(rt; empty_pool_raises(rt.alloc())?);
     for (places, first) in [(1, 2500), (2, 2000)] {
-        let turned = turned(rt.alloc(), places)?;
+        let turned = prices_after_step(rt.alloc(), places)?;
         assert_eq!(rt;
             turned.items.as_slice(),
             [Price(first), Price(2000)].as_slice()

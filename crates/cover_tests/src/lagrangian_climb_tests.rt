@@ -74,7 +74,7 @@ fn three_prices(alloc: Global, first: i64, second: i64, third: i64) -> Result<Pr
 }
 
 /// A climb over the nine columns.
-fn climbed(
+fn climb_result(
     alloc: Global,
     start: Prices,
     fixed: [bool; 3],
@@ -132,7 +132,7 @@ fn is_climb(
 #[test]
 fn climb_of_a_rest(rt: HostRuntime) -> Result<(), Fail> {
     let start = three_prices(rt.alloc(), 9000, 9000, 9000)?;
-    let climbed = climbed(rt.alloc(), start, [false, true, false], [1, 1], 8000, 300)?;
+    let climbed = climb_result(rt.alloc(), start, [false, true, false], [1, 1], 8000, 300)?;
     let counts = [0, 0, 0, 1, 0, 99, 0, 0, 100];
     assert!(rt;
         is_climb(
@@ -150,7 +150,7 @@ fn climb_of_a_rest(rt: HostRuntime) -> Result<(), Fail> {
 #[test]
 fn climb_of_all(rt: HostRuntime) -> Result<(), Fail> {
     let start = three_prices(rt.alloc(), 2000, 6000, 3100)?;
-    let climbed = climbed(rt.alloc(), start, [false, false, false], [2, 1], 13000, 512)?;
+    let climbed = climb_result(rt.alloc(), start, [false, false, false], [2, 1], 13000, 512)?;
     let counts = [17, 13, 13, 13, 1, 0, 27, 42, 31];
     assert!(rt; is_climb(&climbed, (11308, 151), [4524, 2901, 4832], [356, 0], counts));
     Ok(())
@@ -160,7 +160,7 @@ fn climb_of_all(rt: HostRuntime) -> Result<(), Fail> {
 #[test]
 fn slow_climb(rt: HostRuntime) -> Result<(), Fail> {
     let start = three_prices(rt.alloc(), 9000, 8000, 4000)?;
-    let climbed = climbed(rt.alloc(), start, [false, false, false], [1, 1], 13000, 40)?;
+    let climbed = climb_result(rt.alloc(), start, [false, false, false], [1, 1], 13000, 40)?;
     let counts = [1, 0, 0, 14, 0, 0, 27, 23, 10];
     assert!(rt; is_climb(&climbed, (11964, 40), [4920, 3036, 4975], [920, 0], counts));
     Ok(())

@@ -20,7 +20,7 @@ pub(crate) fn next_state(state: u64) -> u64
 }
 
 /// What a state gives below a number.
-pub(crate) fn drawn(state: u64, below: u64) -> u64
+pub(crate) fn number_below(state: u64, below: u64) -> u64
     requires { 0 < below }
     ensures value { result ≡ drawn_of state below }
     ensures below { result < below }

@@ -5,7 +5,7 @@ ghost use Rattle.plan_core.specs.Limits.{most_items};
 ghost use Rattle.day_maker.specs.Made.{first_state as first_state_of, rows_of, trip_row as trip_row_of, trip_rows as trip_rows_of};
 
 use crate::cells::{Cell, add};
-use crate::drawing::{drawn, first_state, next_state};
+use crate::drawing::{first_state, next_state, number_below};
 use plan_core::{Memory, Seq};
 use std::alloc::Global;
 use vdv451_text::Field;
@@ -29,12 +29,12 @@ fn add_trip(
         &[
             one,
             Cell::Number(fid),
-            Cell::Number(18_000 + 60 * drawn(departure, 960)),
-            Cell::Number(1 + drawn(line, 7)),
+            Cell::Number(18_000 + 60 * number_below(departure, 960)),
+            Cell::Number(1 + number_below(line, 7)),
             one,
             one,
             one,
-            Cell::Variant(drawn(variant, 2) == 0),
+            Cell::Variant(number_below(variant, 2) == 0),
             Cell::Nothing,
         ],
     )

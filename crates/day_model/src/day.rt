@@ -12,7 +12,7 @@ ghost use Rattle.day_model.specs.Links.{admits_at, link_at, pull_in_at, pull_out
 ghost use Rattle.day_model.specs.Ranges.{AreInRange, IsDaily, IsShort};
 
 use crate::departures::Departures;
-use crate::going::{by_depot, direct, leaving};
+use crate::going::{by_depot, direct, timely_pull_out};
 use crate::layout::Layout;
 use crate::link::Link;
 use day_calendar::DayKind;
@@ -197,7 +197,7 @@ impl Day {
         ensures value { result ≡ pull_out_at self.now class t }
         ensures range { IfSome result IsTime }
     {
-        leaving(self.trip(t), self.outward(class, t))
+        timely_pull_out(self.trip(t), self.outward(class, t))
     }
 
     /// How long the deadhead from a trip to a pool's depot takes: it leaves at the trip's end. None where there is no such deadhead.

@@ -123,7 +123,7 @@ pub(crate) fn by_depot(
 }
 
 /// The pull-out over a deadhead, if it leaves at 0 or later.
-pub(crate) fn leaving(trip: &Trip, out: Option<u32>) -> Option<u32>
+pub(crate) fn timely_pull_out(trip: &Trip, out: Option<u32>) -> Option<u32>
     requires out { IfSome out IsTime }
     requires trip { IsDaily trip.now }
     ensures value { result ≡ pull_out_over trip.now out }

@@ -41,7 +41,7 @@ fn has_worked_times(alloc: Global, net: &Network) -> Result<bool, Memory> {
     Ok(has_times(&deads))
 }
 
-fn told(answer: Result<bool, Memory>) -> bool {
+fn answer_or_false(answer: Result<bool, Memory>) -> bool {
     match answer {
         Ok(told) => told,
         Err(_) => false,
@@ -50,7 +50,7 @@ fn told(answer: Result<bool, Memory>) -> bool {
 
 fn tells_times(alloc: Global, given: &[TableRows]) -> Result<bool, Fail> {
     let net = network(alloc, given, Needs::All)?;
-    Ok(told(has_worked_times(alloc, &net)))
+    Ok(answer_or_false(has_worked_times(alloc, &net)))
 }
 
 #[test]

@@ -60,7 +60,7 @@ const NETWORK: &[TableRows] = &[
 ];
 
 /// The worked length of a trip's way.
-fn worked(fid: u64) -> Option<u64> {
+fn worked_length(fid: u64) -> Option<u64> {
     match fid {
         1 => Some(60_000),
         2 => Some(120_005),
@@ -73,7 +73,7 @@ fn worked(fid: u64) -> Option<u64> {
 fn have_worked_lengths(net: &Network) -> bool {
     let rows = net.trip_rows();
     for row in rows {
-        if route_length(net, 1, row) != worked(row.fid) {
+        if route_length(net, 1, row) != worked_length(row.fid) {
             return false;
         }
     }

@@ -77,7 +77,7 @@ fn end_of(timed: Result<Trip, TripFault>) -> Result<i64, TripFault> {
 }
 
 /// The worked answer of a trip: its end, or its fault.
-fn worked(fid: u64) -> Result<i64, TripFault> {
+fn worked_end(fid: u64) -> Result<i64, TripFault> {
     match fid {
         1 => Ok(32_400),
         2 => Ok(36_600),
@@ -99,7 +99,7 @@ fn has_worked_end(net: &Network, row: &TripRow) -> bool {
     if row.start > 172_800 {
         return false;
     }
-    end_of(time_trip(net, 1, row)) == worked(row.fid)
+    end_of(time_trip(net, 1, row)) == worked_end(row.fid)
 }
 
 fn have_worked_ends(net: &Network) -> bool {

@@ -22,7 +22,7 @@ use trip_times::Trip;
 const LONGEST_DRIVING: u32 = 16_200;
 
 /// What seconds cost at a rate.
-fn charged(rate: u32, seconds: u32) -> u64
+fn cost_at_rate(rate: u32, seconds: u32) -> u64
     requires rate { rate ≤ most_rate }
     requires seconds { seconds ≤ 345600 }
     ensures value { result ≡ rate * seconds }
@@ -41,13 +41,13 @@ fn link_cost(pool: &Pool, next: &Trip, link: Link) -> u64
     match link {
         Link::Direct { dead, stand } => {
             let stood = if next.from == pool.depot { 0 } else { stand };
-            charged(pool.dead_rate, dead) + charged(pool.stand_rate, stood)
+            cost_at_rate(pool.dead_rate, dead) + cost_at_rate(pool.stand_rate, stood)
         }
         Link::Depot {
             inward,
             outward,
             ..
-        } => charged(pool.dead_rate, inward + outward),
+        } => cost_at_rate(pool.dead_rate, inward + outward),
     }
 }
 
@@ -70,7 +70,7 @@ fn is_cut_at_depot(day: &Day, pool: &Pool, stand: u32) -> bool
 }
 
 /// Driving that a piece may have.
-fn kept(seconds: u32) -> Option<u32>
+fn piece_driving(seconds: u32) -> Option<u32>
     ensures value { result ≡ driving.kept seconds }
     ensures bound { IfSome result (λ seconds. seconds ≤ longest_driving) }
 {
@@ -90,10 +90,10 @@ fn driven_past(cut: bool, so_far: u32, before: u32, second: u32) -> Option<u32>
     ensures bound { IfSome result (λ seconds. seconds ≤ longest_driving) }
 {
     if !cut {
-        return kept(so_far + before + second);
+        return piece_driving(so_far + before + second);
     }
     if so_far + before <= LONGEST_DRIVING {
-        kept(second)
+        piece_driving(second)
     } else {
         None
     }
@@ -148,15 +148,15 @@ pub(crate) fn first_step(day: &Day, class: u32, pool: &Pool, t: u32) -> Option<S
         return None;
     }
     let out = day.pull_out(class, t)?;
-    let driving = kept(out + trip_seconds(trip))?;
+    let driving = piece_driving(out + trip_seconds(trip))?;
     Some(Step {
-        cost: u64::from(pool.fixed) + charged(pool.dead_rate, out),
+        cost: u64::from(pool.fixed) + cost_at_rate(pool.dead_rate, out),
         driving,
     })
 }
 
 /// What a later trip adds to the cost of a block, if it may follow another one as far as connections go.
-pub(crate) fn added(day: &Day, class: u32, pool: &Pool, t: u32, u: u32) -> Option<u64>
+pub(crate) fn cost_of_following(day: &Day, class: u32, pool: &Pool, t: u32, u: u32) -> Option<u64>
     requires pool { slice_get day.now.params.pools class ≡ Some pool.now }
     requires ranges { IsPool pool.now }
     requires trip { t < length day.now.trips }
@@ -173,7 +173,7 @@ pub(crate) fn added(day: &Day, class: u32, pool: &Pool, t: u32, u: u32) -> Optio
 }
 
 /// What the pull-in adds, if there is one.
-pub(crate) fn ended(day: &Day, class: u32, pool: &Pool, t: u32) -> Option<u64>
+pub(crate) fn cost_of_pull_in(day: &Day, class: u32, pool: &Pool, t: u32) -> Option<u64>
     requires pool { slice_get day.now.params.pools class ≡ Some pool.now }
     requires ranges { IsPool pool.now }
     requires trip { t < length day.now.trips }
@@ -181,7 +181,7 @@ pub(crate) fn ended(day: &Day, class: u32, pool: &Pool, t: u32) -> Option<u64>
     ensures few { IfSome result (λ cost. cost ≤ 1728000000) }
 {
     let seconds = day.pull_in(class, t)?;
-    Some(charged(pool.dead_rate, seconds))
+    Some(cost_at_rate(pool.dead_rate, seconds))
 }
 
 /// A later trip of a block, if it may follow another one, from the driving at the end of that.
@@ -229,12 +229,19 @@ pub(crate) fn last_step(day: &Day, class: u32, pool: &Pool, so_far: u32, t: u32)
     // A trip is daily: the day says so.
     let _ = day.trip(t);
     let inward = day.pull_in(class, t)?;
-    let _ = kept(so_far + inward)?;
-    Some(charged(pool.dead_rate, inward))
+    let _ = piece_driving(so_far + inward)?;
+    Some(cost_at_rate(pool.dead_rate, inward))
 }
 
 /// The cost of a block with the pull-in.
-fn finished(day: &Day, class: u32, pool: &Pool, so_far: u32, cost: u64, t: u32) -> Option<u64>
+fn cost_with_pull_in(
+    day: &Day,
+    class: u32,
+    pool: &Pool,
+    so_far: u32,
+    cost: u64,
+    t: u32,
+) -> Option<u64>
     requires pool { slice_get day.now.params.pools class ≡ Some pool.now }
     requires ranges { IsPool pool.now }
     requires trip { t < length day.now.trips }
@@ -248,7 +255,7 @@ fn finished(day: &Day, class: u32, pool: &Pool, so_far: u32, cost: u64, t: u32) 
 }
 
 /// The cost of a block that begins so, with a first trip and the trips after it.
-fn stepped(
+fn cost_with_trips(
     day: &Day,
     class: u32,
     pool: &Pool,
@@ -275,7 +282,7 @@ fn stepped(
         so_far = step.driving;
         last = *next;
     }
-    finished(day, class, pool, so_far, cost, last)
+    cost_with_pull_in(day, class, pool, so_far, cost, last)
 }
 
 /// What a block of a cost is worth.
@@ -303,7 +310,7 @@ fn block_cost(day: &Day, class: u32, list: &[u32]) -> Option<u64>
         [] => None,
         [first, rest @ ..] => {
             let begin = first_step(day, class, pool, *first)?;
-            stepped(day, class, pool, begin.cost, begin.driving, *first, rest)
+            cost_with_trips(day, class, pool, begin.cost, begin.driving, *first, rest)
         }
     }
 }

@@ -9,7 +9,7 @@ ghost use Rattle.std.specs.Option.{option_map};
 ghost use Rattle.depot_network.specs.Walk.{added, ended};
 ghost use Rattle.depot_network.specs.Open.{OpenFits, closed_open, extended_open, first_open, first_scaled, scaled};
 
-use crate::cost::{added, ended, first_step, last_step, next_step};
+use crate::cost::{cost_of_following, cost_of_pull_in, first_step, last_step, next_step};
 use crate::network::PoolNet;
 use crate::open::OpenBlock;
 use plan_core::Price;
@@ -152,7 +152,7 @@ impl PoolNet<'_> {
         ensures low { IfSome result (λ value. pos 0 ≤ℤ value) }
         ensures high { IfSome result (λ value. value ≤ℤ pos 3456000000000) }
     {
-        match added(self.day(), class, pool, t, u) {
+        match cost_of_following(self.day(), class, pool, t, u) {
             None => None,
             Some(cost) => Some(scale(self.counts(), cost)),
         }
@@ -167,7 +167,7 @@ impl PoolNet<'_> {
         ensures low { IfSome result (λ value. pos 0 ≤ℤ value) }
         ensures high { IfSome result (λ value. value ≤ℤ pos 3456000000000) }
     {
-        match ended(self.day(), class, pool, t) {
+        match cost_of_pull_in(self.day(), class, pool, t) {
             None => None,
             Some(cost) => Some(scale(self.counts(), cost)),
         }

@@ -36,7 +36,7 @@ fn class_prices_in(empty: Seq<i64>, least: &[i64]) -> Result<Seq<i64>, Memory>
 }
 
 /// The class prices and the bound of an offer.
-fn weighed(
+fn class_prices_and_bound(
     empty: Seq<i64>,
     prices: &Prices,
     least: &[i64],
@@ -75,7 +75,7 @@ impl Kept {
         ensures { IfOk result (λ kept. kept ≡ offer_of prices.now.items least.now caps.now) }
     {
         let items = Seq::new(alloc).with_items(prices.items.as_slice())?;
-        let (class_prices, bound) = weighed(Seq::new(alloc), prices, least, caps)?;
+        let (class_prices, bound) = class_prices_and_bound(Seq::new(alloc), prices, least, caps)?;
         Ok(Kept {
             prices: Prices { items },
             class_prices,
@@ -96,7 +96,7 @@ impl Kept {
         ensures memory { OnErr result (self.new ≡ self.old) }
     {
         let empty = self.class_prices.with_items([].as_slice())?;
-        let (class_prices, bound) = weighed(empty, prices, least, caps)?;
+        let (class_prices, bound) = class_prices_and_bound(empty, prices, least, caps)?;
         if bound <= self.bound {
             return Ok(false);
         }

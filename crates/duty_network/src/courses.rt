@@ -54,7 +54,7 @@ impl DutyNet<'_> {
     }
 
     /// The tally of a first piece, in the limits of a group.
-    fn begun(&self, group: &Group, first: u32) -> Tally
+    fn first_tally(&self, group: &Group, first: u32) -> Tally
         requires first { first < length self.now.pieces }
         ensures limits { result.limits ≡ limits_of group.now }
         ensures stands { (p : Piece) → slice_get self.now.pieces first ≡ Some p → StandsFor result (drive_of 0 p ∷ []) }
@@ -66,7 +66,7 @@ impl DutyNet<'_> {
     }
 
     /// The course of a list with these drives, first and last piece.
-    fn spanned(
+    fn course_between(
         &self,
         class: u32,
         group: &Group,
@@ -101,9 +101,9 @@ impl DutyNet<'_> {
         ensures none { IfNone result (duty_of self.now class (first ∷ rest.now) ≡ None) }
     {
         let group = self.group(class);
-        let mut tally = self.begun(group, first);
+        let mut tally = self.first_tally(group, first);
         let last = self.add_after(&mut tally, first, rest)?;
-        self.spanned(class, group, tally, first, last)
+        self.course_between(class, group, tally, first, last)
     }
 
     /// The course of a list of pieces of a group, where it is a duty, lawful or not.
@@ -169,12 +169,12 @@ fn cost(counts: bool, group: &Group, spread: u32) -> u64
     if counts {
         1
     } else {
-        charged(group.fixed, group.rate, spread)
+        cost_with_fixed(group.fixed, group.rate, spread)
     }
 }
 
 /// A fixed cost and the cost of some seconds at a rate.
-fn charged(fixed: u32, rate: u32, seconds: u32) -> u64
+fn cost_with_fixed(fixed: u32, rate: u32, seconds: u32) -> u64
     requires fixed { fixed ≤ most_fixed_cost }
     requires rate { rate ≤ most_rate }
     requires seconds { seconds ≤ 54000 }

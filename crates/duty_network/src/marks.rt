@@ -324,7 +324,7 @@ impl DutyNet<'_> {
         ensures { result ≡ closed_value self.now group.now mark.now }
     {
         let off = self.sign_off(class, group, mark.piece);
-        closed(self.counts(), group, mark, off)
+        value_at_sign_off(self.counts(), group, mark, off)
     }
 }
 
@@ -392,7 +392,7 @@ fn next_open(
 }
 
 /// The value of the list of a mark with this sign-off, where it is a lawful duty.
-fn closed(counts: bool, group: &Group, mark: &Mark, off: Option<i64>) -> Option<i64>
+fn value_at_sign_off(counts: bool, group: &Group, mark: &Mark, off: Option<i64>) -> Option<i64>
     requires ranges { IsGroup group.now }
     requires early { neg_ℤ (pos 345600) ≤ℤ mark.now.start.0 }
     requires late { mark.now.start.0 ≤ℤ pos 345600 }

@@ -19,7 +19,7 @@ use std::alloc::Global;
 const NONE: u32 = 4_294_967_295;
 
 /// The cell of a pause.
-fn coded(time: Option<u32>) -> u32
+fn cell_of_pause(time: Option<u32>) -> u32
     requires { IfSome time (λ seconds. seconds < 4294967295) }
     ensures { told result ≡ time }
 {
@@ -31,7 +31,7 @@ fn coded(time: Option<u32>) -> u32
 
 /// The pause of a cell.
 #[inline]
-fn decoded(cell: u32) -> Option<u32>
+fn pause_of_cell(cell: u32) -> Option<u32>
     ensures { result ≡ told cell }
 {
     if cell == NONE { None } else { Some(cell) }
@@ -53,13 +53,14 @@ fn row_of(
 {
     let mut row = Seq::new(alloc);
     for p in 0..q {
-        row.push(coded(pause_in(pieces, params, layout, p, q)))?;
+        row.push(cell_of_pause(pause_in(pieces, params, layout, p, q)))?;
     }
     Ok(row)
 }
 
 /// The pauses before each of these pieces, of the earlier ones, by the ways and the handover time of these settings. It takes memory and
-/// time with the product of the pieces with themselves: 18 MB for 3,000. `Memory` is the only error.
+/// time with the product of the pieces with themselves: 18 MB for 3,000, and up to twice that, since rows grow by doubling. `Memory` is the
+/// only error.
 pub(crate) fn pauses_of(
     alloc: Global,
     pieces: &[Piece],
@@ -100,7 +101,7 @@ pub(crate) fn pause_among(
 {
     if p < q {
         let row: &Seq<u32> = &rows[q as usize];
-        decoded(row.as_slice()[p as usize])
+        pause_of_cell(row.as_slice()[p as usize])
     } else {
         pause_in(pieces, params, layout, p, q)
     }

@@ -34,7 +34,7 @@ fn off_time(net: &DutyNet<'_>, class: u32, group: &Group, item: u32) -> Option<i
 }
 
 /// What ending behind a piece in time adds, or a number out of reach.
-fn ending(net: &DutyNet<'_>, class: u32, group: &Group, item: u32, until: i64) -> i64
+fn ending_value(net: &DutyNet<'_>, class: u32, group: &Group, item: u32, until: i64) -> i64
     requires class { slice_get net.now.params.groups class ≡ Some group.now }
     requires ranges { IsGroup group.now }
     requires item { item < length net.now.pieces }
@@ -190,7 +190,7 @@ fn bound_row(
     ensures low { IsLow (low_of item) result }
 {
     net.fits();
-    let mut row = [ending(net, class, group, item, last); 16];
+    let mut row = [ending_value(net, class, group, item, last); 16];
     lower_by_direct(net, prices, reach, long, rows, over, &mut row, item, direct);
     lower_by_all(reach, chain, near, &mut row, item);
     lower_by_all(reach, over_chain, far, &mut row, item);

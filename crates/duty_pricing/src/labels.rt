@@ -67,7 +67,7 @@ pub(crate) fn price(prices: &[Price], item: u32) -> i64
 }
 
 /// What is left of a value after a price, with a rest.
-fn lowered(value: i64, price: i64, rest: i64) -> i128
+fn value_left(value: i64, price: i64, rest: i64) -> i128
     ensures { result ≡ (value -ℤ price) +ℤ rest }
 {
     value as i128 - price as i128 + rest as i128
@@ -77,18 +77,18 @@ fn lowered(value: i64, price: i64, rest: i64) -> i128
 fn is_above(value: i64, price: i64, rest: i64, limit: i64) -> bool
     ensures { result ≡ int_lt limit ((value -ℤ price) +ℤ rest) }
 {
-    lowered(value, price, rest) > limit as i128
+    value_left(value, price, rest) > limit as i128
 }
 
 /// The greatest value of which no more than a limit is left after a price, with a rest.
 fn most_under(price: i64, rest: i64, limit: i64) -> i64
     ensures { result <ℤ pos 9223372036854775807 → limit ≤ℤ ((result -ℤ price) +ℤ rest) }
 {
-    clamped(limit as i128 - lowered(0, price, rest))
+    nearest_number(limit as i128 - value_left(0, price, rest))
 }
 
 /// The number of 64 bits that is nearest to a number.
-fn clamped(number: i128) -> i64
+fn nearest_number(number: i128) -> i64
     ensures { result <ℤ pos 9223372036854775807 → number ≤ℤ result }
 {
     if number < i64::MIN as i128 {
@@ -112,7 +112,7 @@ fn is_low_enough(value: i64, rest: i64, limit: i64) -> bool
 }
 
 /// A mark, where a test holds.
-fn passing(test: bool, mark: Mark) -> Option<Mark>
+fn mark_where(test: bool, mark: Mark) -> Option<Mark>
     ensures { result ≡ cond test (Some mark) None }
 {
     if test { Some(mark) } else { None }
@@ -228,7 +228,7 @@ impl DutyLabels<'_, '_> {
     {
         let found = mark?;
         let rest = self.rest(&found);
-        passing(is_low_enough(found.value, rest, limit), found)
+        mark_where(is_low_enough(found.value, rest, limit), found)
     }
 
     /// Whether a list with a value of at least this one is above the limit once it goes on with an item and has so many units of driving

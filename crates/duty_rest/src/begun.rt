@@ -9,7 +9,7 @@ use plan_core::{Memory, Seq};
 use std::alloc::Global;
 
 /// The heads of duties as what columns begin with: pieces are the items.
-pub(crate) fn begun(alloc: Global, heads: &[DutyHead]) -> Result<Seq<Begun>, Memory>
+pub(crate) fn begun_columns(alloc: Global, heads: &[DutyHead]) -> Result<Seq<Begun>, Memory>
     ensures { IfOk result (λ begun. begun ≡ begun_of heads.now) }
 {
     let mut begun = Seq::new(alloc);

@@ -196,7 +196,7 @@ fn starts_at(piece: u32, head: &DutyHead) -> bool
 }
 
 /// A head in memory of its own.
-fn copied(head: &DutyHead) -> Result<DutyHead, Memory>
+fn copy_of_head(head: &DutyHead) -> Result<DutyHead, Memory>
     ensures { IfOk result (λ copy. copy ≡ head.now) }
 {
     Ok(DutyHead {
@@ -212,7 +212,7 @@ fn add_heads_at(rows: &[DutyHead], first: u32, heads: &mut Seq<DutyHead>) -> Res
 {
     for head in rows {
         if starts_at(first, head) {
-            heads.push(copied(head)?)?;
+            heads.push(copy_of_head(head)?)?;
         }
     }
     Ok(())

@@ -10,7 +10,7 @@ ghost use Rattle.cover_rest.specs.Rest.{bodies, body_at, rest_worth, written_pla
 ghost use Rattle.duty_network.specs.Duties.{duties};
 ghost use Rattle.duty_rest.specs.Rest.{begun_of, may_begin, rests};
 
-use crate::begun::begun;
+use crate::begun::begun_columns;
 use crate::head::DutyHead;
 use crate::pricing::best_list;
 use crate::walk::written_worth;
@@ -92,7 +92,7 @@ impl<'n> DutyRest<'n> {
         ensures heads { IfOk result (λ rest. rest.heads ≡ heads) }
         ensures moment { IfOk result (λ rest. rest.moment ≡ moment) }
     {
-        let begun = begun(alloc, heads.as_slice())?;
+        let begun = begun_columns(alloc, heads.as_slice())?;
         let bodies = bodies(alloc, begun.as_slice(), net.pieces().len() as u32)?;
         // The items stand for each piece once, so they are few.
         bodies_stand_for_all();

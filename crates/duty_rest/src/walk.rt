@@ -20,7 +20,7 @@ use plan_core::Seq;
 use plan_params::Group;
 
 /// The mark of an open list with further pieces, if they may follow.
-fn walked(net: &DutyNet<'_>, group: &Group, first: Mark, rest: &[u32]) -> Option<Mark>
+fn mark_with_pieces(net: &DutyNet<'_>, group: &Group, first: Mark, rest: &[u32]) -> Option<Mark>
     requires ranges { IsGroup group.now }
     requires first { MarkFits (length net.now.pieces) first }
     requires rest { AllBelow (length net.now.pieces) rest.now }
@@ -36,7 +36,7 @@ fn walked(net: &DutyNet<'_>, group: &Group, first: Mark, rest: &[u32]) -> Option
 }
 
 /// The mark of a list of pieces, if it may be an open one.
-fn opened(net: &DutyNet<'_>, class: u32, group: &Group, list: &[u32]) -> Option<Mark>
+fn mark_of_pieces(net: &DutyNet<'_>, class: u32, group: &Group, list: &[u32]) -> Option<Mark>
     requires group { slice_get net.now.params.groups class ≡ Some group.now }
     requires ranges { IsGroup group.now }
     requires list { AllBelow (length net.now.pieces) list.now }
@@ -48,7 +48,7 @@ fn opened(net: &DutyNet<'_>, class: u32, group: &Group, list: &[u32]) -> Option<
         [] => None,
         [piece, rest @ ..] => {
             let first = net.first(class, group, &[], *piece)?;
-            walked(net, group, first, rest)
+            mark_with_pieces(net, group, first, rest)
         }
     }
 }
@@ -70,7 +70,7 @@ fn walked_on(
 {
     let mut open = first;
     for item in rest {
-        open = walked(net, group, open, body(bodies, *item))?;
+        open = mark_with_pieces(net, group, open, body(bodies, *item))?;
     }
     Some(open)
 }
@@ -104,7 +104,7 @@ fn opened_list(
     match list {
         [] => None,
         [item, rest @ ..] => {
-            let first = opened(net, class, group, body(bodies, *item))?;
+            let first = mark_of_pieces(net, class, group, body(bodies, *item))?;
             walked_on(net, group, bodies, first, rest)
         }
     }

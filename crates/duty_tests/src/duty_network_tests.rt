@@ -63,7 +63,7 @@ fn lawful(on: i64, off: i64) -> Judged {
 }
 
 /// Fourteen hours less 400 seconds from sign-on to sign-off are too long without a reduced rest.
-fn spread() -> Judged {
+fn long_spread() -> Judged {
     let times = (Sec(19_400), Sec(69_400));
     (Some(Verdict::Art8 { spread: 50_000 }), Some(times))
 }
@@ -87,7 +87,7 @@ fn has_verdicts(net: &DutyNet<'_>) -> bool {
         (0, &[2, 6], lawful(27_600, 37_500)),
         (0, &[2], lawful(27_600, 33_900)),
         (0, &[6], lawful(31_200, 37_500)),
-        (0, &[1, 4, 8, 10, 11], spread()),
+        (0, &[1, 4, 8, 10, 11], long_spread()),
         (0, &[0, 3, 9], driving()),
         (0, &[6, 2], NONE),
         (0, &[7], NONE),

@@ -71,7 +71,7 @@ fn earlier(alloc: Global) -> Result<PlanText, Memory> {
 }
 
 /// For each head its class, its pieces, and 1 where it is finished.
-fn shown(alloc: Global, heads: &[DutyHead]) -> Result<Seq<u32>, Memory> {
+fn heads_as_numbers(alloc: Global, heads: &[DutyHead]) -> Result<Seq<u32>, Memory> {
     let mut numbers = Seq::new(alloc);
     for head in heads {
         numbers.push(head.class)?;
@@ -99,7 +99,7 @@ fn has_heads(alloc: Global, net: &DutyNet<'_>) -> Result<bool, Memory> {
     let mut right = true;
     for (moment, expected) in rows {
         let heads = duty_heads(alloc, net, &blocks, &earlier, moment)?;
-        right = right && shown(alloc, heads.as_slice())?.as_slice() == expected;
+        right = right && heads_as_numbers(alloc, heads.as_slice())?.as_slice() == expected;
     }
     Ok(right)
 }
@@ -177,7 +177,7 @@ fn numbers_of(alloc: Global, columns: &[Column]) -> Result<Seq<u64>, Memory> {
 }
 
 /// A column of the rest, written out, if its list has a worth.
-fn expanded(
+fn column_as_numbers(
     alloc: Global,
     rest: &DutyRest<'_>,
     class: u32,
@@ -218,7 +218,7 @@ fn has_bests(alloc: Global, rest: &DutyRest<'_>) -> Result<bool, Memory> {
 
 fn is_right(alloc: Global, rest: &DutyRest<'_>) -> Result<bool, Memory> {
     let items = stands_for(alloc, rest)?;
-    let written = expanded(alloc, rest, 0, &[0, 3])?;
+    let written = column_as_numbers(alloc, rest, 0, &[0, 3])?;
     Ok(
         has_worths(rest)
             && has_bests(alloc, rest)?

@@ -17,7 +17,7 @@ fn is_duty(drives: &[Drive]) -> bool
 }
 
 /// The verdict on the duty, drive by drive.
-fn tallied(drives: &[Drive], spread: u64, limits: Limits) -> Verdict
+fn verdict_by_tally(drives: &[Drive], spread: u64, limits: Limits) -> Verdict
     requires few { length drives.now ≤ most_items }
     requires begins { FirstPauseIsZero drives.now }
 {
@@ -32,7 +32,7 @@ fn tallied(drives: &[Drive], spread: u64, limits: Limits) -> Verdict
 fn is_judged(drives: &[Drive], spread: u64, limits: Limits, verdict: Verdict) -> bool {
     is_duty(drives)
         && judge(drives, spread, &limits) == verdict
-        && tallied(drives, spread, limits) == verdict
+        && verdict_by_tally(drives, spread, limits) == verdict
 }
 
 /// Whether duties have their verdicts within the regular limits.

@@ -34,13 +34,13 @@ fn worths(columns: &[Column]) -> Option<[u64; 3]> {
 }
 
 /// The worths of the blocks in printed order.
-fn printed(alloc: Global) -> Result<Option<[u64; 3]>, Fail> {
+fn printed_worths(alloc: Global) -> Result<Option<[u64; 3]>, Fail> {
     let plan = in_printed_order(plan(alloc)?)?;
     Ok(worths(plan.columns.as_slice()))
 }
 
 #[test]
 fn blocks_are_printed_by_their_first_trips(rt: HostRuntime) -> Result<(), Fail> {
-    assert!(rt; printed(rt.alloc())? == Some([3, 1, 2]));
+    assert!(rt; printed_worths(rt.alloc())? == Some([3, 1, 2]));
     Ok(())
 }

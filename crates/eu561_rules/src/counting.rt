@@ -78,7 +78,7 @@ impl Tally {
     }
 
     /// The first driving period with too much driving, once the last one has ended.
-    fn closed(&self) -> Option<Excess>
+    fn first_excess(&self) -> Option<Excess>
         requires { IsSmall self.now }
         ensures { result ≡ closed_excess self.now }
     {
@@ -111,7 +111,7 @@ impl Tally {
                 total,
                 first: self.count,
                 driving: drive.driving as u64,
-                over: self.closed(),
+                over: self.first_excess(),
             }
         } else {
             Tally {

@@ -20,7 +20,7 @@ fn column(alloc: Global, class: u32, worth: u64, list: &[u32]) -> Result<Column,
 }
 
 /// A plan of which no step lowers the cost.
-pub(crate) fn settled(alloc: Global) -> Result<Plan, Memory>
+pub(crate) fn settled_example(alloc: Global) -> Result<Plan, Memory>
     ensures { IfOk result (λ plan. plan.columns ≡ settled) }
 {
     let first = column(alloc, 0, 11, [0, 1].as_slice())?;
@@ -43,7 +43,7 @@ pub(crate) fn tied(alloc: Global) -> Result<Plan, Memory>
 }
 
 /// A plan of which five swaps may be made.
-pub(crate) fn loose(alloc: Global) -> Result<Plan, Memory>
+pub(crate) fn loose_example(alloc: Global) -> Result<Plan, Memory>
     ensures { IfOk result (λ plan. plan.columns ≡ loose) }
 {
     let first = column(alloc, 0, 10, [0].as_slice())?;
@@ -56,7 +56,7 @@ pub(crate) fn loose(alloc: Global) -> Result<Plan, Memory>
 }
 
 /// A plan of which four swaps and then a cut may be made: after the first swap its first column is empty, after the second the second one.
-pub(crate) fn mixed(alloc: Global) -> Result<Plan, Memory>
+pub(crate) fn mixed_example(alloc: Global) -> Result<Plan, Memory>
     ensures { IfOk result (λ plan. plan.columns ≡ mixed) }
 {
     let first = column(alloc, 0, 10, [0].as_slice())?;
@@ -69,7 +69,7 @@ pub(crate) fn mixed(alloc: Global) -> Result<Plan, Memory>
 }
 
 /// A plan of which three swaps may be made, the second while a third column stands by.
-pub(crate) fn spread(alloc: Global) -> Result<Plan, Memory>
+pub(crate) fn spread_example(alloc: Global) -> Result<Plan, Memory>
     ensures { IfOk result (λ plan. plan.columns ≡ spread) }
 {
     let first = column(alloc, 1, 10, [1].as_slice())?;
@@ -93,7 +93,7 @@ pub(crate) fn dear(alloc: Global) -> Result<Plan, Memory>
 }
 
 /// A plan of which two swaps of the same columns lower the cost by 3.
-pub(crate) fn crossed(alloc: Global) -> Result<Plan, Memory>
+pub(crate) fn crossed_example(alloc: Global) -> Result<Plan, Memory>
     ensures { IfOk result (λ plan. plan.columns ≡ crossed) }
 {
     let first = column(alloc, 0, 12, [0, 2, 4].as_slice())?;

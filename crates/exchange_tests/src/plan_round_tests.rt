@@ -44,7 +44,12 @@ fn add(
 }
 
 /// What a pool is rounded to, as numbers: those of the plan, or 200 and the item in front of those of the part.
-fn rounding(alloc: Global, given: &Five, pool: &Pool, prices: &Prices) -> Result<Vec<u64>, Memory>
+fn rounding_as_numbers(
+    alloc: Global,
+    given: &Five,
+    pool: &Pool,
+    prices: &Prices,
+) -> Result<Vec<u64>, Memory>
     requires pool { AreColumns (five given.now.places given.now.bar) pool.now }
     requires cheap { AreCheap pool.now }
     requires prices { length prices.now.items ≡ 5 }
@@ -74,11 +79,11 @@ fn prices(alloc: Global, list: &[Price]) -> Result<Prices, Memory>
 }
 
 /// What an empty pool is rounded to at equal prices, as numbers.
-fn inserted(alloc: Global, places: u8, bar: u32) -> Result<Vec<u64>, Memory> {
+fn insertion_as_numbers(alloc: Global, places: u8, bar: u32) -> Result<Vec<u64>, Memory> {
     let given = Five { places, bar };
     let prices = prices(alloc, [Price(2000); 5].as_slice())?;
     let empty = Pool::new(alloc);
-    rounding(alloc, &given, &empty, &prices)
+    rounding_as_numbers(alloc, &given, &empty, &prices)
 }
 
 /// With an empty pool each item is put in: 0 and 3 into new columns, and the others behind them; with a single place in each class item 3
@@ -91,7 +96,7 @@ fn insertion_alone(rt: HostRuntime) -> Result<(), Fail> {
         (1, 0, [0, 6, 0, 1, 2, 99, 1, 12, 3, 4, 99].as_slice()),
         (3, 1, [200, 0].as_slice()),
     ] {
-        let found = inserted(rt.alloc(), places, bar)?;
+        let found = insertion_as_numbers(rt.alloc(), places, bar)?;
         assert_eq!(rt; found.as_slice(), wanted);
     }
     Ok(())
@@ -115,7 +120,7 @@ fn two_rounded(alloc: Global, first: i64) -> Result<(bool, Vec<u64>), Memory>
     let mut pool = Pool::new(alloc);
     let one = add(alloc, &wide, &mut pool, 0, [2].as_slice())?;
     let other = add(alloc, &wide, &mut pool, 0, [0].as_slice())?;
-    let found = rounding(alloc, &wide, &pool, &prices)?;
+    let found = rounding_as_numbers(alloc, &wide, &pool, &prices)?;
     Ok((one && other, found))
 }
 
@@ -155,7 +160,7 @@ fn full_classes_take_none(alloc: Global) -> Result<bool, Memory> {
     add_first(alloc, &narrow, &mut pool)?;
     let both = add(alloc, &narrow, &mut pool, 1, [2, 3].as_slice())?;
     let first = add(alloc, &narrow, &mut pool, 1, [0].as_slice())?;
-    let found = rounding(alloc, &narrow, &pool, &prices)?;
+    let found = rounding_as_numbers(alloc, &narrow, &pool, &prices)?;
     let wanted = [200, 4, 0, 6, 1, 2, 3, 99, 1, 10, 0, 99];
     Ok(both && first && found.as_slice() == wanted.as_slice())
 }
@@ -173,7 +178,7 @@ fn worthless_item_is_left(alloc: Global) -> Result<bool, Memory> {
     let mut pool = Pool::new(alloc);
     let first = add(alloc, &high, &mut pool, 0, [0, 1].as_slice())?;
     let second = add(alloc, &high, &mut pool, 1, [1, 2].as_slice())?;
-    let found = rounding(alloc, &high, &pool, &prices)?;
+    let found = rounding_as_numbers(alloc, &high, &pool, &prices)?;
     Ok(first && second && found.as_slice() == [200, 3, 0, 6, 0, 1, 2, 99].as_slice())
 }
 

@@ -4,7 +4,9 @@ ghost use Rattle.cover_core.specs.Plans.{IsPlan};
 ghost use Rattle.exchange_tests.specs.Five.{five};
 
 use crate::five_items::{Five, spell};
-use crate::given_plans::{crossed, dear, loose, mixed, settled, spread, tied};
+use crate::given_plans::{
+    crossed_example, dear, loose_example, mixed_example, settled_example, spread_example, tied,
+};
 use cover_core::Plan;
 use plan_core::Memory;
 use std::alloc::Global;
@@ -67,11 +69,11 @@ fn alike<R: Threads + Sync>(
     Ok(row.as_slice() == single.as_slice())
 }
 
-/// Whether each number of steps of `mixed` is as by searches from nothing.
+/// Whether each number of steps of `mixed_example` is as by searches from nothing.
 fn mixed_alike<R: Threads + Sync>(rt: &R, alloc: Global) -> Result<bool, Memory> {
     for steps in 1..7 {
-        let plan = mixed(alloc)?;
-        let again = mixed(alloc)?;
+        let plan = mixed_example(alloc)?;
+        let again = mixed_example(alloc)?;
         if !alike(rt, alloc, plan, again, steps)? {
             return Ok(false);
         }
@@ -79,11 +81,11 @@ fn mixed_alike<R: Threads + Sync>(rt: &R, alloc: Global) -> Result<bool, Memory>
     Ok(true)
 }
 
-/// Whether each number of steps of `spread` is as by searches from nothing.
+/// Whether each number of steps of `spread_example` is as by searches from nothing.
 fn spread_alike<R: Threads + Sync>(rt: &R, alloc: Global) -> Result<bool, Memory> {
     for steps in 1..5 {
-        let plan = spread(alloc)?;
-        let again = spread(alloc)?;
+        let plan = spread_example(alloc)?;
+        let again = spread_example(alloc)?;
         if !alike(rt, alloc, plan, again, steps)? {
             return Ok(false);
         }
@@ -95,7 +97,7 @@ fn spread_alike<R: Threads + Sync>(rt: &R, alloc: Global) -> Result<bool, Memory
 #[test]
 fn settled_plan(rt: HostRuntime) -> Result<(), Fail> {
     steps_keep_plans::<Five>();
-    let plan = settled(rt.alloc())?;
+    let plan = settled_example(rt.alloc())?;
     assert_eq!(rt;
         improvement(&rt, rt.alloc(), 3, plan, 20)?.as_slice(),
         [0, 0, 11, 0, 1, 99, 0, 6, 2, 3, 4, 99].as_slice()
@@ -117,7 +119,7 @@ fn swap_before_cut(rt: HostRuntime) -> Result<(), Fail> {
 /// Four swaps and a cut; the columns that become empty vanish.
 #[test]
 fn swaps_and_a_cut(rt: HostRuntime) -> Result<(), Fail> {
-    let plan = mixed(rt.alloc())?;
+    let plan = mixed_example(rt.alloc())?;
     assert_eq!(rt;
         improvement(&rt, rt.alloc(), 3, plan, 20)?.as_slice(),
         [5, 0, 6, 0, 1, 2, 99, 0, 11, 3, 4, 99].as_slice()
@@ -128,7 +130,7 @@ fn swaps_and_a_cut(rt: HostRuntime) -> Result<(), Fail> {
 /// Of equal swaps of the same columns the one with fewer items in front comes first.
 #[test]
 fn first_of_equal_swaps(rt: HostRuntime) -> Result<(), Fail> {
-    let plan = crossed(rt.alloc())?;
+    let plan = crossed_example(rt.alloc())?;
     assert_eq!(rt;
         improvement(&rt, rt.alloc(), 1, plan, 20)?.as_slice(),
         [1, 0, 9, 0, 1, 3, 99, 1, 15, 2, 4, 99].as_slice()
@@ -139,7 +141,7 @@ fn first_of_equal_swaps(rt: HostRuntime) -> Result<(), Fail> {
 /// Five swaps turn four columns into two; columns that become empty vanish.
 #[test]
 fn five_swaps(rt: HostRuntime) -> Result<(), Fail> {
-    let plan = loose(rt.alloc())?;
+    let plan = loose_example(rt.alloc())?;
     assert_eq!(rt;
         improvement(&rt, rt.alloc(), 3, plan, 20)?.as_slice(),
         [5, 0, 6, 0, 1, 2, 99, 0, 11, 3, 4, 99].as_slice()
@@ -150,7 +152,7 @@ fn five_swaps(rt: HostRuntime) -> Result<(), Fail> {
 /// No more steps are made than are allowed.
 #[test]
 fn two_of_five_swaps(rt: HostRuntime) -> Result<(), Fail> {
-    let plan = loose(rt.alloc())?;
+    let plan = loose_example(rt.alloc())?;
     assert_eq!(rt;
         improvement(&rt, rt.alloc(), 3, plan, 2)?.as_slice(),
         [2, 0, 17, 0, 3, 99, 1, 10, 1, 2, 4, 99].as_slice()

@@ -24,7 +24,7 @@ struct FileTables {
 }
 
 /// The answer for a file that is not read.
-fn unread(file: u32, refusal: ReadRefusal) -> FileFault
+fn fault_of_read(file: u32, refusal: ReadRefusal) -> FileFault
     ensures { result ≡ read_fault file refusal }
 {
     match refusal {
@@ -41,7 +41,7 @@ fn unread(file: u32, refusal: ReadRefusal) -> FileFault
 }
 
 /// The answer for a file whose text is refused.
-fn unspelled(file: u32, fault: TextFault) -> FileFault
+fn fault_of_text(file: u32, fault: TextFault) -> FileFault
     ensures { result ≡ text_fault file fault.line fault.kind }
 {
     if fault.kind == TextKind::Memory {
@@ -73,14 +73,14 @@ fn read_spelled<F: Files>(
 {
     let bytes = match read_whole(alloc, files, name, most) {
         Ok(bytes) => bytes,
-        Err(refusal) => return Err(unread(number, refusal)),
+        Err(refusal) => return Err(fault_of_read(number, refusal)),
     };
     match read_file(alloc, bytes.as_slice(), most) {
         Ok(tables) => Ok(FileTables {
             length: bytes.len() as u64,
             tables,
         }),
-        Err(fault) => Err(unspelled(number, fault)),
+        Err(fault) => Err(fault_of_text(number, fault)),
     }
 }
 

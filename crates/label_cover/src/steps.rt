@@ -212,7 +212,7 @@ fn sum(value: i64, more: i64) -> i128
 }
 
 /// The value of a closed list with what its sign-off adds, where the list is a lawful duty.
-fn closed(group: &Group, mark: &Mark, off: i64, more: i64) -> Option<i128>
+fn value_at_sign_off(group: &Group, mark: &Mark, off: i64, more: i64) -> Option<i128>
     ensures { result ≡ given (closes_lawfully group.now mark.now off) (Some (mark.now.value +ℤ more)) }
 {
     if may_close(group, mark, off) {
@@ -231,7 +231,7 @@ fn closed_some(group: &Group, mark: &Mark, off: Option<i64>, more: Option<i64>) 
         None => None,
         Some(off) => match more {
             None => None,
-            Some(more) => closed(group, mark, off, more),
+            Some(more) => value_at_sign_off(group, mark, off, more),
         },
     }
 }

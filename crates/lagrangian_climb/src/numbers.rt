@@ -122,7 +122,7 @@ fn keep(low: i64, high: i64, number: i64) -> i64
 }
 
 /// A price after a price step.
-pub fn moved(low: i64, high: i64, unit: i64, direction: i64, price: i64) -> i64
+pub fn price_after_move(low: i64, high: i64, unit: i64, direction: i64, price: i64) -> i64
     requires limits { low ≤ℤ high }
     requires price_low { neg_ℤ (pos most_price) ≤ℤ price }
     requires price_high { price ≤ℤ pos most_price }

@@ -6,7 +6,7 @@ ghost use Rattle.cover_core.specs.FirstLeast.{AllWithin};
 ghost use Rattle.cover_core.specs.Plans.{price_at, number_at};
 ghost use Rattle.lagrangian_climb.specs.Climbs.{AreNear, AreSpans};
 
-use crate::numbers::{direction, lack, moved, square};
+use crate::numbers::{direction, lack, price_after_move, square};
 use cover_core::Prices;
 use plan_core::{Memory, Price, Seq};
 use std::alloc::Global;
@@ -114,7 +114,7 @@ pub fn moved_prices(
     for item in 0..prices.items.len() {
         let span = span_at(spans, item);
         let direction = direction_at(directions, item);
-        let price = moved(span.low, span.high, unit, direction, price_at(prices, item));
+        let price = price_after_move(span.low, span.high, unit, direction, price_at(prices, item));
         items.push(Price(price))?;
     }
     Ok(Prices { items })

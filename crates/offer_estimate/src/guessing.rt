@@ -18,7 +18,7 @@ pub struct Estimate {
 }
 
 /// What scaled prices pay for a list of the least value, times the whole.
-fn paid(part: i64, least: i64) -> i128
+fn payment(part: i64, least: i64) -> i128
     requires part_low { pos 1 ≤ℤ part }
     requires part_high { part ≤ℤ pos 4000000000000 }
     requires low { neg_ℤ (pos 30000000000000000) ≤ℤ least }
@@ -56,7 +56,7 @@ fn left(worth: i64, rest: i128) -> i128
 }
 
 /// A number divided by a whole, towards zero.
-fn divided(number: i128, whole: i64) -> i128
+fn quotient(number: i128, whole: i64) -> i128
     requires low { neg_ℤ (pos 1000000000000000000000000000000) ≤ℤ number }
     requires high { number ≤ℤ pos 1000000000000000000000000000000 }
     requires whole { pos 1 ≤ℤ whole }
@@ -82,7 +82,7 @@ fn scaled_value(part: i64, whole: i64, least: i64, worth: i64) -> i128
     ensures high { result ≤ℤ pos 0 }
 {
     let rest = left(worth, rest_of(part, whole));
-    let value = divided(paid(part, least) + rest, whole);
+    let value = quotient(payment(part, least) + rest, whole);
     if value < 0 { value } else { 0 }
 }
 
@@ -129,7 +129,7 @@ fn guess(sum: i128, least: &[i64], worths: &[i64], caps: &[u32], part: i64, whol
     ensures low { neg_ℤ (pos 1000000000000000000000000000000000000) ≤ℤ result }
     ensures high { result ≤ℤ pos 1000000000000000000000000000000 }
 {
-    let mut guess = divided(scaled_sum(part, sum), whole);
+    let mut guess = quotient(scaled_sum(part, sum), whole);
     for class in 0..caps.len() {
         let value = scaled_value(part, whole, least_at(least, class), worth_at(worths, class));
         guess += loss(cap_at(caps, class), value);

@@ -13,7 +13,7 @@ use plan_params::Pool;
 use trip_times::Trip;
 
 /// What seconds cost at a rate.
-fn charged(rate: u32, seconds: u32) -> u64
+fn cost_at_rate(rate: u32, seconds: u32) -> u64
     requires rate { rate ≤ most_rate }
     requires seconds { seconds ≤ 345600 }
     ensures value { result ≡ rate * seconds }
@@ -34,18 +34,18 @@ fn link_cost(pool: &Pool, next: &Trip, link: Link) -> u64
     match link {
         Link::Direct { dead, stand } => {
             let stood = if next.from == pool.depot { 0 } else { stand };
-            charged(pool.dead_rate, dead) + charged(pool.stand_rate, stood)
+            cost_at_rate(pool.dead_rate, dead) + cost_at_rate(pool.stand_rate, stood)
         }
         Link::Depot {
             inward,
             outward,
             ..
-        } => charged(pool.dead_rate, inward + outward),
+        } => cost_at_rate(pool.dead_rate, inward + outward),
     }
 }
 
 /// What a later trip adds to the cost of a path that ends with a trip, if it may follow it.
-fn added(day: &Day, pool: &Pool, t: u32, u: u32) -> Option<u64>
+fn cost_of_following(day: &Day, pool: &Pool, t: u32, u: u32) -> Option<u64>
     requires pool { slice_get day.now.params.pools 0 ≡ Some pool.now }
     requires ranges { IsPool pool.now }
     requires trip { t < length day.now.trips }
@@ -63,7 +63,7 @@ fn added(day: &Day, pool: &Pool, t: u32, u: u32) -> Option<u64>
 }
 
 /// What the pull-in adds, if there is one.
-fn ended(day: &Day, pool: &Pool, t: u32) -> Option<u64>
+fn cost_of_pull_in(day: &Day, pool: &Pool, t: u32) -> Option<u64>
     requires pool { slice_get day.now.params.pools 0 ≡ Some pool.now }
     requires ranges { IsPool pool.now }
     requires trip { t < length day.now.trips }
@@ -72,11 +72,11 @@ fn ended(day: &Day, pool: &Pool, t: u32) -> Option<u64>
     ensures dear { IfSome result (λ cost. cost ≤ dear_of pool.now) }
 {
     let seconds = day.pull_in(0, t)?;
-    Some(charged(pool.dead_rate, seconds))
+    Some(cost_at_rate(pool.dead_rate, seconds))
 }
 
 /// The fixed cost and the pull-out of a path that begins with a trip, if it may.
-fn begun(day: &Day, pool: &Pool, t: u32) -> Option<u64>
+fn cost_of_beginning(day: &Day, pool: &Pool, t: u32) -> Option<u64>
     requires pool { slice_get day.now.params.pools 0 ≡ Some pool.now }
     requires ranges { IsPool pool.now }
     requires trip { t < length day.now.trips }
@@ -90,7 +90,7 @@ fn begun(day: &Day, pool: &Pool, t: u32) -> Option<u64>
         return None;
     }
     let out = day.pull_out(0, t)?;
-    Some(u64::from(pool.fixed) + charged(pool.dead_rate, out))
+    Some(u64::from(pool.fixed) + cost_at_rate(pool.dead_rate, out))
 }
 
 /// What an arc of the day's network costs, if it is there.
@@ -106,12 +106,12 @@ fn wide_cost(day: &Day, pool: &Pool, n: u32, x: u32, v: u32) -> Option<u64>
 {
     if x < n {
         if v < n {
-            return added(day, pool, x, v);
+            return cost_of_following(day, pool, x, v);
         }
-        return ended(day, pool, x);
+        return cost_of_pull_in(day, pool, x);
     }
     if v < n {
-        return begun(day, pool, v);
+        return cost_of_beginning(day, pool, v);
     }
     Some(0)
 }

@@ -26,7 +26,7 @@ pub struct LeastCover {
 }
 
 /// A list of as many of one value.
-fn filled<T: Copy>(alloc: Global, value: T, count: u32) -> Result<Vec<T>, Memory>
+fn list_of_one_value<T: Copy>(alloc: Global, value: T, count: u32) -> Result<Vec<T>, Memory>
     ensures { IfOk result (λ list. list.items ≡ replicate count value) }
 {
     let mut list = Vec::new(alloc);
@@ -42,8 +42,8 @@ fn zero_falls(alloc: Global, n: u32) -> Result<Falls, Memory>
     ensures tails { IfOk result (λ falls. falls.tails.items ≡ replicate (n + 1) 0) }
     ensures heads { IfOk result (λ falls. falls.heads.items ≡ replicate (n + 1) 0) }
 {
-    let tails = filled(alloc, 0, n + 1)?;
-    let heads = filled(alloc, 0, n + 1)?;
+    let tails = list_of_one_value(alloc, 0, n + 1)?;
+    let heads = list_of_one_value(alloc, 0, n + 1)?;
     Ok(Falls { tails, heads })
 }
 
@@ -52,12 +52,12 @@ fn no_growth(alloc: Global, n: u32) -> Result<Growth, Memory>
     requires few { n ≤ most_items }
     ensures { IfOk result (λ growth. IsSized n growth) }
 {
-    let rows = filled(alloc, false, n + 1)?;
-    let columns = filled(alloc, false, n + 1)?;
-    let by = filled(alloc, 0, n + 1)?;
-    let via = filled(alloc, 0, n + 1)?;
-    let least = filled(alloc, None, n + 1)?;
-    let depth = filled(alloc, 0, n + 1)?;
+    let rows = list_of_one_value(alloc, false, n + 1)?;
+    let columns = list_of_one_value(alloc, false, n + 1)?;
+    let by = list_of_one_value(alloc, 0, n + 1)?;
+    let via = list_of_one_value(alloc, 0, n + 1)?;
+    let least = list_of_one_value(alloc, None, n + 1)?;
+    let depth = list_of_one_value(alloc, 0, n + 1)?;
     Ok(Growth {
         rows,
         columns,
@@ -75,8 +75,8 @@ fn no_placing(alloc: Global, n: u32, most: u32) -> Result<Placing, Memory>
     ensures spare { IfOk result (λ placing. placing.spare ≡ most) }
     ensures room { IfOk result (λ placing. placing.room ≡ 0) }
 {
-    let to = filled(alloc, FREE, n)?;
-    let from = filled(alloc, FREE, n)?;
+    let to = list_of_one_value(alloc, FREE, n)?;
+    let from = list_of_one_value(alloc, FREE, n)?;
     Ok(Placing {
         to,
         from,

@@ -39,7 +39,7 @@ pub(crate) fn with_pull_in(net: &PoolNet<'_>, class: u32, pool: &Pool, t: u32) -
 }
 
 /// A number, raised to what the prices of so many trips can take off.
-fn settled(least: i64, trips: u32) -> i64
+fn least_payable(least: i64, trips: u32) -> i64
     requires { trips ≤ most_items }
     ensures low { neg_ℤ (pos (most_price * trips)) ≤ℤ result }
     ensures least { (x : ℤ) → least ≤ℤ x → neg_ℤ (pos (most_price * trips)) ≤ℤ x → result ≤ℤ x }
@@ -94,7 +94,7 @@ fn rest_behind(
             net, class, pool, firsts, stood, passed, width, number, head, t, place, least,
         );
     }
-    settled(least, count - t)
+    least_payable(least, count - t)
 }
 
 /// So many equal numbers.

@@ -12,7 +12,7 @@ use plan_params::Pool;
 use trip_times::Trip;
 
 /// What seconds cost at a rate.
-fn charged(rate: u32, seconds: u32) -> u64
+fn cost_at_rate(rate: u32, seconds: u32) -> u64
     requires rate { rate ≤ most_rate }
     requires seconds { seconds ≤ 345600 }
     ensures value { result ≡ rate * seconds }
@@ -32,7 +32,7 @@ pub(crate) fn charge(counts: bool, rate: u32, seconds: u32) -> i64
     if counts {
         0
     } else {
-        1000 * charged(rate, seconds) as i64
+        1000 * cost_at_rate(rate, seconds) as i64
     }
 }
 

@@ -77,11 +77,11 @@ fn is_within(value: i64, cost: i64, price: i64, rest: i64, limit: i64) -> bool
 fn most_within(cost: i64, price: i64, rest: i64, limit: i64) -> i64
     ensures { result <ℤ pos 9223372036854775807 → limit ≤ℤ (result +ℤ cost -ℤ price +ℤ rest) }
 {
-    clamped(limit as i128 - total(0, cost, price, rest))
+    nearest_number(limit as i128 - total(0, cost, price, rest))
 }
 
 /// The number of 64 bits that is nearest to a number.
-fn clamped(number: i128) -> i64
+fn nearest_number(number: i128) -> i64
     ensures { result <ℤ pos 9223372036854775807 → number ≤ℤ result }
 {
     if number < i64::MIN as i128 {

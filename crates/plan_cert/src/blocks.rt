@@ -23,7 +23,7 @@ impl MarkRow for BlockMark {
 
     ghost entry_of = { spec.block_entry };
 
-    fn kept() -> MarkTable {
+    fn table_and_passes() -> MarkTable {
         MarkTable {
             table: CertTable::BlockMarks,
             by_number: Pass::BlockNumber,

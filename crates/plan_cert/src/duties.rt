@@ -54,7 +54,7 @@ impl MarkRow for Mark {
 
     ghost entry_of = { spec.duty_entry };
 
-    fn kept() -> MarkTable {
+    fn table_and_passes() -> MarkTable {
         MarkTable {
             table: CertTable::DutyMarks,
             by_number: Pass::DutyNumber,

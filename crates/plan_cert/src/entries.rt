@@ -6,7 +6,7 @@ ghost use Rattle.plan_cert.specs.Shapes.{HaveFew};
 
 use crate::cert::Pass;
 use crate::columns::PlaceColumns;
-use crate::numbers::{class_among, counted, number_at, word};
+use crate::numbers::{class_among, number_at, place_of_number, word};
 use crate::shape::Shape;
 use vdv451_text::Field;
 
@@ -42,7 +42,7 @@ fn place_at(shape: &Shape, columns: &PlaceColumns, pass: Pass, row: &[Field]) ->
     ensures { result ≡ spec.place_at shape.now columns.now pass row.now }
 {
     let class = class_among(shape.classes.numbers(pass), number_at(row, columns.class))?;
-    let item = counted(shape.items(pass), number_at(row, columns.item))?;
+    let item = place_of_number(shape.items(pass), number_at(row, columns.item))?;
     Some(MarkPlace { pass, class, item })
 }
 

@@ -65,7 +65,7 @@ pub(crate) trait MarkRow: Copy + Drop {
     ghost entry_of: { Shape → Self.Columns → List Field → Option (PassMark Self) };
 
     /// The table and the passes.
-    fn kept() -> MarkTable
+    fn table_and_passes() -> MarkTable
         ensures { result ≡ kept_in };
 
     /// The columns of a table, where all are there.
@@ -100,7 +100,7 @@ fn put_when<M: Copy>(marks: &mut Seq<M>, pass: Pass, own: Pass, mark: M) -> Resu
 fn put_mark<M: MarkRow>(marks: &mut PassMarks<M>, entry: PassMark<M>) -> Result<(), Memory>
     ensures { OnOk result (marks.new ≡ spec.with_mark M.kept_in marks.old entry) }
 {
-    let kept = M::kept();
+    let kept = M::table_and_passes();
     put_when(&mut marks.of_number, kept.by_number, entry.pass, entry.mark)?;
     put_when(&mut marks.of_cost, kept.by_cost, entry.pass, entry.mark)
 }
@@ -142,7 +142,7 @@ fn marks_in<M: MarkRow>(
         of_cost: Seq::new(alloc),
     };
     let wrong = keep_marks::<M>(shape, columns, rows, &mut marks)?;
-    no_wrong(M::kept().table, wrong)?;
+    no_wrong(M::table_and_passes().table, wrong)?;
     Ok(marks)
 }
 
@@ -155,7 +155,7 @@ pub(crate) fn read_marks<M: MarkRow>(
     requires { HaveFew shape.now.classes }
     ensures { Gives result (spec.marks_of M.kept_in M.columns_of (M.entry_of shape.now) tables.now) }
 {
-    let which = M::kept().table;
+    let which = M::table_and_passes().table;
     let table = table_of(tables, which)?;
     match M::columns(table.columns.as_slice()) {
         Some(columns) => marks_in::<M>(alloc, shape, &columns, table.rows.as_slice()),

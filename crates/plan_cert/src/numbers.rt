@@ -50,7 +50,7 @@ pub(crate) fn word(number: Option<i64>) -> Option<u32>
 }
 
 /// A number from 1 to a greatest one, counted from 0.
-pub(crate) fn counted(most: u32, number: Option<i64>) -> Option<u32>
+pub(crate) fn place_of_number(most: u32, number: Option<i64>) -> Option<u32>
     ensures value { result ≡ spec.counted most number }
     ensures bound { IfSome result (λ n. n < most) }
 {

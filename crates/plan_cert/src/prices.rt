@@ -12,9 +12,9 @@ ghost use Rattle.plan_cert.specs.declared.prices.Priced.TheVariants as kinds;
 use crate::cert::Pass;
 use crate::columns::{PriceColumns, price_columns};
 use crate::fault::{CertFault, CertTable};
-use crate::numbers::{any_pass, class_among, counted, moderate, number_at};
+use crate::numbers::{any_pass, class_among, moderate, number_at, place_of_number};
 use crate::shape::Shape;
-use crate::slots::{Entry, Slots, unread};
+use crate::slots::{Entry, Slots, empty_prices};
 use crate::table::{no_wrong, table_of, whole};
 use plan_core::{Memory, Seq};
 use std::alloc::{AllocError, Global};
@@ -79,7 +79,7 @@ fn item_entry(shape: &Shape, columns: &PriceColumns, row: &[Field]) -> Option<En
     ensures within { IfSome result (λ e. e.number < spec.count_for kinds.Items shape.now e.pass) }
 {
     let pass = any_pass(number_at(row, columns.pass))?;
-    let number = counted(shape.items(pass), number_at(row, columns.number))?;
+    let number = place_of_number(shape.items(pass), number_at(row, columns.number))?;
     let price = moderate(number_at(row, columns.price))?;
     Some(Entry {
         pass,
@@ -122,10 +122,10 @@ fn no_slots(alloc: Global, kind: Priced, shape: &Shape) -> Result<Slots, Memory>
     ensures { IfOk result (λ slots. slots ≡ spec.found_slots (spec.count_for kind shape.now) []) }
 {
     Ok(Slots {
-        block_number: unread(alloc, count_for(kind, shape, Pass::BlockNumber))?,
-        block_cost: unread(alloc, count_for(kind, shape, Pass::BlockCost))?,
-        duty_number: unread(alloc, count_for(kind, shape, Pass::DutyNumber))?,
-        duty_cost: unread(alloc, count_for(kind, shape, Pass::DutyCost))?,
+        block_number: empty_prices(alloc, count_for(kind, shape, Pass::BlockNumber))?,
+        block_cost: empty_prices(alloc, count_for(kind, shape, Pass::BlockCost))?,
+        duty_number: empty_prices(alloc, count_for(kind, shape, Pass::DutyNumber))?,
+        duty_cost: empty_prices(alloc, count_for(kind, shape, Pass::DutyCost))?,
     })
 }
 

@@ -33,7 +33,7 @@ fn whole(number: u32) -> Option<i64>
 }
 
 /// A number counted from 1.
-fn counted(number: u32) -> Option<i64>
+fn number_of_place(number: u32) -> Option<i64>
     ensures { result ≡ spec.whole (number + 1) }
 {
     Some(number as i64 + 1)
@@ -120,7 +120,7 @@ fn duty_row(alloc: Global, pass: Pass, number: u32, mark: &Mark) -> Result<Seq<F
         &[
             pass_number(pass),
             whole(number),
-            counted(mark.piece),
+            number_of_place(mark.piece),
             Some(mark.start.0),
             whole(mark.driving),
             bit(mark.quarter),
@@ -173,7 +173,7 @@ fn block_row(alloc: Global, pass: Pass, number: u32, mark: &BlockMark) -> Result
         &[
             pass_number(pass),
             whole(number),
-            counted(mark.trip),
+            number_of_place(mark.trip),
             whole(mark.driving),
             Some(mark.value),
         ],

@@ -33,7 +33,7 @@ pub struct Entry {
 }
 
 /// So many prices that were not read.
-pub(crate) fn unread(alloc: Global, count: u32) -> Result<Seq<Option<i64>>, Memory>
+pub(crate) fn empty_prices(alloc: Global, count: u32) -> Result<Seq<Option<i64>>, Memory>
     ensures { IfOk result (λ slots. slots ≡ unset count) }
 {
     let mut slots = Seq::new(alloc);

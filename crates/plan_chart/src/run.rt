@@ -23,7 +23,7 @@ use vdv451_text::{TextFault, TextKind, read_file};
 const MOST: u64 = 67_108_864;
 
 /// The status for a text that is refused.
-fn unspelled(fault: TextFault) -> Status
+fn status_of_text_fault(fault: TextFault) -> Status
     ensures { result ≡ spec.text_status fault }
 {
     if fault.kind == TextKind::Memory {
@@ -34,7 +34,7 @@ fn unspelled(fault: TextFault) -> Status
 }
 
 /// The status for tables that are refused.
-fn undrawn(fault: RowFault) -> Status
+fn status_of_row_fault(fault: RowFault) -> Status
     ensures { result ≡ spec.form_status fault }
 {
     match fault {
@@ -50,16 +50,16 @@ fn page_of(alloc: Global, bytes: &[u8]) -> Result<Bytes, Status>
 {
     let tables = match read_file(alloc, bytes, MOST) {
         Ok(tables) => tables,
-        Err(fault) => return Err(unspelled(fault)),
+        Err(fault) => return Err(status_of_text_fault(fault)),
     };
     match chart(alloc, tables.as_slice()) {
         Ok(page) => Ok(page),
-        Err(fault) => Err(undrawn(fault)),
+        Err(fault) => Err(status_of_row_fault(fault)),
     }
 }
 
 /// The status for a file that is not read.
-fn unread(refusal: ReadRefusal) -> Status
+fn status_of_read(refusal: ReadRefusal) -> Status
     ensures { result ≡ spec.read_status refusal }
 {
     match refusal {
@@ -80,13 +80,13 @@ fn answer<F: Files>(alloc: Global, files: &mut F, name: &[u8]) -> Result<Bytes, 
 {
     let bytes = match read_whole(alloc, files, name, MOST) {
         Ok(bytes) => bytes,
-        Err(refusal) => return Err(unread(refusal)),
+        Err(refusal) => return Err(status_of_read(refusal)),
     };
     page_of(alloc, bytes.as_slice())
 }
 
 /// Writes the page, and tells how that went.
-fn written<O: Sink>(out: &mut O, page: &[u8]) -> Status
+fn write_page<O: Sink>(out: &mut O, page: &[u8]) -> Status
     ensures { spec.IsWritten (O.taken out.old) (O.taken out.new) (O.faults out.old) (O.faults out.new) page.now result }
 {
     match write_whole(out, page) {
@@ -96,7 +96,7 @@ fn written<O: Sink>(out: &mut O, page: &[u8]) -> Status
 }
 
 /// Draws the plan in a file, without a word on standard error.
-fn drawn<F: Files, O: Sink>(alloc: Global, name: &[u8], files: &mut F, out: &mut O) -> Status
+fn draw_file<F: Files, O: Sink>(alloc: Global, name: &[u8], files: &mut F, out: &mut O) -> Status
     ensures right { result ≢ Status.Usage }
     ensures text { (fault : FaultOfText) → result ≡ Status.Text fault → IfSome (F.held files.old name.now) (λ bytes. spec.IsRefusal bytes (Status.Text fault)) }
     ensures form { (place : PlaceOfTable) → result ≡ Status.Form place → IfSome (F.held files.old name.now) (λ bytes. spec.IsRefusal bytes (Status.Form place)) }
@@ -108,13 +108,18 @@ fn drawn<F: Files, O: Sink>(alloc: Global, name: &[u8], files: &mut F, out: &mut
     ensures same { (other : List ℕ) → F.held files.new other ≡ F.held files.old other }
 {
     match answer(alloc, files, name) {
-        Ok(page) => written(out, page.as_slice()),
+        Ok(page) => write_page(out, page.as_slice()),
         Err(status) => status,
     }
 }
 
 /// The same, for the file that the words ask for.
-fn answered<F: Files, O: Sink>(alloc: Global, words: &[Bytes], files: &mut F, out: &mut O) -> Status
+fn answer_words<F: Files, O: Sink>(
+    alloc: Global,
+    words: &[Bytes],
+    files: &mut F,
+    out: &mut O,
+) -> Status
     ensures usage { (result ≡ Status.Usage) ↔ (asked_by words.now ≡ None) }
     ensures text { (fault : FaultOfText) → result ≡ Status.Text fault → IfSome (asked_by words.now) (λ name. IfSome (F.held files.old name) (λ bytes. spec.IsRefusal bytes (Status.Text fault))) }
     ensures form { (place : PlaceOfTable) → result ≡ Status.Form place → IfSome (asked_by words.now) (λ name. IfSome (F.held files.old name) (λ bytes. spec.IsRefusal bytes (Status.Form place))) }
@@ -126,7 +131,7 @@ fn answered<F: Files, O: Sink>(alloc: Global, words: &[Bytes], files: &mut F, ou
     ensures same { (other : List ℕ) → F.held files.new other ≡ F.held files.old other }
 {
     match asked(words) {
-        Some(name) => drawn(alloc, name, files, out),
+        Some(name) => draw_file(alloc, name, files, out),
         None => Status::Usage,
     }
 }
@@ -173,7 +178,7 @@ pub fn run<F: Files, O: Sink, E: Sink>(
     ensures quiet { result ≡ Status.Ok → err.new ≡ err.old }
     ensures line { result ≢ Status.Ok → IsTold (E.taken err.old) (E.taken err.new) (E.faults err.old) (E.faults err.new) (line_of result) }
 {
-    let status = answered(alloc, words, files, out);
+    let status = answer_words(alloc, words, files, out);
     tell_refusal(err, status);
     status
 }

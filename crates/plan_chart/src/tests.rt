@@ -75,7 +75,7 @@ fn file(alloc: Global, bytes: Bytes) -> Result<MemFile, Fail>
     })
 }
 
-fn listed(alloc: Global, words: &[&str]) -> Result<Vec<Bytes>, Fail> {
+fn words_from(alloc: Global, words: &[&str]) -> Result<Vec<Bytes>, Fail> {
     let mut list = Vec::new(alloc);
     for word in words {
         list.push(Bytes::from_vec(word.as_bytes().to_vec(alloc)?))?;
@@ -91,7 +91,7 @@ fn run_on(
     out: &mut MemSink,
     err: &mut MemSink,
 ) -> Result<u8, Fail> {
-    let list = listed(alloc, words)?;
+    let list = words_from(alloc, words)?;
     let mut files = MemFiles::new(
         Seq::from_vec(vec![in alloc; file(alloc, bytes_of(alloc, texts)?)?]?),
         numbers(alloc, &[])?,

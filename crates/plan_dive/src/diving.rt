@@ -50,7 +50,7 @@ fn climb_twice<C: Columns>(
 }
 
 /// Makes the price of an item so low that no column with it pays.
-fn shut(items: &mut Seq<Price>, item: usize)
+fn shut_item(items: &mut Seq<Price>, item: usize)
     requires inside { item < length items.old }
     requires moderate { AllWithin most_price items.old }
     ensures len { length items.new ≡ length items.old }
@@ -73,7 +73,7 @@ fn prices_away<C: Columns>(
     let mut items = prices.items.with_items(prices.items.as_slice())?;
     for (item, is_fixed) in fixed.iter().enumerate() {
         if *is_fixed {
-            shut(&mut items, item);
+            shut_item(&mut items, item);
         }
     }
     Ok(Prices { items })
@@ -195,7 +195,7 @@ fn pool_of<C: Columns>(alloc: Global, problem: &C, columns: Seq<Column>) -> Resu
 }
 
 /// A plan of the fixed columns and of what rounding adds to them; None where rounding leaves an item.
-fn completed<C: Columns>(
+fn completed_plan<C: Columns>(
     alloc: Global,
     problem: &C,
     fixed: Seq<Column>,
@@ -214,7 +214,7 @@ fn completed<C: Columns>(
 }
 
 /// The columns that a dive fixes, and the prices that it reaches.
-fn dived<R: Threads + Sync, P: Pricer + Sync, G: Gate + Sync>(
+fn fixed_columns<R: Threads + Sync, P: Pricer + Sync, G: Gate + Sync>(
     alloc: Global,
     problem: &P,
     rt: &R,
@@ -284,8 +284,8 @@ pub fn dive<R: Threads + Sync, P: Pricer + Sync, G: Gate + Sync>(
     ensures plan { IfOk result (IsDived (P.problem problem.now)) }
     ensures stock { OnOk result (IsStock (P.problem problem.now) stock.new) }
 {
-    let (fixed, prices) = dived(
+    let (fixed, prices) = fixed_columns(
         alloc, problem, rt, gate, workers, ground, stock, stay, aim, course, counted, pricings,
     )?;
-    completed(alloc, problem, fixed, &prices)
+    completed_plan(alloc, problem, fixed, &prices)
 }

@@ -30,7 +30,7 @@ fn read(alloc: Global, day: &Day, tables: &[Table]) -> Result<PlanText, Fail> {
 }
 
 /// The text of tables that can be written.
-fn spelled(alloc: Global, tables: &[Table]) -> Result<Bytes, Fail> {
+fn text_of_tables(alloc: Global, tables: &[Table]) -> Result<Bytes, Fail> {
     if is_plain(tables) {
         Ok(write_tables(alloc, tables)?)
     } else {
@@ -62,7 +62,7 @@ fn is_plan_in(alloc: Global, day: &Day, tables: &[Table]) -> Result<bool, Fail> 
 
 /// Whether the text of tables is read as the plan of the day.
 fn is_plan_in_text(alloc: Global, day: &Day, tables: &[Table]) -> Result<bool, Fail> {
-    let bytes = spelled(alloc, tables)?;
+    let bytes = text_of_tables(alloc, tables)?;
     let again = tables_in(alloc, bytes.as_slice())?;
     is_plan_in(alloc, day, again.as_slice())
 }

@@ -220,7 +220,12 @@ fn are_bounds(bounds: &[u64]) -> bool
 }
 
 /// The tables of an answer, where it is in its ranges.
-fn written(alloc: Global, day: &Day, rec_frt: &Table, answer: &Answer) -> Result<Seq<Table>, Fail> {
+fn written_tables(
+    alloc: Global,
+    day: &Day,
+    rec_frt: &Table,
+    answer: &Answer,
+) -> Result<Seq<Table>, Fail> {
     let trips = day.trips();
     if !is_plain(slice::from_ref(rec_frt))
         || !have_one_row(rec_frt, day.kind().version, trips)
@@ -256,7 +261,7 @@ fn written(alloc: Global, day: &Day, rec_frt: &Table, answer: &Answer) -> Result
 /// The tables of the plan of the day, over the table of its trips.
 fn plan_over(alloc: Global, day: &Day, rec_frt: &Table) -> Result<Seq<Table>, Fail> {
     let answer = answer(alloc)?;
-    written(alloc, day, rec_frt, &answer)
+    written_tables(alloc, day, rec_frt, &answer)
 }
 
 /// The tables of the plan of the day.

@@ -108,7 +108,7 @@ fn read_tables(alloc: Global, day: &Day, tables: &[Table]) -> Result<PlanText, R
 }
 
 /// A fault with the name of its table.
-fn named(alloc: Global, fault: ReadFault) -> PlanFault
+fn fault_of_table(alloc: Global, fault: ReadFault) -> PlanFault
     ensures { IsNamed fault result }
 {
     let ReadFault::Form(place) = fault else {
@@ -154,6 +154,6 @@ pub fn read_plan(alloc: Global, day: &Day, tables: &[Table]) -> Result<PlanText,
 {
     match read_tables(alloc, day, tables) {
         Ok(text) => Ok(text),
-        Err(fault) => Err(named(alloc, fault)),
+        Err(fault) => Err(fault_of_table(alloc, fault)),
     }
 }

@@ -8,7 +8,7 @@ ghost use Rattle.plan_read.specs.Told as told_spec;
 ghost use Rattle.plan_read.specs.declared.fault.PlanTable.TheVariants as tables;
 
 use crate::fault::{Place, PlanTable, ReadFault};
-use crate::numbers::{counted, not_below, number_at};
+use crate::numbers::{not_below, number_at, place_of_number};
 use crate::table::{Pair, PairRows};
 use crate::told::{Told, trip_of};
 use plan_core::Seq;
@@ -50,7 +50,7 @@ fn trip_entry(told: &[Told], counts: &Counts, columns: &Pair, row: &[Field]) -> 
     ensures { result ≡ spec.trip_entry told.now counts.now (pair_at columns.now row.now) }
 {
     let trip = trip_among(told, number_at(row, columns.first))?;
-    let block = counted(counts.blocks, number_at(row, columns.second))?;
+    let block = place_of_number(counts.blocks, number_at(row, columns.second))?;
     Some((trip, block))
 }
 

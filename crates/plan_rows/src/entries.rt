@@ -211,7 +211,7 @@ fn trip_place(trips: &[TripRow], fid: u64) -> Option<usize>
     trips.iter().position(|trip| trip.fid == fid)
 }
 
-fn ran(kind: LegKind, trip: Option<usize>) -> Work
+fn work_of_leg(kind: LegKind, trip: Option<usize>) -> Work
     ensures { result ≡ spec.ran kind trip }
 {
     Work { kind, trip }
@@ -224,12 +224,12 @@ fn work_of(trips: &[TripRow], fid: Option<i64>, kind: LegKind) -> Option<Work>
         LegKind::Trip => {
             let number = up_to(MOST_FID, fid)?;
             let place = trip_place(trips, number)?;
-            Some(ran(LegKind::Trip, Some(place)))
+            Some(work_of_leg(LegKind::Trip, Some(place)))
         }
-        LegKind::PullOut => Some(ran(LegKind::PullOut, None)),
-        LegKind::Deadhead => Some(ran(LegKind::Deadhead, None)),
-        LegKind::Stand => Some(ran(LegKind::Stand, None)),
-        LegKind::PullIn => Some(ran(LegKind::PullIn, None)),
+        LegKind::PullOut => Some(work_of_leg(LegKind::PullOut, None)),
+        LegKind::Deadhead => Some(work_of_leg(LegKind::Deadhead, None)),
+        LegKind::Stand => Some(work_of_leg(LegKind::Stand, None)),
+        LegKind::PullIn => Some(work_of_leg(LegKind::PullIn, None)),
     }
 }
 

@@ -366,7 +366,7 @@ fn answer<R: Threads + Sync, F: Files, G: Gate + Sync>(
 }
 
 /// Writes the text of a command, and tells how that went.
-fn written<O: Sink>(out: &mut O, outcome: Outcome) -> Status
+fn write_outcome<O: Sink>(out: &mut O, outcome: Outcome) -> Status
     requires { is_done outcome.ending ≡ true }
     ensures written { IsWritten (O.taken out.old) (O.taken out.new) (O.faults out.old) (O.faults out.new) outcome.text outcome.ending result }
     ensures unmoved { result ≢ Status.WriteFault → O.faults out.new ≡ O.faults out.old }
@@ -423,7 +423,7 @@ pub fn carry_out<R: Threads + Sync, F: Files, O: Sink, G: Gate + Sync>(
         → (is_done result ≡ true) ⊎ (result ≡ Status.Memory) }
 {
     match answer(rt, alloc, files, request, gate) {
-        Ok(outcome) => written(out, outcome),
+        Ok(outcome) => write_outcome(out, outcome),
         Err(status) => status,
     }
 }

@@ -80,7 +80,7 @@ fn check_line(alloc: Global, answer: &Answered) -> Result<Bytes, Memory>
 }
 
 /// The status with which an answer of the checker ends.
-fn ending(answer: Answered) -> Status
+fn status_of_answer(answer: Answered) -> Status
     ensures { result ≡ ending_by answer }
 {
     match answer {
@@ -107,7 +107,7 @@ fn checked(alloc: Global, ready: &Ready, plan: &[Table], cert: &[Table]) -> Resu
     let text = check_line(alloc, &answer)?;
     Ok(Outcome {
         text,
-        ending: ending(answer),
+        ending: status_of_answer(answer),
     })
 }
 

@@ -40,7 +40,7 @@ fn picked_rows(
 }
 
 /// The table with the rows at these places alone.
-fn picked(alloc: Global, table: &Table, places: &[u32]) -> Result<Table, Memory>
+fn table_of_places(alloc: Global, table: &Table, places: &[u32]) -> Result<Table, Memory>
     requires { All (λ place. place < length table.now.rows) places.now }
     ensures { IfOk result (λ picked. picked ≡ picked_table table.now places.now) }
 {
@@ -72,7 +72,7 @@ fn rows_text(alloc: Global, table: &Table, places: &[u32]) -> Result<Bytes, Memo
     requires within { All (λ place. place < length table.now.rows) places.now }
     ensures { IfOk result (λ bytes. bytes ≡ text (picked_table table.now places.now ∷ [])) }
 {
-    let table = picked(alloc, table, places)?;
+    let table = table_of_places(alloc, table, places)?;
     write_tables(alloc, &[table])
 }
 

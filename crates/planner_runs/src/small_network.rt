@@ -225,7 +225,7 @@ pub fn changed(alloc: Global, text: Bytes, change: Change) -> Result<Bytes, Fail
 }
 
 /// The network. Its text stands here alone, so that no other proof carries it along.
-fn unchanged(alloc: Global) -> Result<Bytes, Fail> {
+fn whole_network(alloc: Global) -> Result<Bytes, Fail> {
     joined(alloc, &[DEMO], b"\n")
 }
 
@@ -240,7 +240,7 @@ pub fn with(alloc: Global, text: Bytes, changes: &[Change]) -> Result<Bytes, Fai
 
 /// The network with some changes.
 pub fn demo(alloc: Global, changes: &[Change]) -> Result<Bytes, Fail> {
-    with(alloc, unchanged(alloc)?, changes)
+    with(alloc, whole_network(alloc)?, changes)
 }
 
 /// The plan of the network.

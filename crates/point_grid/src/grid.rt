@@ -32,7 +32,7 @@ pub struct Grid {
 /// What tells of no way.
 const NONE: u32 = 4_294_967_295;
 
-fn coded(time: Option<u32>) -> u32
+fn cell_of_time(time: Option<u32>) -> u32
     requires { IfSome time IsTime }
     ensures { told result ≡ time }
 {
@@ -52,7 +52,7 @@ fn add_row<T: PointTimes>(
     ensures { OnOk result (map told cells.new ≡ map told cells.old ++ map (λ to. T.times times.now from to) columns.now) }
 {
     for to in columns {
-        cells.push(coded(times.time(from, *to)))?;
+        cells.push(cell_of_time(times.time(from, *to)))?;
     }
     Ok(())
 }

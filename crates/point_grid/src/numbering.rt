@@ -17,7 +17,7 @@ pub struct Numbering {
 }
 
 /// The number that is noted for a point, if the point stands there.
-fn noted(index: &IndexMap<Point, u32>, points: &[Point], point: Point) -> Option<u32>
+fn number_of_point(index: &IndexMap<Point, u32>, points: &[Point], point: Point) -> Option<u32>
     ensures { IfSome result (λ number. slice_get points.now number ≡ Some point) }
 {
     match index.get(&point) {
@@ -37,7 +37,7 @@ fn number_of(
     ensures kept { AreKept points.old points.new }
     ensures few { length points.new ≤ length points.old + 1 }
 {
-    if let Some(number) = noted(index, points.as_slice(), point) {
+    if let Some(number) = number_of_point(index, points.as_slice(), point) {
         return Ok(number);
     }
     let number = points.len() as u32;

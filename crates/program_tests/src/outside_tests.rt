@@ -218,7 +218,7 @@ struct Started<'w> {
 }
 
 /// Copies a word into the initial part of a buffer.
-fn filled(word: &[u8], buf: &mut [u8]) -> Result<usize, FillError>
+fn copy_word(word: &[u8], buf: &mut [u8]) -> Result<usize, FillError>
     ensures { IfOk result (λ count. count ≤ length buf.new) }
 {
     if word.len() > buf.len() {
@@ -231,7 +231,7 @@ fn filled(word: &[u8], buf: &mut [u8]) -> Result<usize, FillError>
 impl<'w> Env for Started<'w> {
     fn arg(&self, i: usize, buf: &mut [u8]) -> Result<usize, FillError> {
         match self.words.get(i) {
-            Some(word) => filled(word.as_slice(), buf),
+            Some(word) => copy_word(word.as_slice(), buf),
             None => Err(FillError::NotPresent),
         }
     }

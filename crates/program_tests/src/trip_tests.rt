@@ -78,7 +78,7 @@ fn the_rows_of_a_day_are_listed(rt: HostRuntime) -> Result<(), Fail> {
 }
 
 /// Three files of the tables of a day.
-fn parted(alloc: Global) -> Result<MemFiles, Fail> {
+fn files_of_a_day(alloc: Global) -> Result<MemFiles, Fail> {
     let trips = [TRIPS_HEAD, FIRST_BLANK, SECOND_BLANK, "end; 2\neof; 1\n"];
     three_files(
         alloc,
@@ -91,14 +91,14 @@ fn parted(alloc: Global) -> Result<MemFiles, Fail> {
 
 fn are_read_from_three<R: Threads + Sync>(rt: &R, alloc: Global) -> Result<bool, Fail> {
     let words = ["trips", "20260302", "versions", "--", "days", "trips"];
-    let end = end_of(rt, alloc, &words, parted(alloc)?)?;
+    let end = end_of(rt, alloc, &words, files_of_a_day(alloc)?)?;
     has_written(alloc, &end, &BOTH_WRITTEN)
 }
 
 /// Whether a table that stands in two files is refused.
 fn is_refused_twice<R: Threads + Sync>(rt: &R, alloc: Global) -> Result<bool, Fail> {
     let words = ["trips", "20260302", "versions", "days", "trips", "trips"];
-    let end = end_of(rt, alloc, &words, parted(alloc)?)?;
+    let end = end_of(rt, alloc, &words, files_of_a_day(alloc)?)?;
     Ok(is_so(&end, 3, b"", "table REC_FRT column  row 0: TableTwice\n"))
 }
 

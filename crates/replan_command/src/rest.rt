@@ -46,7 +46,7 @@ pub(crate) trait Rest: Pricer {
 }
 
 /// A plan of a rest, written out and in printed order.
-fn written<P: Rest>(alloc: Global, rest: &P, plan: &Plan) -> Result<Plan, Memory>
+fn plan_in_printed_order<P: Rest>(alloc: Global, rest: &P, plan: &Plan) -> Result<Plan, Memory>
     requires columns { AreColumns (P.problem rest.now) plan.now.columns }
     requires cheap { AreCheap plan.now.columns }
     ensures order { IfOk result (λ written. written.columns ≡ printed (written_plan (P.items_of rest.now) plan.now.columns)) }
@@ -100,7 +100,7 @@ pub(crate) fn new_side<R: Threads + Sync, P: Rest + Sync, G: Gate + Sync>(
 {
     match plan_of(rt, alloc, counted, costed, effort, counting, gate) {
         Err(fault) => Err(written_fault(alloc, side, costed, fault)),
-        Ok(Planned { plan, count, cost }) => match written(alloc, costed, &plan) {
+        Ok(Planned { plan, count, cost }) => match plan_in_printed_order(alloc, costed, &plan) {
             Err(Memory) => Err(PlanFault::Memory),
             Ok(plan) => Ok(Planned { plan, count, cost }),
         },

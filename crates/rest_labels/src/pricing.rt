@@ -89,7 +89,7 @@ fn go_on<W: Labels>(labels: &W, label: &W::Label, items: &[u32], limit: i64) -> 
 }
 
 /// The label of a list of the rest that ends with an item, where there is one.
-fn ending<L: Copy>(item: u32, label: Option<L>) -> Option<RestLabel<L>>
+fn label_ending_with<L: Copy>(item: u32, label: Option<L>) -> Option<RestLabel<L>>
     ensures { result ≡ option_map (ending item) label }
 {
     match label {
@@ -171,7 +171,7 @@ impl<W: Labels> Labels for RestLabels<'_, W> {
         if !self.begins(item) {
             return None;
         }
-        ending(item, begin(self.labels, self.body(item), limit))
+        label_ending_with(item, begin(self.labels, self.body(item), limit))
     }
 
     fn extend(
@@ -183,7 +183,7 @@ impl<W: Labels> Labels for RestLabels<'_, W> {
         if !self.is_next(label.item, item) {
             return None;
         }
-        ending(
+        label_ending_with(
             item,
             go_on(self.labels, &label.label, self.body(item), limit),
         )

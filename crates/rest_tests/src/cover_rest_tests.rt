@@ -93,7 +93,7 @@ fn lists_of_the_rest(rt: HostRuntime) -> Result<(), Fail> {
 }
 
 /// A plan of the rest, written out.
-fn written(alloc: Global) -> Result<Plan, Memory> {
+fn plan_of_rest(alloc: Global) -> Result<Plan, Memory> {
     let heads = heads(alloc)?;
     let rest = bodies(alloc, &heads, 6)?;
     let mut columns = Seq::new(alloc);
@@ -120,7 +120,7 @@ fn are_written(columns: &[Column]) -> bool {
 }
 
 fn is_written(alloc: Global) -> Result<bool, Memory> {
-    let plan = written(alloc)?;
+    let plan = plan_of_rest(alloc)?;
     Ok(are_written(plan.columns.as_slice()))
 }
 

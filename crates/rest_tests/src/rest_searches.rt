@@ -70,7 +70,7 @@ struct Walk {
 }
 
 /// The list with an item more.
-fn walked(seed: u8, walk: Walk, item: u32) -> Walk {
+fn longer_walk(seed: u8, walk: Walk, item: u32) -> Walk {
     let load = walk.load.saturating_add(weight(item));
     match walk.last {
         None => Walk {
@@ -103,7 +103,7 @@ fn walk_of(bodies: &[Seq<u32>], set: u32, seed: u8) -> Walk {
     for body in bodies {
         if left % 2 == 1 {
             for item in body.as_slice() {
-                walk = walked(seed, walk, *item);
+                walk = longer_walk(seed, walk, *item);
             }
         }
         left /= 2;

@@ -28,7 +28,7 @@ fn effort(workers: u32) -> Effort
 
 /// What climbing finds, as numbers: the columns of the plan, the kept prices and the bound; or 200, the item that is left, and the columns
 /// beside which it is.
-fn told<R: Threads + Sync>(
+fn climb_as_numbers<R: Threads + Sync>(
     rt: &R,
     alloc: Global,
     given: &Pair,
@@ -56,7 +56,7 @@ fn told<R: Threads + Sync>(
 }
 
 /// The bound that climbing finds without a plan.
-fn counted<R: Threads + Sync>(
+fn bound_of_climb<R: Threads + Sync>(
     rt: &R,
     alloc: Global,
     given: &Pair,
@@ -77,7 +77,7 @@ fn bounds_prove_plans(rt: HostRuntime) -> Result<(), Fail> {
         places: 2,
     };
     for workers in [1, 2, 64] {
-        let found = told(&rt, rt.alloc(), &costed, workers)?;
+        let found = climb_as_numbers(&rt, rt.alloc(), &costed, workers)?;
         assert_eq!(rt;
             found.as_slice(),
             [2200, 0, 1, 99, 1100000, 1100000, 2200].as_slice()
@@ -95,7 +95,7 @@ fn bounds_count_columns(rt: HostRuntime) -> Result<(), Fail> {
         places: 2,
     };
     for workers in [1, 2, 64] {
-        assert_eq!(rt; counted(&rt, rt.alloc(), &unit, workers)?, 1);
+        assert_eq!(rt; bound_of_climb(&rt, rt.alloc(), &unit, workers)?, 1);
     }
     Ok(())
 }
@@ -109,8 +109,8 @@ fn items_are_left(rt: HostRuntime) -> Result<(), Fail> {
         both: None,
         places: 1,
     };
-    assert_eq!(rt; counted(&rt, rt.alloc(), &narrow, 1)?, 3);
-    let found = told(&rt, rt.alloc(), &narrow, 1)?;
+    assert_eq!(rt; bound_of_climb(&rt, rt.alloc(), &narrow, 1)?, 3);
+    let found = climb_as_numbers(&rt, rt.alloc(), &narrow, 1)?;
     assert_eq!(rt; found.as_slice(), [200, 1, 1, 0, 99].as_slice());
     Ok(())
 }

@@ -134,7 +134,7 @@ fn best_column(
 }
 
 /// A column where its value is within a limit.
-fn limited(column: Column, prices: &Prices, limit: i64) -> Option<Column>
+fn column_within(column: Column, prices: &Prices, limit: i64) -> Option<Column>
     requires few { length prices.now.items ≤ most_items }
     requires moderate { AllWithin most_price prices.now.items }
     requires valued { MayBeValued (length prices.now.items) column }
@@ -157,6 +157,6 @@ impl Pricer for Pair {
         limit: i64,
     ) -> Result<Option<Column>, Memory> {
         let best = best_column(alloc, self.alone, self.both, prices)?;
-        Ok(limited(best, prices, limit))
+        Ok(column_within(best, prices, limit))
     }
 }

@@ -28,7 +28,7 @@ fn effort(workers: u32, rounds: u32, lower: u32) -> Effort
 }
 
 /// What a pass finds, as numbers: the columns of the pool, the kept prices of the items and of the class, and the bound.
-fn told<R: Threads + Sync>(
+fn pass_as_numbers<R: Threads + Sync>(
     rt: &R,
     alloc: Global,
     given: &Pair,
@@ -58,7 +58,7 @@ fn prices_are_lowered(rt: HostRuntime) -> Result<(), Fail> {
         places: 2,
     };
     for workers in [1, 2, 64] {
-        let found = told(&rt, rt.alloc(), &costed, &effort(workers, 40, 20))?;
+        let found = pass_as_numbers(&rt, rt.alloc(), &costed, &effort(workers, 40, 20))?;
         assert_eq!(rt;
             found.as_slice(),
             [2200, 0, 1, 99, 1100000, 1100000, 0, 2200].as_slice()
@@ -76,7 +76,7 @@ fn prices_of_a_count(rt: HostRuntime) -> Result<(), Fail> {
         places: 2,
     };
     for workers in [1, 2, 64] {
-        let found = told(&rt, rt.alloc(), &counted, &effort(workers, 40, 20))?;
+        let found = pass_as_numbers(&rt, rt.alloc(), &counted, &effort(workers, 40, 20))?;
         assert_eq!(rt; found.as_slice(), [1, 0, 1, 99, 500, 500, 0, 1].as_slice());
     }
     Ok(())
@@ -91,7 +91,7 @@ fn bounds_exceed_caps(rt: HostRuntime) -> Result<(), Fail> {
         both: None,
         places: 1,
     };
-    let found = told(&rt, rt.alloc(), &counted, &effort(1, 1, 1))?;
+    let found = pass_as_numbers(&rt, rt.alloc(), &counted, &effort(1, 1, 1))?;
     assert_eq!(rt; found.as_slice(), [9000, 9000, 8000, 10].as_slice());
     Ok(())
 }

@@ -69,7 +69,7 @@ impl Pricer for Singles {
         best_is_first_least::<Singles>();
         backward_order();
         let column = only_column(alloc, class, group)?;
-        Ok(limited(column, prices, limit))
+        Ok(column_within(column, prices, limit))
     }
 }
 
@@ -89,7 +89,7 @@ fn only_column(alloc: Global, class: u32, group: u32) -> Result<Column, Memory>
 }
 
 /// A column where its value is within a limit.
-fn limited(column: Column, prices: &Prices, limit: i64) -> Option<Column>
+fn column_within(column: Column, prices: &Prices, limit: i64) -> Option<Column>
     requires few { length prices.now.items ≤ most_items }
     requires moderate { AllWithin most_price prices.now.items }
     requires rises { Rises column.items }

@@ -13,7 +13,7 @@ use std::thread::Threads;
 use task_board::{Board, Desk, close};
 
 /// Cuts desks of one part off the first desk, which keeps the rest.
-fn spread(
+fn desks_of_parts(
     alloc: Global,
     board: &Board,
     first: Desk,
@@ -136,7 +136,7 @@ fn each_is_claimed_once<R: Threads + Sync>(
         claims.push(AtomicU64::new(0))?;
     }
     let (board, first) = Board::new(alloc, 1000, 0)?;
-    let (home, parts) = spread(alloc, &board, first, desks)?;
+    let (home, parts) = desks_of_parts(alloc, &board, first, desks)?;
     let parts = claim_together(rt, &board, parts, &claims)?;
     let whole = gather(&board, home, parts);
     close(board, whole);

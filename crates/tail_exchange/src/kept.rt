@@ -73,7 +73,7 @@ fn is_stale(x: u32, y: u32, a: u32, least: Option<Candidate>) -> bool
 
 /// The least swap of a column after columns x and y have changed, from what is kept for it: only its swaps with these two are looked at,
 /// unless what is kept says nothing any more.
-fn renewed<C: Columns>(
+fn least_after_change<C: Columns>(
     columns: &C,
     plan: &[Column],
     x: u32,
@@ -124,7 +124,7 @@ fn least_after<C: Columns>(
 {
     let _few = columns_of(columns, plan);
     let least = kept_at(shift.gone, shift.x, leasts, place as u32);
-    renewed(columns, plan, shift.x, shift.y, place, least)
+    least_after_change(columns, plan, shift.x, shift.y, place, least)
 }
 
 /// The least swaps after a step, from those before it: all are made anew that the step touches, and of the others only the swaps with a

@@ -17,7 +17,12 @@ use std::alloc::Global;
 use std::mem::replace;
 
 /// A column of a class with a list, and what that is worth.
-fn made<C: Columns>(alloc: Global, columns: &C, class: u32, list: &[u32]) -> Result<Column, Memory>
+fn column_of_list<C: Columns>(
+    alloc: Global,
+    columns: &C,
+    class: u32,
+    list: &[u32],
+) -> Result<Column, Memory>
     requires class { class < length (C.problem columns.now).caps }
     requires items { AllBelow (C.problem columns.now).items list.now }
     ensures made { IfOk result (λ column. column ≡ made (C.problem columns.now) class list.now) }
@@ -48,7 +53,7 @@ fn made_of_two<C: Columns>(
 {
     let mut list = Vec::from_slice(alloc, front)?;
     list.extend_from_slice(tail)?;
-    made(alloc, columns, class, list.as_slice())
+    column_of_list(alloc, columns, class, list.as_slice())
 }
 
 /// Takes out the empty columns.
@@ -109,8 +114,8 @@ fn cut<C: Columns>(
 {
     let class = column_of(columns, plan.as_slice(), step.a).class;
     let (front, tail) = split_of(columns, plan.as_slice(), step.a, step.i);
-    let kept = made(alloc, columns, class, front)?;
-    let new = made(alloc, columns, step.j, tail)?;
+    let kept = column_of_list(alloc, columns, class, front)?;
+    let new = column_of_list(alloc, columns, step.j, tail)?;
     plan.push(new)?;
     plan.set(step.a as usize, kept);
     remove_empty(alloc, plan);

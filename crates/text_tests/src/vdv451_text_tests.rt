@@ -113,7 +113,7 @@ fn has_types(table: &Table) -> bool {
 }
 
 /// The text of the table of types, read and written.
-fn written(alloc: Global) -> Result<Bytes, Fail> {
+fn text_written_again(alloc: Global) -> Result<Bytes, Fail> {
     let bytes = joined(alloc, &[TYPES, b"end; 3\neof; 1\n"])?;
     let tables = read_file(alloc, &bytes, 1000)?;
     let [table] = tables.as_slice() else {
@@ -127,7 +127,7 @@ fn written(alloc: Global) -> Result<Bytes, Fail> {
 
 #[test]
 fn reads_and_writes(rt: HostRuntime) -> Result<(), Fail> {
-    let text = written(rt.alloc())?;
+    let text = text_written_again(rt.alloc())?;
     assert!(rt;
         text.as_slice()
             .ends_with(b"rec; 1; 3\r\nend; 3\r\neof; 1\r\n")

@@ -71,7 +71,7 @@ fn run_seconds(
 }
 
 /// The trip from point to point that takes so many seconds, if it ends in time.
-fn ended(row: &TripRow, from: Point, to: Point, seconds: u32) -> Result<Trip, TripFault>
+fn timely_trip(row: &TripRow, from: Point, to: Point, seconds: u32) -> Result<Trip, TripFault>
     requires { seconds < 2 ^ 31 }
     ensures { result ≡ ended_row row.now from to seconds }
 {
@@ -112,7 +112,7 @@ fn time_course(
                     Err(fault) => Err(fault),
                     Ok(seconds) => {
                         let stands = dwell_seconds(net, version, row, inner);
-                        ended(row, *first, *last, seconds + stands)
+                        timely_trip(row, *first, *last, seconds + stands)
                     }
                 }
             }

@@ -9,7 +9,7 @@ ghost use Rattle.number_tables.specs.Signed.{signed_row as row_of, signed_rows};
 ghost use Rattle.umlauf_write.specs.Answers.{IsPiece, all_rows, driving_of as driving_of_spec, duty_numbers, duty_row as duty_row_of, duty_table as duty_table_of, first_of as first_of_spec, last_of as last_of_spec, part_numbers, part_rows, part_table as part_table_of, piece_at as piece_at_of, sign_off as sign_off_of, sign_on as sign_on_of};
 ghost use Rattle.umlauf_write.specs.Tables.{numbered};
 
-use crate::legs::{counted, whole};
+use crate::legs::{number_of_place, whole};
 use cover_core::Column;
 use day_model::Day;
 use number_tables::{number_table, signed_row};
@@ -114,7 +114,7 @@ fn duty_row(
     let on = sign_on(day, group, &piece_at(pieces, first_of(items)));
     let off = sign_off(day, group, &piece_at(pieces, last_of(items)));
     let driving = driving_of(pieces, items);
-    let number = counted(place);
+    let number = number_of_place(place);
     signed_row(
         alloc,
         &[
@@ -187,8 +187,8 @@ fn part_row(alloc: Global, duty: usize, place: usize, piece: &Piece) -> Result<S
     requires place { place < 2 ^ 62 }
     ensures { IfOk result (λ row. row ≡ row_of (part_numbers (duty + 1) (place + 1) piece.now)) }
 {
-    let duty = counted(duty);
-    let number = counted(place);
+    let duty = number_of_place(duty);
+    let number = number_of_place(place);
     signed_row(
         alloc,
         &[

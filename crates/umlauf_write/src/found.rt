@@ -58,7 +58,7 @@ fn is_row_of(heads: &[Head], version: u32, fid: u64, row: &[Field]) -> bool
 }
 
 /// The row of a trip of a version, by looking through all rows.
-fn searched<'t>(heads: &[Head], rows: &'t [Seq<Field>], version: u32, fid: u64) -> &'t [Field]
+fn row_of_trip<'t>(heads: &[Head], rows: &'t [Seq<Field>], version: u32, fid: u64) -> &'t [Field]
     requires one { length (filter (is_row_of_spec heads.now version fid) rows.now) ≡ 1 }
     ensures { result.now ≡ unwrap_or (find (is_row_of_spec heads.now version fid) rows.now) [] }
 {
@@ -82,7 +82,7 @@ fn row_of<'t>(table: &'t Table, told: u32, version: u32, fid: u64) -> &'t [Field
             return row.as_slice();
         }
     }
-    searched(heads, rows, version, fid)
+    row_of_trip(heads, rows, version, fid)
 }
 
 /// The rows of the day's trips by number, with the numbers of their blocks.

@@ -21,7 +21,7 @@ pub(crate) fn whole(number: u32) -> Option<i64>
 }
 
 /// A place that counts from 1, for a field.
-pub(crate) fn counted(place: usize) -> Option<i64>
+pub(crate) fn number_of_place(place: usize) -> Option<i64>
     requires { place < 2 ^ 62 }
     ensures { result ≡ whole_of (place + 1) }
 {
@@ -67,8 +67,8 @@ fn leg_row(
     requires place { place < 2 ^ 62 }
     ensures { IfOk result (λ row. row ≡ row_of (leg_numbers trips.now (block + 1) (place + 1) leg.now)) }
 {
-    let block = counted(block);
-    let number = counted(place);
+    let block = number_of_place(block);
+    let number = number_of_place(place);
     let fid = fid_of(trips, leg.trip);
     signed_row(
         alloc,

@@ -30,7 +30,7 @@ fn put_in_order<T: Ord + Copy>(marks: Seq<T>) -> Seq<T>
 }
 
 /// These marks, where they are a cover: a search is made only where one of them closes with a value below minus the price of its class.
-fn judged<C: Columns, M: ValuedLists>(
+fn marks_of_cover<C: Columns, M: ValuedLists>(
     alloc: Global,
     columns: &C,
     m: &M,
@@ -82,6 +82,6 @@ where
     kept_marks_are_minimal::<M>();
     match make_marks(alloc, m) {
         Err(_) => Err(CoverFault::Memory),
-        Ok(marks) => judged(alloc, columns, m, class_prices, put_in_order(marks)),
+        Ok(marks) => marks_of_cover(alloc, columns, m, class_prices, put_in_order(marks)),
     }
 }

@@ -66,7 +66,7 @@ fn past_mark(bytes: &[u8]) -> &[u8]
     }
 }
 
-fn ending(state: State, place: u32) -> Result<Seq<Table>, TextFault>
+fn tables_at_end(state: State, place: u32) -> Result<Seq<Table>, TextFault>
     ensures { AnswersReading result (ended place state) }
 {
     match state {
@@ -95,7 +95,7 @@ pub fn read_lines(alloc: Global, bytes: &[u8]) -> Result<Seq<Table>, TextFault>
         rest = after;
         place += 1;
     }
-    ending(state, place)
+    tables_at_end(state, place)
 }
 
 /// What the whole text gives.

@@ -18,7 +18,7 @@ use plan_core::{Bytes, Seq};
 use std::alloc::Global;
 
 /// Why a line may not stand where the tables have begun: its keyword is unknown, or out of order.
-fn misplaced(keyword: Keyword) -> TextKind
+fn why_misplaced(keyword: Keyword) -> TextKind
     ensures { result ≡ misplaced_kind keyword }
 {
     match keyword {
@@ -48,7 +48,7 @@ fn step_open(
             Ok(State::Ended(tables))
         }
         Keyword::Header | Keyword::Unknown if !begun => Ok(State::Open(begun, tables)),
-        _ => Err(misplaced(keyword)),
+        _ => Err(why_misplaced(keyword)),
     }
 }
 
@@ -68,7 +68,7 @@ fn step_named(
             let names = read_names(alloc, rest)?;
             Ok(State::Columned(tables, name, names))
         }
-        _ => Err(misplaced(keyword)),
+        _ => Err(why_misplaced(keyword)),
     }
 }
 
@@ -89,7 +89,7 @@ fn step_columned(
             let columns = read_heads(alloc, names.as_slice(), rest)?;
             Ok(State::InRows(tables, name, columns, Seq::new(alloc)))
         }
-        _ => Err(misplaced(keyword)),
+        _ => Err(why_misplaced(keyword)),
     }
 }
 
@@ -121,7 +121,7 @@ fn step_in_rows(
             })?;
             Ok(State::Open(true, tables))
         }
-        _ => Err(misplaced(keyword)),
+        _ => Err(why_misplaced(keyword)),
     }
 }
 
@@ -131,7 +131,7 @@ fn step_ended(tables: Seq<Table>, keyword: Keyword, rest: Option<&[u8]>) -> Resu
 {
     match keyword {
         Keyword::Com => Ok(State::Ended(tables)),
-        _ => Err(misplaced(keyword)),
+        _ => Err(why_misplaced(keyword)),
     }
 }
 

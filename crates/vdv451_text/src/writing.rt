@@ -167,10 +167,10 @@ pub fn write_tables(alloc: Global, tables: &[Table]) -> Result<Bytes, Memory>
     // No other plain tables have this spelling. That they are of a size that a text can say is true of all tables in memory.
     ensures one { (others : List TextTable) → IsTrue (are_plain others) → IsTrue (are_sized others) → IfOk result (λ bytes. bytes ≡ text others → others ≡ tables.now) }
 {
-    spelled(alloc, tables)
+    text_of_tables(alloc, tables)
 }
 
-fn spelled(alloc: Global, tables: &[Table]) -> Result<Bytes, Memory>
+fn text_of_tables(alloc: Global, tables: &[Table]) -> Result<Bytes, Memory>
     ensures sized { OnOk result (IsTrue (are_sized tables.now)) }
     ensures written { IfOk result (λ bytes. bytes ≡ text tables.now) }
 {

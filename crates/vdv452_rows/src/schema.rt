@@ -174,7 +174,7 @@ fn some_metres(name: &[u8]) -> Outline<'_>
 }
 
 /// A column that must be there; its values may be anything.
-fn unseen(name: &[u8]) -> Outline<'_>
+fn unseen_column(name: &[u8]) -> Outline<'_>
     ensures { column_of result ≡ schema.unseen name.now }
 {
     Outline {
@@ -199,7 +199,7 @@ fn flag(name: &[u8]) -> Outline<'_>
     }
 }
 
-fn copied(alloc: Global, outline: &Outline<'_>) -> Result<Column, Memory>
+fn column_of_outline(alloc: Global, outline: &Outline<'_>) -> Result<Column, Memory>
     ensures { IfOk result (λ column. column ≡ column_of outline.now) }
 {
     Ok(Column {
@@ -216,7 +216,7 @@ fn all_copied(alloc: Global, outlines: &[Outline<'_>]) -> Result<Vec<Column>, Me
 {
     let mut columns = Vec::with_capacity(alloc, outlines.len())?;
     for outline in outlines {
-        columns.push(copied(alloc, outline)?)?;
+        columns.push(column_of_outline(alloc, outline)?)?;
     }
     Ok(columns)
 }

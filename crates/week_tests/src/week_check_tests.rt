@@ -484,7 +484,7 @@ fn refuses_a_second_roster_and_none(rt: HostRuntime) -> Result<(), Memory> {
 }
 
 /// The columns, of which the one at a place has another name.
-fn renamed(place: usize) -> [&'static str; 6] {
+fn renamed_columns(place: usize) -> [&'static str; 6] {
     let mut columns = COLUMNS;
     if place < 6 {
         columns[place] = "X";
@@ -493,7 +493,7 @@ fn renamed(place: usize) -> [&'static str; 6] {
 }
 
 /// A duty that has no value at a place.
-fn emptied(place: usize) -> [Option<i64>; 6] {
+fn emptied_duty(place: usize) -> [Option<i64>; 6] {
     let mut fields = duty([1, 20_260_303, 0, 10, 10, 0]);
     if place < 6 {
         fields[place] = None;
@@ -502,7 +502,7 @@ fn emptied(place: usize) -> [Option<i64>; 6] {
 }
 
 fn lacks_column(alloc: Global, place: usize, name: &'static str) -> Result<bool, Memory> {
-    let tables = [table(alloc, "X_EINSATZ", &renamed(place), &[duty(GOOD)])?];
+    let tables = [table(alloc, "X_EINSATZ", &renamed_columns(place), &[duty(GOOD)])?];
     Ok(has_fault(alloc, &tables, Some((TableKind::NoColumn, name, 0))))
 }
 
@@ -519,7 +519,10 @@ fn refuses_wrong_tables(rt: HostRuntime) -> Result<(), Memory> {
     for (place, name) in COLUMNS.into_iter().enumerate() {
         assert!(rt; lacks_column(alloc, place, name)?, "{name}");
         let wanted = Some((TableKind::NoValue, name, 2));
-        assert!(rt; has_fault_before(alloc, emptied(place), wanted)?, "{name}");
+        assert!(rt;
+            has_fault_before(alloc, emptied_duty(place), wanted)?,
+            "{name}"
+        );
     }
     let wanted = Some((TableKind::KeyTwice, "", 2));
     assert!(rt; has_fault_before(alloc, duty(GOOD), wanted)?);

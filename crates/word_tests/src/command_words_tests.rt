@@ -10,7 +10,7 @@ use std::test::Fail;
 const USAGE: &str = "usage";
 
 /// The bytes of a text, where a star stands for 300 zeros.
-fn spelled(alloc: Global, text: &str) -> Result<Vec<u8>, Fail> {
+fn bytes_of(alloc: Global, text: &str) -> Result<Vec<u8>, Fail> {
     let mut bytes = Vec::new(alloc);
     for byte in text.as_bytes() {
         if *byte == b'*' {
@@ -23,10 +23,10 @@ fn spelled(alloc: Global, text: &str) -> Result<Vec<u8>, Fail> {
 }
 
 /// The words of a line, with a comma between each two of them.
-fn listed(alloc: Global, line: &str) -> Result<Vec<Bytes>, Fail> {
+fn words_of(alloc: Global, line: &str) -> Result<Vec<Bytes>, Fail> {
     let mut words = Vec::new(alloc);
     for word in line.split(',') {
-        words.push(Bytes::from_vec(spelled(alloc, word)?))?;
+        words.push(Bytes::from_vec(bytes_of(alloc, word)?))?;
     }
     Ok(words)
 }
@@ -86,7 +86,7 @@ fn add_names(text: &mut Vec<u8>, names: &Seq<Bytes>) -> Result<(), Fail> {
 }
 
 /// A request in one line: its command, its effort, whether it asks for the flow, its day and the names that it has.
-fn told(alloc: Global, request: &Request) -> Result<Vec<u8>, Fail> {
+fn request_in_a_line(alloc: Global, request: &Request) -> Result<Vec<u8>, Fail> {
     let mut text = Vec::new(alloc);
     add_command(&mut text, alloc, request.command)?;
     add_effort(&mut text, alloc, request.effort)?;
@@ -101,16 +101,16 @@ fn told(alloc: Global, request: &Request) -> Result<Vec<u8>, Fail> {
 /// What words ask for, in one line.
 fn answer(alloc: Global, words: &[Bytes]) -> Result<Vec<u8>, Fail> {
     match read_words(alloc, words) {
-        Ok(request) => told(alloc, &request),
+        Ok(request) => request_in_a_line(alloc, &request),
         Err(WordsFault::Usage) => Ok(USAGE.as_bytes().to_vec(alloc)?),
         Err(WordsFault::Memory) => Err("memory".into()),
     }
 }
 
 fn is_answered(alloc: Global, line: &str, want: &str) -> Result<bool, Fail> {
-    let words = listed(alloc, line)?;
+    let words = words_of(alloc, line)?;
     let text = answer(alloc, words.as_slice())?;
-    Ok(text == spelled(alloc, want)?)
+    Ok(text == bytes_of(alloc, want)?)
 }
 
 /// The place of the first row whose words are answered in another way, if there is one.
@@ -504,7 +504,7 @@ fn an_option_stands_once_and_in_any_place(rt: HostRuntime) -> Result<(), Fail> {
 
 /// How many names a request has that these words and so many files more ask for, or 0 where they ask for nothing.
 fn names_with(alloc: Global, line: &str, files: usize) -> Result<usize, Fail> {
-    let mut words = listed(alloc, line)?;
+    let mut words = words_of(alloc, line)?;
     for _file in 0..files {
         words.push(Bytes::from_vec(b"f".to_vec(alloc)?))?;
     }
@@ -588,7 +588,7 @@ fn words_may_be_long(rt: HostRuntime) -> Result<(), Fail> {
 }
 
 fn has_day_word(alloc: Global, line: &str, want: &str) -> Result<bool, Fail> {
-    let words = listed(alloc, line)?;
+    let words = words_of(alloc, line)?;
     Ok(day_word(words.as_slice()) == want.as_bytes())
 }
 

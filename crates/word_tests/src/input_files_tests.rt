@@ -51,7 +51,7 @@ fn files_with(alloc: Global, fails: &[u64]) -> Result<MemFiles, Fail> {
     Ok(MemFiles::new(Seq::from_vec(files), Seq::from_vec(fails.to_vec(alloc)?)))
 }
 
-fn listed(alloc: Global, words: &[&str]) -> Result<Vec<Bytes>, Fail> {
+fn words_of(alloc: Global, words: &[&str]) -> Result<Vec<Bytes>, Fail> {
     let mut list = Vec::new(alloc);
     for word in words {
         list.push(Bytes::from_vec(word.as_bytes().to_vec(alloc)?))?;
@@ -79,7 +79,7 @@ fn read_named(
     requires { IsStage stage }
 {
     let mut files = files_with(alloc, fails)?;
-    let list = listed(alloc, names)?;
+    let list = words_of(alloc, names)?;
     if list.len() > 66 {
         return Err(Fail::from("too many names"));
     }

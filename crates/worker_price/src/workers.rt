@@ -58,7 +58,7 @@ fn serve_all<R: Threads + Sync, P: Pricer + Sync, G: Gate + Sync>(
 }
 
 /// Cuts a desk of one part for each worker off the first desk.
-fn spread(
+fn desks_of_workers(
     alloc: Global,
     board: &Board,
     desk: Desk,
@@ -149,7 +149,7 @@ pub(crate) fn price_together<R: Threads + Sync, P: Pricer + Sync, G: Gate + Sync
     requires prices { ArePricesFor (P.problem pricer.now) prices.now.items }
     ensures { IfOk result (IsComplete board.now (P.problem pricer.now) prices.now.items) }
 {
-    let (home, helpers) = spread(alloc, board, desk, workers)?;
+    let (home, helpers) = desks_of_workers(alloc, board, desk, workers)?;
     let results = serve_all(rt, alloc, board, helpers, pricer, prices, gate)?;
     gather(alloc, board, home, results, pricer, prices)
 }

@@ -4,8 +4,8 @@ ghost use Rattle.std.specs.Prelude.{◌≡◌, IfOk};
 ghost use Rattle.vdv452_rows.specs.Schema as schema;
 
 use super::{
-    Domain, Schema, key, needed, number, optional, plain, seconds, some_metres, trip_key, unseen,
-    word_key,
+    Domain, Schema, key, needed, number, optional, plain, seconds, some_metres, trip_key,
+    unseen_column, word_key,
 };
 use plan_core::Memory;
 use std::alloc::Global;
@@ -140,7 +140,7 @@ pub fn trips(alloc: Global) -> Result<Schema, Memory>
         number(b"FAHRTART_NR"),
         number(b"FGR_NR"),
         plain(b"STR_LI_VAR", Domain::AnyWord),
-        unseen(b"UM_UID"),
+        unseen_column(b"UM_UID"),
     ];
     needed(alloc, b"REC_FRT", &outlines)
 }

@@ -8,8 +8,8 @@ use Rattle.block_rest.proofs.Stands.{body-below}
 use Rattle.block_rest.proofs.Walking.{after-none, first-walked, take-rest}
 use Rattle.block_rest.proofs.walk.opened_list.Goals as goal
 
-pub opened-requires-clause-list : goal.opened-requires-clause-list
-opened-requires-clause-list c =
+pub block_of_trips-requires-clause-list : goal.block_of_trips-requires-clause-list
+block_of_trips-requires-clause-list c =
     let P : List ℕ → Type 0 = AllBelow (length c.args.net.now.day.trips) in
     subst P (sym c.body.ensures)
     (body-below (length c.args.net.now.day.trips) c.args.bodies.now (slice_index_or c.args.list.now 0 0) c.requires.bodies.below)

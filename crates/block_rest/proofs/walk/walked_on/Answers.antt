@@ -7,8 +7,8 @@ use Rattle.block_rest.proofs.Stands.{body-below}
 use Rattle.block_rest.proofs.Walking.{after-body, after-none}
 use Rattle.block_rest.proofs.walk.walked_on.Goals as goal
 
-pub walked-requires-clause-rest : goal.walked-requires-clause-rest
-walked-requires-clause-rest c =
+pub block_with_trips-requires-clause-rest : goal.block_with_trips-requires-clause-rest
+block_with_trips-requires-clause-rest c =
     let n : ℕ = length c.args.net.now.day.trips in
     let P : List ℕ → Type 0 = AllBelow n in
     subst P (sym c.body.ensures)

@@ -18,8 +18,8 @@ set-requires c =
     let below = AllBelow-get _ c.args.items.now c.loop-item.item-index c.requires.items c.loop-item-test.true in
     omega (arith, c.loop-item.invariant.len)
 
-pub lowered-requires-clause-price_low : goal.lowered-requires-clause-price_low
-lowered-requires-clause-price_low c =
+pub price_less_share-requires-clause-price_low : goal.price_less_share-requires-clause-price_low
+price_less_share-requires-clause-price_low c =
     let item = get_or c.args.items.now c.loop-item.item-index 0 in
     let within = lowered_by-within (take c.loop-item.item-index c.args.items.now) (to_z w64 (of_z w64 c.args.share)) c.args.prices.now
     item c.requires.moderate in
@@ -27,8 +27,8 @@ lowered-requires-clause-price_low c =
     let by = c.loop-item.invariant.lowered item in
     omega (arith, ints, within.low, within.high)
 
-pub lowered-requires-clause-price_high : goal.lowered-requires-clause-price_high
-lowered-requires-clause-price_high c =
+pub price_less_share-requires-clause-price_high : goal.price_less_share-requires-clause-price_high
+price_less_share-requires-clause-price_high c =
     let item = get_or c.args.items.now c.loop-item.item-index 0 in
     let within = lowered_by-within (take c.loop-item.item-index c.args.items.now) (to_z w64 (of_z w64 c.args.share)) c.args.prices.now
     item c.requires.moderate in
@@ -45,12 +45,12 @@ loop-item-preserved c =
     let share : ℤ = to_z w64 (of_z w64 c.args.share) in
     let below : item < length c.args.prices.now = AllBelow-get _ items k c.requires.items c.loop-item-test.true in
     let there : item < length now = omega (arith, c.loop-item.invariant.len) in
-    let lowered_fits : FitsSigned w64 c.lowered.result = search rules in
+    let lowered_fits : FitsSigned w64 c.price_less_share.result = search rules in
     let price_fits : FitsSigned w64 c.price_in-price.result = search rules in
     let price : to_z w64 (of_z w64 c.price_in-price.result) ≡ price_at now item = to_z-of_z price_fits ∙ c.price_in-price.ensures in
-    let x : Price = record { 0 = to_z w64 (of_z w64 c.lowered.result) } in
+    let x : Price = record { 0 = to_z w64 (of_z w64 c.price_less_share.result) } in
     let is : x.0 ≡ clamped (price_at now item -ℤ share) =
-    to_z-of_z lowered_fits ∙ c.lowered.ensures ∙ ap (λ z. clamped (z -ℤ share)) price in
+    to_z-of_z lowered_fits ∙ c.price_less_share.ensures ∙ ap (λ z. clamped (z -ℤ share)) price in
     record {
       len = ap (λ (l : List Price). length l) c.set.ensures ∙ length-set now item x ∙ c.loop-item.invariant.len;
       lowered = λ i. ap (λ (l : List Price). price_at l i) c.set.ensures

@@ -7,8 +7,8 @@ use Rattle.cover_master.specs.Method.{moved_price, clamped}
 use Rattle.cover_master.proofs.Prices.{moved-is, pushed-more}
 use Rattle.cover_master.proofs.turns.moved_prices.Goals as goal
 
-pub moved-requires-clause-low : goal.moved-requires-clause-low
-moved-requires-clause-low c =
+pub price_after_step-requires-clause-low : goal.price_after_step-requires-clause-low
+price_after_step-requires-clause-low c =
     let prices = c.args.prices.now.items in
     let same = c.as_slice-price-items.ensures in
     let inside : c.loop-item.item < length prices =
@@ -19,8 +19,8 @@ moved-requires-clause-low c =
     let within = price_at-within 10000000000000 prices c.loop-item.item c.requires.moderate in
     omega (arith, ints, within.low, within.high)
 
-pub moved-requires-clause-high : goal.moved-requires-clause-high
-moved-requires-clause-high c =
+pub price_after_step-requires-clause-high : goal.price_after_step-requires-clause-high
+price_after_step-requires-clause-high c =
     let prices = c.args.prices.now.items in
     let same = c.as_slice-price-items.ensures in
     let inside : c.loop-item.item < length prices =
@@ -47,22 +47,23 @@ loop-item-preserved c =
     let price : to_z w64 (of_z w64 (get_or c.as_slice-price-items.result.now item d).0) ≡ price_at prices item =
     to_z-of_z price_fits ∙ is in
     let size : ℤ = to_z w64 (of_z w64 c.args.size) in
-    let moved : c.moved.result
+    let moved : c.price_after_step.result
     ≡ clamped (to_z w64 (of_z w64 (get_or c.as_slice-price-items.result.now item d).0)
-    +ℤ (to_z w64 (of_z w64 c.args.size) *ℤ (pos 1 -ℤ pos (get_or cover item 0)))) = c.moved.ensures in
-    let moved_fits : FitsSigned w64 c.moved.result = search rules in
-    let value : to_z w64 (of_z w64 c.moved.result) ≡ moved_price prices size cover item =
-    to_z-of_z moved_fits ∙ moved-is prices size cover item c.moved.result _ moved price in
-    let pushed : c.push.new.self ≡ c.loop-item.new ++ record { 0 = to_z w64 (of_z w64 c.moved.result) } ∷ [] = c.in_ok-push.ensures.ok in
+    +ℤ (to_z w64 (of_z w64 c.args.size) *ℤ (pos 1 -ℤ pos (get_or cover item 0)))) = c.price_after_step.ensures in
+    let moved_fits : FitsSigned w64 c.price_after_step.result = search rules in
+    let value : to_z w64 (of_z w64 c.price_after_step.result) ≡ moved_price prices size cover item =
+    to_z-of_z moved_fits ∙ moved-is prices size cover item c.price_after_step.result _ moved price in
+    let pushed : c.push.new.self ≡ c.loop-item.new ++ record { 0 = to_z w64 (of_z w64 c.price_after_step.result) } ∷ [] =
+    c.in_ok-push.ensures.ok in
     record {
       order = omega arith;
       len = ap (λ (l : List Price). length l) pushed
           ∙ (omega (
             arith,
-            length-append c.loop-item.new (record { 0 = to_z w64 (of_z w64 c.moved.result) } ∷ []),
+            length-append c.loop-item.new (record { 0 = to_z w64 (of_z w64 c.price_after_step.result) } ∷ []),
             c.loop-item.invariant.len,
           ));
       moved = λ k h. ap (λ (l : List Price). price_at l k) pushed
-          ∙ pushed-more (moved_price prices size cover) c.loop-item.new item (record { 0 = to_z w64 (of_z w64 c.moved.result) })
+          ∙ pushed-more (moved_price prices size cover) c.loop-item.new item (record { 0 = to_z w64 (of_z w64 c.price_after_step.result) })
           c.loop-item.invariant.len value c.loop-item.invariant.moved k h;
     }

@@ -14,6 +14,6 @@ returns-then-p-q c =
     let count = c.requires.rows.count in
     let within : c.args.q < length c.args.rows.now = (let below = c.requires.q in omega arith) in
     let at : slice_get c.args.rows.now c.args.q ≡ Some row = row-there c.args.rows.now c.args.q row within c.index-rows-q.is in
-    let P : List ℕ → Type 0 = λ l. c.decoded.result ≡ told (get_or l c.args.p 0) in
-    let cell : c.decoded.result ≡ told (get_or row c.args.p 0) = subst P c.as_slice.ensures c.decoded.ensures in
+    let P : List ℕ → Type 0 = λ l. c.pause_of_cell.result ≡ told (get_or l c.args.p 0) in
+    let cell : c.pause_of_cell.result ≡ told (get_or row c.args.p 0) = subst P c.as_slice.ensures c.pause_of_cell.ensures in
     cell ∙ ap told (entry-get row c.args.p) ∙ (c.requires.rows.each c.args.q row at).each c.args.p first

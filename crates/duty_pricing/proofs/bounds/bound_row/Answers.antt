@@ -21,32 +21,32 @@ lower_by_all-requires-2-clause-behind c = c.requires.far.behind
 
 pub returns-clause-row : goal.returns-clause-row
 returns-clause-row c =
-    let fits : FitsSigned w64 c.ending-row.result = search rules in
+    let fits : FitsSigned w64 c.ending_value-row.result = search rules in
     let last_fits : FitsSigned w64 c.args.last = search rules in
     bounded c.args.net.now c.args.prices.now c.args.group.now c.args.reach.now c.args.long c.args.last c.args.numbers.now c.args.rows.now
     c.args.over.now c.args.chain.now c.args.over_chain.now
-    c.args.near.now c.args.far.now c.args.item c.args.direct c.ending-row.result c.lower_by_direct.new.row c.lower_by_all.new.row
+    c.args.near.now c.args.far.now c.args.item c.args.direct c.ending_value-row.result c.lower_by_direct.new.row c.lower_by_all.new.row
     c.lower_by_all-2.new.row c.settle.new.row c.requires.reach
-    (rw (to_z-of_z w64 _ last_fits) at c.ending-row.ensures.closes) (rw (to_z-of_z w64 _ fits) at c.lower_by_direct.ensures)
+    (rw (to_z-of_z w64 _ last_fits) at c.ending_value-row.ensures.closes) (rw (to_z-of_z w64 _ fits) at c.lower_by_direct.ensures)
     c.lower_by_all.ensures c.lower_by_all-2.ensures c.settle.ensures
     c.requires.chain c.requires.over_chain c.requires.near c.requires.far
 
 pub returns-clause-falling : goal.returns-clause-falling
 returns-clause-falling c =
-    let fits : FitsSigned w64 c.ending-row.result = search rules in
-    bounded-falls c.ending-row.result c.args.reach.now c.args.chain.now c.args.over_chain.now c.args.near.now c.args.far.now c.args.net.now
-    c.args.prices.now c.args.long c.args.rows.now c.args.over.now
+    let fits : FitsSigned w64 c.ending_value-row.result = search rules in
+    bounded-falls c.ending_value-row.result c.args.reach.now c.args.chain.now c.args.over_chain.now c.args.near.now c.args.far.now
+    c.args.net.now c.args.prices.now c.args.long c.args.rows.now c.args.over.now
     c.args.item c.args.direct _ _ c.lower_by_direct.new.row c.lower_by_all.new.row c.lower_by_all-2.new.row
-    c.settle.new.row c.ending-row.ensures.high
+    c.settle.new.row c.ending_value-row.ensures.high
     (rw (to_z-of_z w64 _ fits) at c.lower_by_direct.ensures) c.lower_by_all.ensures c.lower_by_all-2.ensures c.settle.ensures
 
 pub returns-clause-low : goal.returns-clause-low
 returns-clause-low c =
-    let fits : FitsSigned w64 c.ending-row.result = search rules in
+    let fits : FitsSigned w64 c.ending_value-row.result = search rules in
     let few = c.fits.ensures.few in
     let item = c.requires.item in
-    bounded-low c.ending-row.result c.args.reach.now c.args.chain.now c.args.over_chain.now c.args.near.now c.args.far.now c.args.net.now
-    c.args.prices.now c.args.long c.args.rows.now c.args.over.now
+    bounded-low c.ending_value-row.result c.args.reach.now c.args.chain.now c.args.over_chain.now c.args.near.now c.args.far.now
+    c.args.net.now c.args.prices.now c.args.long c.args.rows.now c.args.over.now
     c.args.item c.args.direct _ _ c.lower_by_direct.new.row c.lower_by_all.new.row c.lower_by_all-2.new.row c.settle.new.row
-    (omega arith) c.ending-row.ensures.low
+    (omega arith) c.ending_value-row.ensures.low
     (rw (to_z-of_z w64 _ fits) at c.lower_by_direct.ensures) c.lower_by_all.ensures c.lower_by_all-2.ensures c.settle.ensures

@@ -8,8 +8,8 @@ use Rattle.duty_rest.proofs.Stands.{body-below}
 use Rattle.duty_rest.proofs.Walking.{after-none, first-walked, take-rest}
 use Rattle.duty_rest.proofs.walk.opened_list.Goals as goal
 
-pub opened-requires-clause-list : goal.opened-requires-clause-list
-opened-requires-clause-list c =
+pub mark_of_pieces-requires-clause-list : goal.mark_of_pieces-requires-clause-list
+mark_of_pieces-requires-clause-list c =
     let n : ℕ = length c.args.net.now.pieces in
     let P : List ℕ → Type 0 = AllBelow n in
     subst P (sym c.body.ensures) (body-below n c.args.bodies.now (slice_index_or c.args.list.now 0 0) c.requires.bodies.below)

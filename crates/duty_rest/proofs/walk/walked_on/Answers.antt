@@ -7,8 +7,8 @@ use Rattle.duty_rest.proofs.Stands.{body-below}
 use Rattle.duty_rest.proofs.Walking.{after-body, after-none}
 use Rattle.duty_rest.proofs.walk.walked_on.Goals as goal
 
-pub walked-requires-clause-rest : goal.walked-requires-clause-rest
-walked-requires-clause-rest c =
+pub mark_with_pieces-requires-clause-rest : goal.mark_with_pieces-requires-clause-rest
+mark_with_pieces-requires-clause-rest c =
     let n : ℕ = length c.args.net.now.pieces in
     let P : List ℕ → Type 0 = AllBelow n in
     subst P (sym c.body.ensures)

@@ -8,13 +8,14 @@ use Rattle.lagrangian_climb.proofs.vectors.moved_prices.Goals as goal
 
 pub loop-item-preserved : goal.loop-item-preserved
 loop-item-preserved c =
-    let z : ℤ = to_z w64 (of_z w64 c.moved-price.result) in
+    let z : ℤ = to_z w64 (of_z w64 c.price_after_move-price.result) in
     let x : Price = record { 0 = z } in
     let span_low = c.span_at-span.ensures.low in
     let span_high = c.span_at-span.ensures.high in
     let low : neg_ℤ (pos 10000000000000) ≤ℤ z =
-    (let l = c.moved-price.ensures.low in let h = c.moved-price.ensures.high in omega (arith, ints)) in
-    let high : z ≤ℤ pos 10000000000000 = (let l = c.moved-price.ensures.low in let h = c.moved-price.ensures.high in omega (arith, ints)) in
+    (let l = c.price_after_move-price.ensures.low in let h = c.price_after_move-price.ensures.high in omega (arith, ints)) in
+    let high : z ≤ℤ pos 10000000000000 =
+    (let l = c.price_after_move-price.ensures.low in let h = c.price_after_move-price.ensures.high in omega (arith, ints)) in
     let within : IsWithin 10000000000000 x.0 = record { low = low; high = high } in
     let pushed : c.push.new.self ≡ c.loop-item.items ++ x ∷ [] = c.in_ok-push.ensures.ok in
     let P : List Price → Type 0 = λ l. AllWithin 10000000000000 l in

@@ -12,12 +12,12 @@ loop-class-init c =
     let part : ℤ = to_z w64 (of_z w64 c.args.part) in
     let whole : ℤ = to_z w64 (of_z w64 c.args.whole) in
     let sum : ℤ = to_z w128 (of_z w128 c.args.sum) in
-    let fits : FitsSigned w128 c.divided-guess.result = search rules in
+    let fits : FitsSigned w128 c.quotient-guess.result = search rules in
     let sum_fits : FitsSigned w128 c.scaled_sum.result = search rules in
-    let low = c.divided-guess.ensures.low in
-    let high = c.divided-guess.ensures.high in
-    let is : to_z w128 (of_z w128 c.divided-guess.result) ≡ int_div (sum *ℤ part) whole =
-    to_z-of_z fits ∙ c.divided-guess.ensures.value ∙ ap (λ (z : ℤ). int_div z whole) (to_z-of_z sum_fits ∙ c.scaled_sum.ensures.value) in
+    let low = c.quotient-guess.ensures.low in
+    let high = c.quotient-guess.ensures.high in
+    let is : to_z w128 (of_z w128 c.quotient-guess.result) ≡ int_div (sum *ℤ part) whole =
+    to_z-of_z fits ∙ c.quotient-guess.ensures.value ∙ ap (λ (z : ℤ). int_div z whole) (to_z-of_z sum_fits ∙ c.scaled_sum.ensures.value) in
     record {
       order = omega arith;
       is = omega (arith, ints, is);

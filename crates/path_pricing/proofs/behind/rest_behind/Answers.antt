@@ -70,23 +70,23 @@ loop-number-preserved c =
 pub returns-clause-closes : goal.returns-clause-closes
 returns-clause-closes c =
     let net = c.args.net.now in
-    let fits : FitsSigned w64 c.settled.result = search rules in
+    let fits : FitsSigned w64 c.least_payable.result = search rules in
     rw (to_z-of_z w64 _ fits)
-    (settled_closes net.day net.counts c.args.prices.now c.args.pool.now c.args.rests.now c.args.t _ c.settled.result
-    (search (rules, c.settled.ensures.least)) c.loop-number.invariant.closes)
+    (settled_closes net.day net.counts c.args.prices.now c.args.pool.now c.args.rests.now c.args.t _ c.least_payable.result
+    (search (rules, c.least_payable.ensures.least)) c.loop-number.invariant.closes)
 
 pub returns-clause-steps : goal.returns-clause-steps
 returns-clause-steps c =
     let net = c.args.net.now in
-    let fits : FitsSigned w64 c.settled.result = search rules in
+    let fits : FitsSigned w64 c.least_payable.result = search rules in
     let least : ℤ = to_z w64 c.loop-number.least-bits in
     let end : c.loop-number.number ≡ c.args.width = search rules in
     let P : ℕ → Type 0 = λ n. PointsAbove net.day net.counts c.args.prices.now c.args.pool.now c.args.rests.now
     c.args.numbers.now c.args.t n least in
     rw (to_z-of_z w64 _ fits)
     (settled_steps net.day net.counts c.args.prices.now c.args.pool.now c.args.rests.now c.args.t c.args.width c.args.numbers.now least
-    c.settled.result c.requires.moderate c.requires.below c.requires.deep
-    (search (rules, c.settled.ensures.least)) (subst P end c.loop-number.invariant.points))
+    c.least_payable.result c.requires.moderate c.requires.below c.requires.deep
+    (search (rules, c.least_payable.ensures.least)) (subst P end c.loop-number.invariant.points))
 
 pub with_point-least-requires-clause-first : goal.with_point-least-requires-clause-first
 with_point-least-requires-clause-first c = λ u trip next later at at' begins.

@@ -7,5 +7,5 @@ use Rattle.path_pricing.proofs.labels.most_within.Goals as goal
 pub returns : goal.returns
 returns c =
     let total = c.total.ensures in
-    let fits : FitsSigned w64 c.clamped.result = search rules in
-    rw (to_z-of_z w64 c.clamped.result fits) (λ low. let high = c.clamped.ensures low in omega (arith, ints))
+    let fits : FitsSigned w64 c.nearest_number.result = search rules in
+    rw (to_z-of_z w64 c.nearest_number.result fits) (λ low. let high = c.nearest_number.ensures low in omega (arith, ints))

@@ -6,4 +6,4 @@ returns-in-Ok-clause-read c = text-read c.args.day.now c.args.tables.now c.in-Ok
 
 pub returns-in-Err-clause-read : goal.returns-in-Err-clause-read
 returns-in-Err-clause-read c =
-    fault-read c.args.day.now c.args.tables.now c.in-Err.fault c.named.result c.named.ensures c.in-Err.ensures.said
+    fault-read c.args.day.now c.args.tables.now c.in-Err.fault c.fault_of_table.result c.fault_of_table.ensures c.in-Err.ensures.said

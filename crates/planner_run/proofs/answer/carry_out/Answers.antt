@@ -9,8 +9,8 @@ use Rattle.planner_run.proofs.OneText.{one_answer, same_taken}
 use Rattle.planner_run.proofs.RunLemmas.{called_for, complete_run, refused_run}
 use Rattle.planner_run.proofs.answer.carry_out.Goals as goal
 
-pub written-requires : goal.written-requires
-written-requires g c = is_done_so (task_of c.args.request.now) c.in-Ok.outcome.ending c.in-Ok.ensures.ending
+pub write_outcome-requires : goal.write_outcome-requires
+write_outcome-requires g c = is_done_so (task_of c.args.request.now) c.in-Ok.outcome.ending c.in-Ok.ensures.ending
 
 pub returns-in-Ok-clause-refused : goal.returns-in-Ok-clause-refused
 returns-in-Ok-clause-refused g c = λ status settled some none.
@@ -37,7 +37,7 @@ returns-in-Ok-clause-only g c = λ end bytes ok fixed text.
     let first = of_told (held_under (g.F.Files.held c.args.files.now) c.args.request.now.names)
     (λ contents. IsAnswer task contents day made.ending made.text) contents told c.in-Ok.ensures.written in
     let same : made.text ≡ bytes = one_answer task fixed text contents day made.ending end made.text bytes first answer in
-    same_taken _ _ _ _ made.text bytes made.ending c.written.result same c.written.ensures.written (rw ok refl))
+    same_taken _ _ _ _ made.text bytes made.ending c.write_outcome.result same c.write_outcome.ensures.written (rw ok refl))
 
 pub returns-in-Ok-clause-still : goal.returns-in-Ok-clause-still
 returns-in-Ok-clause-still g c = λ none other. c.in-Ok.ensures.still (λ file bad. cc) other

@@ -3,8 +3,8 @@ use Rattle.cover_core.specs.Cover.{AllBelow}
 use Rattle.tail_exchange.proofs.Lists.{AllBelow-append}
 use Rattle.tail_exchange.proofs.moves.made_of_two.Goals as goal
 
-pub made-requires-clause-items : goal.made-requires-clause-items
-made-requires-clause-items g c =
+pub column_of_list-requires-clause-items : goal.column_of_list-requires-clause-items
+column_of_list-requires-clause-items g c =
     let p = g.C.Columns.problem c.args.columns.now in
     let both = c.as_slice.ensures.value ∙ c.in_ok-extend_from_slice.ensures.items
     ∙ ap (λ (l : List ℕ). l ++ c.args.tail.now) c.in_ok-list.ensures.items in

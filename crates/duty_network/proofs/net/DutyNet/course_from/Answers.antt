@@ -17,8 +17,8 @@ returns-in_err-last-clause-none c =
     (none-walk d c.args.class c.group-group.result.now c.args.first c.args.rest.now p.0 c.group-group.ensures.group
     p.1 c.in_err-last.ensures.none)
 
-pub spanned-requires-clause-last : goal.spanned-requires-clause-last
-spanned-requires-clause-last c =
+pub course_between-requires-clause-last : goal.course_between-requires-clause-last
+course_between-requires-clause-last c =
     let p = there c.args.self.now.pieces c.args.first c.requires.first in
     (c.in_ok-last.ensures.some p.0 p.1).there
 
@@ -34,13 +34,13 @@ returns-clause-some c =
     slice_get d.pieces c.in_ok-last.last ≡ Some b → IsSpanned d group a b c.add_after.new.tally course in
     let Q : Course → Type 0 = λ course. (g : Group) → slice_get d.params.groups c.args.class ≡ Some g →
     (duty : Duty) × (duty_of d c.args.class list ≡ Some duty) × IsCourse d g duty course in
-    some-map c.spanned.result P Q
+    some-map c.course_between.result P Q
     (λ course span g is_g.
     let same : group ≡ g = Some-same group g (sym c.group-group.ensures.group ∙ is_g) in
     let R : Group → Type 0 = λ x. (duty : Duty) × (duty_of d c.args.class list ≡ Some duty) × IsCourse d x duty course in
     subst R same (course-of d c.args.class group c.args.first c.args.rest.now p.0 q.0 c.in_ok-last.last c.add_after.new.tally course
-    c.group-group.ensures.group p.1 q.1 t (c.add_after.ensures.limits ∙ c.begun-tally.ensures.limits) (span p.0 q.0 p.1 q.1)))
-    c.spanned.ensures.some
+    c.group-group.ensures.group p.1 q.1 t (c.add_after.ensures.limits ∙ c.first_tally-tally.ensures.limits) (span p.0 q.0 p.1 q.1)))
+    c.course_between.ensures.some
 
 pub returns-clause-none : goal.returns-clause-none
 returns-clause-none c =
@@ -50,8 +50,9 @@ returns-clause-none c =
     let q = there d.pieces c.in_ok-last.last t.there in
     let group : Group = c.group-group.result.now in
     let list = c.args.first ∷ c.args.rest.now in
-    none-map c.spanned.result ((a b : Piece) → slice_get d.pieces c.args.first ≡ Some a → slice_get d.pieces c.in_ok-last.last ≡ Some b →
-    HasNoSpan d group a b) (duty_of d c.args.class list ≡ None)
+    none-map c.course_between.result ((a b : Piece) →
+    slice_get d.pieces c.args.first ≡ Some a → slice_get d.pieces c.in_ok-last.last ≡ Some b → HasNoSpan d group a b)
+    (duty_of d c.args.class list ≡ None)
     (λ none. none-span d c.args.class group c.args.first c.args.rest.now p.0 q.0 c.group-group.ensures.group p.1
     (ap (slice_get d.pieces) (sym t.last_is) ∙ q.1) (none p.0 q.0 p.1 q.1))
-    c.spanned.ensures.none
+    c.course_between.ensures.none

@@ -13,6 +13,6 @@ returns-clause-best c =
     ∙ sym (pair_best c.args.self.now.alone c.args.self.now.places c.args._class c.args._group c.args.self.now.both c.args.prices.now.items
     c.requires.class c.requires.group) in
     let fits : FitsSigned w64 c.args.limit = search rules in
-    c.limited.ensures.within
+    c.column_within.ensures.within
     ∙ (ap (λ (l : ℤ). within l c.args.prices.now.items (Some c.in_ok-best.best)) (to_z-of_z fits)
     ∙ ap (λ (o : Option Column). within c.args.limit c.args.prices.now.items o) is)

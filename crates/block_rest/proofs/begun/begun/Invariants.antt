@@ -1,7 +1,0 @@
-use Rattle.std.proofs.Common.{◌≡◌, ◌++◌, drop}
-use Rattle.block_rest.specs.Rest.{begun_of}
-use Rattle.block_rest.proofs.begun.begun.Given as goal
-
--- what is there and what is left are all
-abbrev pub invariant-loop-head : goal.invariant-loop-head
-invariant-loop-head l = l.begun ++ begun_of (drop l.head-index l.heads) ≡ begun_of l.heads

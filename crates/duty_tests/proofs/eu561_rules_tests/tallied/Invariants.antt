@@ -1,9 +1,0 @@
-use Rattle.std.proofs.Common.{◌≤◌, take, length}
-use Rattle.eu561_rules.specs.Summary.{StandsFor}
-use Rattle.duty_tests.proofs.eu561_rules_tests.tallied.Given as goal
-
-abbrev pub invariant-loop-drive : goal.invariant-loop-drive
-invariant-loop-drive l = record {
-  order : l.drive-index ≤ length l.drives;
-  stands : StandsFor l.tally (take l.drive-index l.drives);
-}

@@ -1,6 +1,0 @@
-use Rattle.std.proofs.Common.{◌≡◌}
-use Rattle.plan_cert.specs.Slots.{unset}
-use Rattle.plan_cert.proofs.slots.unread.Given as goal
-
-abbrev pub invariant-loop : goal.invariant-loop
-invariant-loop l = l.slots ≡ unset l.counter
