@@ -5,6 +5,7 @@ use Rattle.std.specs.Option.{option_map}
 use Rattle.std.proofs.lemmas.Bool.Decides.{nat_tests}
 use Rattle.std.proofs.lemmas.Int.{ints}
 use Rattle.std.proofs.lemmas.List.Elements.{All-tail}
+use Rattle.plan_core.specs.Limits.{most_kept_price}
 use Rattle.plan_core.specs.declared.Price.{Price}
 use Rattle.cover_core.specs.declared.marks.BlockMark.{BlockMark}
 use Rattle.cover_core.specs.FirstLeast.{AllWithin}
@@ -193,7 +194,7 @@ begun-parts day counts prices class k b e =
 
 -- The law of numbers: each trip moves a value by its price and by what it adds to the costs, and lists rise.
 pub marks-safe : (day : DayFacts) (counts : Bool) (prices : List Price) → All IsDaily day.trips → All IsPool day.params.pools →
-    AllWithin 3000000000000000 prices →
+    AllWithin most_kept_price prices →
     AreSafe (block_marking day counts prices) (MarkFits (length day.trips))
 marks-safe day counts prices daily ranges moderate = record {
   starts = λ class k b e.
@@ -206,7 +207,7 @@ marks-safe day counts prices daily ranges moderate = record {
       let pool_in = ranged-at day.params.pools class x.pool x.pool_is ranges in
       let (low, high) = first-few counts step.cost 1828000000 (begun_few day counts prices x.pool k step.cost pool_in daily cost)
       (omega arith) in
-      let price = price_at-within 3000000000000000 prices k moderate in
+      let price = price_at-within most_kept_price prices k moderate in
       let p_low = price.low in
       let p_high = price.high in
       let of_open : OpenBlock → ℤ = λ o. o.value in
@@ -229,7 +230,7 @@ marks-safe day counts prices daily ranges moderate = record {
       let (cost, driving) = joined_parts (added day x.pool a.trip k) (next_driving day x.pool a.driving a.trip k) step is_step in
       let pool_in = ranged-at day.params.pools a.class x.pool x.pool_is ranges in
       let (low, high) = scaled-few counts step.cost 1728000000 (added_few day counts prices x.pool a.trip k step.cost pool_in daily cost) in
-      let price = price_at-within 3000000000000000 prices k moderate in
+      let price = price_at-within most_kept_price prices k moderate in
       let p_low = price.low in
       let p_high = price.high in
       let of_open : OpenBlock → ℤ = λ o. o.value in

@@ -2,6 +2,7 @@
 #![tactic(auto)]
 
 ghost use Rattle.std.specs.Prelude.{◌≡◌, ◌<◌, IfErr, IfNone, IfOk, IfSome, None, OnOk, length};
+ghost use Rattle.plan_core.specs.Limits.{most_kept_price};
 ghost use Rattle.cover_core.specs.FirstLeast.{AllWithin};
 ghost use Rattle.mark_cover.specs.Covers.{IsFirstGap, IsMarkCover};
 ghost use Rattle.mark_cover.specs.Minimal.{AreMinimal};
@@ -35,7 +36,7 @@ pub fn make_block_cover(
     prices: &Prices,
     class_prices: &[i64],
 ) -> Result<BlockCover, CoverFault>
-    requires { AllWithin 3000000000000000 prices.now.items }
+    requires { AllWithin most_kept_price prices.now.items }
     ensures minimal { IfOk result (λ cover. AreMinimal (block_marking net.now.day net.now.counts prices.now.items) mark_order cover.marks) }
     ensures cover { IfOk result (λ cover. IsMarkCover (block_marking net.now.day net.now.counts prices.now.items) cover.marks class_prices.now) }
     ensures paid { OnOk result (AreClassesPaid (blocks net.now) prices.now.items class_prices.now (length (blocks net.now).caps)) }
@@ -62,7 +63,7 @@ pub fn first_block_gap(
     prices: &Prices,
     class_prices: &[i64],
 ) -> Option<Gap>
-    requires moderate { AllWithin 3000000000000000 prices.now.items }
+    requires moderate { AllWithin most_kept_price prices.now.items }
     requires there { AreThere (block_marking net.now.day net.now.counts prices.now.items) cover.now.marks }
     requires few { length cover.now.marks < 4294967296 }
     ensures first { IfSome result (λ gap. IsFirstGap (block_marking net.now.day net.now.counts prices.now.items) cover.now.marks class_prices.now gap) }

@@ -2,7 +2,7 @@
 #![tactic(auto)]
 
 ghost use Rattle.std.specs.Prelude.{◌≡◌, ◌≤◌, All, length};
-ghost use Rattle.plan_core.specs.Limits.{most_items};
+ghost use Rattle.plan_core.specs.Limits.{most_items, most_kept_price};
 ghost use Rattle.cover_core.specs.FirstLeast.{AllWithin};
 ghost use Rattle.plan_params.specs.Limits.{IsPool};
 ghost use Rattle.day_model.specs.Ranges.{IsDaily};
@@ -27,13 +27,13 @@ pub struct BlockMarks<'n> {
     ghost few: { length net.now.day.trips ≤ most_items },
     ghost daily: { All IsDaily net.now.day.trips },
     ghost ranges: { All IsPool net.now.day.params.pools },
-    ghost moderate: { AllWithin 3000000000000000 prices.now } by { AllWithin-prop 3000000000000000 prices.now },
+    ghost moderate: { AllWithin most_kept_price prices.now } by { AllWithin-prop most_kept_price prices.now },
 }
 
 impl<'n> BlockMarks<'n> {
     /// The marks of the open blocks of a net under prices: one for each trip; a trip past them has price 0.
     pub fn new(net: &'n PoolNet<'n>, prices: &'n [Price]) -> BlockMarks<'n>
-        requires { AllWithin 3000000000000000 prices.now }
+        requires { AllWithin most_kept_price prices.now }
         ensures net { result.net.now ≡ net.now }
         ensures prices { result.prices.now ≡ prices.now }
     {

@@ -1,6 +1,7 @@
 //! Covers of the blocks of small days: trips from 1 to 2 and back, and a depot at 9.
 
 ghost use Rattle.std.specs.Prelude.{◌≡◌, IfOk, true};
+ghost use Rattle.plan_core.specs.Limits.{most_kept_price};
 ghost use Rattle.cover_core.specs.FirstLeast.{AllWithin};
 ghost use Rattle.mark_cover.specs.Searches.{AreThere};
 ghost use Rattle.depot_network.specs.BlockMarks.{block_marking};
@@ -15,7 +16,7 @@ use std::test::Fail;
 
 /// The prices of two trips.
 fn two_prices(alloc: Global, first: i32, second: i32) -> Result<Prices, Memory>
-    ensures { IfOk result (λ prices. AllWithin 3000000000000000 prices.items) }
+    ensures { IfOk result (λ prices. AllWithin most_kept_price prices.items) }
 {
     Ok(Prices {
         items: Seq::from_vec(vec![in alloc; Price(i64::from(first)), Price(i64::from(second))]?),
@@ -164,7 +165,7 @@ fn are_there(net: &PoolNet<'_>, prices: &Prices, marks: &[BlockMark]) -> bool
 
 /// The first gap of a cover, if there is one, where the classes and trips of its marks are there.
 fn gap_in(cover: &BlockCover, net: &PoolNet<'_>, prices: &Prices) -> Option<Option<Gap>>
-    requires { AllWithin 3000000000000000 prices.now.items }
+    requires { AllWithin most_kept_price prices.now.items }
 {
     let marks = cover.marks.as_slice();
     if marks.len() < 4_294_967_296 && are_there(net, prices, marks) {

@@ -1,7 +1,7 @@
 -- Promise: what the steps of the checker begin with and end with.
 use Rattle.std.specs.Prelude.{◌≡◌, ◌⊎◌, ℕ, ℤ, pos, int_lt, ◌+◌, ◌<◌, ◌≤◌, ◌^◌, All, Bool, IsTrue, List, [], ◌∷◌, Option, Some, None, true, false, length, slice_index}
 use Rattle.std.specs.List.{position_from}
-use Rattle.plan_core.specs.Limits.{most_items}
+use Rattle.plan_core.specs.Limits.{most_items, most_kept_price}
 use Rattle.cover_core.specs.FirstLeast.{AllWithin}
 use Rattle.cover_core.specs.Plans.{bound_of}
 use Rattle.dual_bound.specs.Ranges.{AreAtLeast}
@@ -55,7 +55,7 @@ HaveFewClasses (part ∷ parts) = (length part.class_prices ≤ 32) × HaveFewCl
 -- a part has the numbers of which a bound can be made
 pub record IsBounding (caps : List ℕ) (part : CertPart) : Type 0 where
   pub few : length part.prices.items ≤ most_items
-  pub moderate : AllWithin 3000000000000000 part.prices.items
+  pub moderate : AllWithin most_kept_price part.prices.items
   pub classes : length caps ≤ 32
   pub one_each : length part.class_prices ≡ length caps
   pub charged : AreAtLeast (pos 0) part.class_prices

@@ -1,6 +1,7 @@
 //! The settings of a few drivers, and nets of two and three pieces under them.
 
 ghost use Rattle.std.specs.Prelude.{◌≡◌, ◌-ℤ◌, ◌≤ℤ◌, ◌↔◌, pos, All, IfOk, IsTrue, length};
+ghost use Rattle.plan_core.specs.Limits.{most_kept_price};
 ghost use Rattle.cover_core.specs.FirstLeast.{AllWithin};
 ghost use Rattle.plan_params.specs.Limits.{HaveRanges};
 ghost use Rattle.duty_network.specs.Ranges.{IsShift};
@@ -199,7 +200,7 @@ pub(crate) fn net_of<'p>(
 /// The prices of three pieces.
 pub(crate) fn prices_of(alloc: Global, prices: [u32; 3]) -> Result<Prices, Memory>
     ensures three { IfOk result (λ prices. length prices.items ≡ 3) }
-    ensures moderate { IfOk result (λ prices. AllWithin 3000000000000000 prices.items) }
+    ensures moderate { IfOk result (λ prices. AllWithin most_kept_price prices.items) }
 {
     let [first, second, third] = prices;
     Ok(Prices {
@@ -214,7 +215,7 @@ pub(crate) fn prices_of(alloc: Global, prices: [u32; 3]) -> Result<Prices, Memor
 /// The prices of two pieces.
 pub(crate) fn two_prices(alloc: Global, first: u32, second: u32) -> Result<Prices, Memory>
     ensures two { IfOk result (λ prices. length prices.items ≡ 2) }
-    ensures moderate { IfOk result (λ prices. AllWithin 3000000000000000 prices.items) }
+    ensures moderate { IfOk result (λ prices. AllWithin most_kept_price prices.items) }
 {
     Ok(Prices {
         items: Seq::from_vec(vec![in alloc; Price(first as i64), Price(second as i64)]?),

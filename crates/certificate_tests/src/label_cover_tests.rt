@@ -1,6 +1,7 @@
 //! Covers of duties of small days: worked numbers, marks from outside, and a comparison with the marks of all open lists.
 
 ghost use Rattle.std.specs.Prelude.{◌≡◌, ◌<◌, length, true};
+ghost use Rattle.plan_core.specs.Limits.{most_kept_price};
 ghost use Rattle.cover_core.specs.FirstLeast.{AllWithin};
 ghost use Rattle.mark_cover.specs.Searches.{AreThere};
 ghost use Rattle.plan_params.specs.Limits.{HaveRanges};
@@ -39,7 +40,7 @@ fn gap_of(
     class_price: i64,
     marks: Vec<Mark>,
 ) -> Option<Option<Gap>>
-    requires { AllWithin 3000000000000000 prices.now.items }
+    requires { AllWithin most_kept_price prices.now.items }
 {
     let cover = Cover {
         marks: Seq::from_vec(marks),
@@ -132,7 +133,7 @@ fn has_gap(
     prices: &Prices,
     change: Change,
 ) -> Result<bool, Memory>
-    requires { AllWithin 3000000000000000 prices.now.items }
+    requires { AllWithin most_kept_price prices.now.items }
 {
     let Change {
         class_price,
@@ -146,7 +147,7 @@ fn has_gap(
 
 /// The first of the changes of the demonstration's cover that has another gap, the fewer marks before the more.
 fn first_other(alloc: Global, net: &DutyNet<'_>, prices: &Prices) -> Result<Option<usize>, Fail>
-    requires { AllWithin 3000000000000000 prices.now.items }
+    requires { AllWithin most_kept_price prices.now.items }
 {
     for place in 0..8 {
         let change = if place < 5 {
@@ -196,7 +197,7 @@ fn cover_or_duty(
     prices: &Prices,
     class_price: i64,
 ) -> Result<Result<Vec<Mark>, Column>, Memory>
-    requires { AllWithin 3000000000000000 prices.now.items }
+    requires { AllWithin most_kept_price prices.now.items }
 {
     match make_cover(alloc, net, prices, &[class_price]) {
         Ok(cover) => {
@@ -210,7 +211,7 @@ fn cover_or_duty(
 
 /// The unpaid duty, where there is one.
 fn unpaid_of(alloc: Global, net: &DutyNet<'_>, prices: &Prices) -> Result<Option<Column>, Memory>
-    requires { AllWithin 3000000000000000 prices.now.items }
+    requires { AllWithin most_kept_price prices.now.items }
 {
     match cover_or_duty(alloc, net, prices, 0)? {
         Ok(_) => Ok(None),
@@ -328,7 +329,7 @@ fn agrees_in(
     prices: &Prices,
     count: usize,
 ) -> Result<bool, Memory>
-    requires { AllWithin 3000000000000000 prices.now.items }
+    requires { AllWithin most_kept_price prices.now.items }
 {
     match cover_or_duty(alloc, net, prices, CLASS_PRICE)? {
         Ok(marks) => {

@@ -96,7 +96,8 @@ fn freeing_order<C: Columns>(
     Ok(ranks)
 }
 
-/// Whether the column of a rank is freed: one of the first `width` ranks, or one of as many that turn by turn go on through all ranks.
+/// Whether the column of a rank is freed: one of the first `width` ranks, or one of `width` ranks next to each other that lie that many
+/// further on with each turn, and begin again behind the last.
 fn is_freed(rank: usize, turn: usize, width: usize, count: usize) -> bool
     requires count { 0 < count }
     requires few { count ≤ most_items }

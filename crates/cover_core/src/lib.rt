@@ -1,5 +1,6 @@
 //! Set partitioning, of which block and duty planning are instances: items (trips, or pieces of work), classes with caps (depots, or
-//! groups of drivers), lists of items that have a worth, prices, and plans. Nothing here knows of buses.
+//! groups of drivers), lists of items that have a worth, prices, and plans. Nothing here knows of buses but the marks, plain rows by which
+//! a certificate tells of open blocks and duties.
 //!
 //! A *column* is a class with a list of items and what it is worth. A *plan* is a list of columns in which each item stands exactly
 //! once and no class has more columns than its cap; it costs the sum of its worths. *Prices*, one for each item and in thousandths of

@@ -119,8 +119,8 @@ fn price_after_step(price: i64, size: i64, times: u32) -> i64
     clamp(sum)
 }
 
-/// What one more column adds, where its class has a place left.
-fn walk(pool: &[Column], caps: &[u32], key: Key, cover: &mut Seq<u32>, counts: &mut Seq<u32>)
+/// Counts one more column in its class, and its items where the class had a place left for it.
+fn add_column(pool: &[Column], caps: &[u32], key: Key, cover: &mut Seq<u32>, counts: &mut Seq<u32>)
     requires class { key.class < length caps.now }
     requires place { key.place < length pool.now }
     requires fit { AreFit (length cover.old) (length caps.now) pool.now }
@@ -160,7 +160,7 @@ fn cover(
     let mut cover = zeros(alloc, prices.items.len())?;
     let mut counts = zeros(alloc, caps.len())?;
     for key in keys {
-        walk(pool, caps, *key, &mut cover, &mut counts);
+        add_column(pool, caps, *key, &mut cover, &mut counts);
     }
     Ok(cover)
 }

@@ -6,7 +6,7 @@
 #![tactic(auto)]
 
 ghost use Rattle.std.specs.Prelude.{◌≡◌, ◌≤◌, ◌<◌, ◌≤ℤ◌, ◌<ℤ◌, ◌-ℤ◌, ◌*ℤ◌, pos, neg_ℤ, length};
-ghost use Rattle.plan_core.specs.Limits.{most_items};
+ghost use Rattle.plan_core.specs.Limits.{most_items, most_kept_price};
 ghost use Rattle.cover_core.specs.Plans.{thousandth, all_prices, rent, bound_of};
 ghost use Rattle.cover_core.specs.FirstLeast.{AllWithin, class_price_of};
 ghost use Rattle.dual_bound.specs.Ranges.{AreAtLeast};
@@ -30,7 +30,7 @@ pub fn class_price(least: i64) -> i64
 /// classes, each with a class price of at least 0 and a cap.
 pub fn bound(prices: &Prices, class_prices: &[i64], caps: &[u32]) -> u64
     requires few { length prices.now.items ≤ most_items }
-    requires moderate { AllWithin 3000000000000000 prices.now.items }
+    requires moderate { AllWithin most_kept_price prices.now.items }
     requires classes { length caps.now ≤ 32 }
     requires one_each { length class_prices.now ≡ length caps.now }
     requires charged { AreAtLeast (pos 0) class_prices.now }
@@ -42,7 +42,7 @@ pub fn bound(prices: &Prices, class_prices: &[i64], caps: &[u32]) -> u64
 /// The sum of all prices.
 fn total(prices: &Prices) -> i128
     requires few { length prices.now.items ≤ most_items }
-    requires moderate { AllWithin 3000000000000000 prices.now.items }
+    requires moderate { AllWithin most_kept_price prices.now.items }
     ensures sum { result ≡ all_prices prices.now.items }
     ensures low { neg_ℤ (pos 9000000000000000000) ≤ℤ result }
     ensures high { result ≤ℤ pos 9000000000000000000 }

@@ -20,7 +20,8 @@ use std::alloc::Global;
 pub struct Follower {
     /// A later piece that follows directly in the same block. No handover and no way is between the two.
     pub direct: u32,
-    /// For each number a later piece. To no earlier one of the number is there a pause, the direct one aside.
+    /// For each number of the points where pieces begin ([`Followers::points`]) a later piece. Between it and this piece none that begins at
+    /// such a point has a pause behind this piece, the direct one aside.
     pub near: Vec<u32>,
     /// The same for pauses of three hours or more.
     pub far: Vec<u32>,

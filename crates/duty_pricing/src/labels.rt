@@ -118,9 +118,9 @@ fn mark_where(test: bool, mark: Mark) -> Option<Mark>
     if test { Some(mark) } else { None }
 }
 
-/// Whether a three was had where the other had one.
+/// Whether a list had a long pause, or a quarter, where another one had it.
 #[inline(always)]
-fn has(a: bool, b: bool) -> bool
+fn has_pause_as_other(a: bool, b: bool) -> bool
     ensures { result ≡ not b || a }
 {
     !b | a
@@ -145,7 +145,7 @@ fn is_better(a: &Mark, b: &Mark) -> bool
         & (a.driving <= b.driving)
         & is_same(a.quarter, b.quarter)
         & (a.total <= b.total)
-        & has(a.three, b.three)
+        & has_pause_as_other(a.three, b.three)
         & (a.value <= b.value)
 }
 

@@ -31,7 +31,7 @@ pub(crate) fn settled_example(alloc: Global) -> Result<Plan, Memory>
 }
 
 /// A plan of which two swaps and a cut lower the cost by 1.
-pub(crate) fn tied(alloc: Global) -> Result<Plan, Memory>
+pub(crate) fn tied_example(alloc: Global) -> Result<Plan, Memory>
     ensures { IfOk result (λ plan. plan.columns ≡ tied) }
 {
     let first = column(alloc, 0, 10, [0].as_slice())?;
@@ -82,7 +82,7 @@ pub(crate) fn spread_example(alloc: Global) -> Result<Plan, Memory>
 }
 
 /// A plan of which a cut lowers the cost where class 0 has a place left.
-pub(crate) fn dear(alloc: Global) -> Result<Plan, Memory>
+pub(crate) fn dear_example(alloc: Global) -> Result<Plan, Memory>
     ensures { IfOk result (λ plan. plan.columns ≡ dear) }
 {
     let first = column(alloc, 0, 11, [0, 1].as_slice())?;

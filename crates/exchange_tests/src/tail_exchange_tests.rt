@@ -5,7 +5,8 @@ ghost use Rattle.exchange_tests.specs.Five.{five};
 
 use crate::five_items::{Five, spell};
 use crate::given_plans::{
-    crossed_example, dear, loose_example, mixed_example, settled_example, spread_example, tied,
+    crossed_example, dear_example, loose_example, mixed_example, settled_example, spread_example,
+    tied_example,
 };
 use cover_core::Plan;
 use plan_core::Memory;
@@ -108,7 +109,7 @@ fn settled_plan(rt: HostRuntime) -> Result<(), Fail> {
 /// On a tie the swap comes before the cut, and the swap of earlier columns first.
 #[test]
 fn swap_before_cut(rt: HostRuntime) -> Result<(), Fail> {
-    let plan = tied(rt.alloc())?;
+    let plan = tied_example(rt.alloc())?;
     assert_eq!(rt;
         improvement(&rt, rt.alloc(), 3, plan, 20)?.as_slice(),
         [1, 0, 6, 1, 2, 3, 99, 1, 10, 0, 99, 0, 10, 4, 99].as_slice()
@@ -163,7 +164,7 @@ fn two_of_five_swaps(rt: HostRuntime) -> Result<(), Fail> {
 /// A whole column is cut into a cheaper class that has a place left.
 #[test]
 fn cut_into_another_class(rt: HostRuntime) -> Result<(), Fail> {
-    let plan = dear(rt.alloc())?;
+    let plan = dear_example(rt.alloc())?;
     assert_eq!(rt;
         improvement(&rt, rt.alloc(), 3, plan, 20)?.as_slice(),
         [1, 0, 11, 0, 1, 99, 0, 6, 2, 3, 4, 99].as_slice()
@@ -174,7 +175,7 @@ fn cut_into_another_class(rt: HostRuntime) -> Result<(), Fail> {
 /// Into a full class nothing is cut.
 #[test]
 fn no_cut_into_a_full_class(rt: HostRuntime) -> Result<(), Fail> {
-    let plan = dear(rt.alloc())?;
+    let plan = dear_example(rt.alloc())?;
     assert_eq!(rt;
         improvement(&rt, rt.alloc(), 1, plan, 20)?.as_slice(),
         [0, 0, 11, 0, 1, 99, 1, 7, 2, 3, 4, 99].as_slice()

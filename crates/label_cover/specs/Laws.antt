@@ -4,6 +4,7 @@ use Rattle.std.proofs.lemmas.Int.{ints}
 use Rattle.std.proofs.lemmas.List.{length-map}
 use Rattle.std.proofs.lemmas.List.Elements.{All-head, All-tail}
 use Rattle.std.specs.Prelude.{◌&&◌, All, Option, Some, None, cond, option_and_then, nat_lt, slice_get}
+use Rattle.plan_core.specs.Limits.{most_kept_price}
 use Rattle.plan_core.specs.declared.types.Piece.{Piece}
 use Rattle.plan_core.specs.declared.types.Price.{Price}
 use Rattle.plan_core.specs.declared.types.Sec.{Sec}
@@ -211,7 +212,7 @@ open-fits g m end e =
     (less, omega arith)
 
 first-ranges : (d : DutyFacts) (prices : List Price) (class : ℕ) (g : Group) (k : ℕ) (m : Mark) → NetFits d → IsGroup g →
-    AllWithin 3000000000000000 prices →
+    AllWithin most_kept_price prices →
     first_mark d prices class g k ≡ Some m → MarkHasRanges (length d.pieces) m
 first-ranges d prices class g k m f modest w e =
     let (p, is_p, e1) = and_then-Some _ (slice_get d.pieces k) m e in
@@ -219,7 +220,7 @@ first-ranges d prices class g k m f modest w e =
     let (test, made) = given-Some _ _ m e2 in
     let (early, late) = on-fits d g p on f modest (shift-at d.pieces k p f.shifts is_p) is_on in
     let (least, most) = on-range d.counts g on modest early late in
-    let own = price_at-within 3000000000000000 prices k w in let plow = own.low in let phigh = own.high in
+    let own = price_at-within most_kept_price prices k w in let plow = own.low in let phigh = own.high in
     let first : Mark = one_mark d.counts prices class g k p on in
     let (driving, total) = open-fits g first p.end.0 test in
     let below = at-below d.pieces k p is_p in
@@ -239,7 +240,7 @@ first-ranges d prices class g k m f modest w e =
     } in
     subst P (Some-same first m made) fits
 
-next-ranges : (d : DutyFacts) (prices : List Price) (g : Group) (a b : Mark) (k : ℕ) → NetFits d → AllWithin 3000000000000000 prices →
+next-ranges : (d : DutyFacts) (prices : List Price) (g : Group) (a b : Mark) (k : ℕ) → NetFits d → AllWithin most_kept_price prices →
     MarkHasRanges (length d.pieces) a →
     extended_mark d g prices a k ≡ Some b → MarkHasRanges (length d.pieces) b
 next-ranges d prices g a b k f w h e =
@@ -251,7 +252,7 @@ next-ranges d prices g a b k f w h e =
     let (later, open_next) = both_true (nat_lt a.piece k) (is_open g next q.end.0) test in
     let order = later-piece a.piece k later in
     let (driving, total) = open-fits g next q.end.0 open_next in
-    let own = price_at-within 3000000000000000 prices k w in let plow = own.low in let phigh = own.high in
+    let own = price_at-within most_kept_price prices k w in let plow = own.low in let phigh = own.high in
     let below = at-below d.pieces k q is_q in
     let few = f.few in
     let low = h.low in let high = h.high in
@@ -270,7 +271,7 @@ next-ranges d prices g a b k f w h e =
     subst P (Some-same next b made) fits
 
 -- The law of numbers: of 3,000 pieces at prices of at most 3 * 10^15 the value stays within 9.00001 * 10^18.
-pub duty-safe : (d : DutyFacts) (prices : List Price) → NetFits d → AllWithin 3000000000000000 prices →
+pub duty-safe : (d : DutyFacts) (prices : List Price) → NetFits d → AllWithin most_kept_price prices →
     AreSafe (duty_marking d prices) (MarkHasRanges (length d.pieces))
 duty-safe d prices f w = record {
   starts = λ class k b e.

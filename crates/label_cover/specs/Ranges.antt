@@ -2,7 +2,7 @@
 use Rattle.std.specs.Prelude.{ℕ, ℤ, pos, neg_ℤ, ◌≤◌, ◌<◌, ◌≤ℤ◌, ◌+◌, ◌*◌, List, [], ◌∷◌}
 use Rattle.std.proofs.Props.{props}
 use Rattle.std.specs.Coded.{Unit-prop}
-use Rattle.plan_core.specs.Limits.{most_items}
+use Rattle.plan_core.specs.Limits.{most_items, most_kept_price}
 use Rattle.plan_core.specs.declared.types.Price.{Price}
 use Rattle.cover_core.specs.declared.marks.Mark.{Mark}
 use Rattle.cover_core.specs.FirstLeast.{AllWithin}
@@ -15,8 +15,8 @@ pub record MarkHasRanges (count : ℕ) (m : Mark) : Type 0 where
   pub late : m.start.0 ≤ℤ pos 345600
   pub driving : m.driving ≤ 16200
   pub total : m.total ≤ 36000
-  pub low : neg_ℤ (pos (7000000000000 + 3000000000000000 * (m.piece + 1))) ≤ℤ m.value
-  pub high : m.value ≤ℤ pos (7000000000000 + 3000000000000000 * (m.piece + 1))
+  pub low : neg_ℤ (pos (7000000000000 + most_kept_price * (m.piece + 1))) ≤ℤ m.value
+  pub high : m.value ≤ℤ pos (7000000000000 + most_kept_price * (m.piece + 1))
 
 pub AllWithin-prop : (n : ℕ) (prices : List Price) → IsProp (AllWithin n prices)
 AllWithin-prop n [] = Unit-prop

@@ -1,6 +1,7 @@
 //! The first gap of a cover of duties.
 
 ghost use Rattle.std.specs.Prelude.{◌≡◌, ◌<◌, Some, None, IfSome, IfNone, length};
+ghost use Rattle.plan_core.specs.Limits.{most_kept_price};
 ghost use Rattle.cover_core.specs.FirstLeast.{AllWithin};
 ghost use Rattle.mark_cover.specs.Covers.{IsFirstGap, IsMarkCover};
 ghost use Rattle.mark_cover.specs.Searches.{AreThere};
@@ -26,7 +27,7 @@ pub fn first_gap(
 ) -> Option<Gap>
     requires there { AreThere (duty_marking net.now prices.now.items) cover.now.marks }
     requires few { length cover.now.marks < 4294967296 }
-    requires moderate { AllWithin 3000000000000000 prices.now.items }
+    requires moderate { AllWithin most_kept_price prices.now.items }
     ensures first { IfSome result (λ gap. IsFirstGap (duty_marking net.now prices.now.items) cover.now.marks class_prices.now gap) }
     ensures none { IfNone result (IsMarkCover (duty_marking net.now prices.now.items) cover.now.marks class_prices.now) }
     ensures onto { IsMarkCover (duty_marking net.now prices.now.items) cover.now.marks class_prices.now → result ≡ None }

@@ -1,6 +1,7 @@
 //! The cover of all open lists of pieces.
 
 ghost use Rattle.std.specs.Prelude.{IfErr, IfOk, OnOk, length};
+ghost use Rattle.plan_core.specs.Limits.{most_kept_price};
 ghost use Rattle.cover_core.specs.FirstLeast.{AllWithin};
 ghost use Rattle.mark_cover.specs.Covers.{IsMarkCover};
 ghost use Rattle.mark_cover.specs.Minimal.{AreMinimal};
@@ -31,7 +32,7 @@ pub fn make_cover(
     prices: &Prices,
     class_prices: &[i64],
 ) -> Result<Cover, CoverFault>
-    requires { AllWithin 3000000000000000 prices.now.items }
+    requires { AllWithin most_kept_price prices.now.items }
     ensures minimal { IfOk result (λ cover. AreMinimal (duty_marking net.now prices.now.items) mark_order cover.marks) }
     ensures cover { IfOk result (λ cover. IsMarkCover (duty_marking net.now prices.now.items) cover.marks class_prices.now) }
     ensures paid { OnOk result (AreClassesPaid (duties net.now) prices.now.items class_prices.now (length (duties net.now).caps)) }

@@ -1,6 +1,7 @@
 //! The marks of the open lists of pieces of a day under prices.
 
 ghost use Rattle.std.specs.Prelude.{◌≡◌, ◌≤ℤ◌, neg_ℤ, pos, IfSome, cond, int_le, nat_le, not, ◌||◌, length};
+ghost use Rattle.plan_core.specs.Limits.{most_kept_price};
 ghost use Rattle.cover_core.specs.FirstLeast.{AllWithin};
 ghost use Rattle.duty_network.specs.Duties.{duties};
 ghost use Rattle.duty_network.specs.Marks.{is_as_good};
@@ -30,7 +31,7 @@ pub struct DutyMarks<'n> {
     /// The prices of the pieces in thousandths of a cost unit, each from -3 * 10^15 to 3 * 10^15.
     pub prices: &'n Prices,
     ghost fits: { NetFits net.now },
-    ghost moderate: { AllWithin 3000000000000000 prices.now.items } by { AllWithin-prop 3000000000000000 prices.now.items },
+    ghost moderate: { AllWithin most_kept_price prices.now.items } by { AllWithin-prop most_kept_price prices.now.items },
 }
 
 /// Whether a long pause was had where the other had one.

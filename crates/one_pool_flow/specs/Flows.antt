@@ -1,5 +1,6 @@
 -- Promise: the flow plan of a day, with prices that prove that it costs least.
 use Rattle.std.specs.Prelude.{◌≡◌, ℕ, ℤ, pos, ◌≤ℤ◌, ◌&&◌, Bool, true, false, is_some, List, [], ◌∷◌, length}
+use Rattle.plan_core.specs.Limits.{most_kept_price}
 use Rattle.plan_core.specs.declared.Price.{Price}
 use Rattle.plan_params.specs.declared.rows.pool.Pool.{Pool}
 use Rattle.cover_core.specs.FirstLeast.{AllWithin}
@@ -33,9 +34,9 @@ pub record AreFlowBound (day : DayFacts) (lists : List (List ℕ)) (prices : Lis
 -- a price for each trip, none of them above 3 * 10^15 in size; the class price is from 0 to 3 * 10^15
 pub record AreModerate (day : DayFacts) (prices : List Price) (class_price : ℤ) : Type 0 where
   pub count : length prices ≡ length day.trips
-  pub within : AllWithin 3000000000000000 prices
+  pub within : AllWithin most_kept_price prices
   pub charged : pos 0 ≤ℤ class_price
-  pub most : class_price ≤ℤ pos 3000000000000000
+  pub most : class_price ≤ℤ pos most_kept_price
 
 -- each path is also a block: all pieces that it is cut into can be driven
 abbrev pub all_blocks : DayFacts → List (List ℕ) → Bool

@@ -1,5 +1,6 @@
 -- Promise: days with one pool: plans of paths, the least of them, and of several the first.
 use Rattle.std.specs.Prelude.{◌≡◌, ℕ, ◌+◌, ◌*◌, ◌≤◌, Bool, false, nat_le, List, [], ◌∷◌, length, map, Option, option_and_then, unwrap_or, slice_get}
+use Rattle.plan_core.specs.Limits.{most_kept_price}
 use Rattle.plan_params.specs.declared.rows.pool.Pool.{Pool}
 use Rattle.cover_core.specs.declared.Column.{Column}
 use Rattle.cover_core.specs.Cover.{Problem, Rises}
@@ -12,7 +13,7 @@ use Rattle.path_cover.specs.Nets.{IsNotAfter, first_nodes, successor}
 
 -- one pool, and costs so small that all numbers fit
 abbrev pub is_flow_of : ℕ → List Pool → Bool
-is_flow_of trips (pool ∷ []) = nat_le (4000 * (trips + 2) * (pool.fixed + 345600 * (pool.dead_rate + pool.stand_rate))) 3000000000000000
+is_flow_of trips (pool ∷ []) = nat_le (4000 * (trips + 2) * (pool.fixed + 345600 * (pool.dead_rate + pool.stand_rate))) most_kept_price
 is_flow_of trips _ = false
 
 abbrev pub is_flow_day : DayFacts → Bool

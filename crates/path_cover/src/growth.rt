@@ -1,4 +1,6 @@
-//! The tree of an augmenting path.
+//! The tree of an augmenting path. A *row* is a place where an arc begins: a node, or the store, where each path starts. A *column* is a place
+//! where an arc ends: a node, or the end, where each path ends. Both have the number of their node; store and end have the number of nodes.
+//! Arguments `x` are rows and `v` columns.
 
 ghost use Rattle.std.specs.Prelude.{◌≡◌, IfNone, ℕ, ◌+◌, ◌<◌, ◌≤◌, false, Some, None, length, cond, nat_lt, slice_index, slice_index_or, slice_set, IfSome};
 ghost use Rattle.plan_core.specs.Limits.{most_items};
@@ -7,7 +9,7 @@ ghost use Rattle.path_cover.specs.Scans.{IsBest, IsNearer, IsScanned, offer_of, 
 use crate::arcs::Arcs;
 use crate::placing::Placing;
 
-/// How far the potentials are below 0.
+/// How far the potentials of rows (`tails`) and columns (`heads`) are below 0.
 #[derive(Drop)]
 pub struct Falls {
     /// For each place where an arc begins: of each node, and of the store.

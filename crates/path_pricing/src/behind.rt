@@ -106,8 +106,8 @@ pub(crate) fn blank(alloc: Global, count: usize, value: i64) -> Result<Vec<i64>,
     Ok(numbers)
 }
 
-/// A rest, less the price of its trip.
-fn less(rest: i64, price: i64) -> i64
+/// What a trip and all behind it add at least: what the rest behind it adds, less the trip's price, in thousandths of a cost unit.
+fn less_price(rest: i64, price: i64) -> i64
     requires rest_low { neg_ℤ (pos 30000000000000000) ≤ℤ rest }
     requires rest_high { rest ≤ℤ pos 100000000000000000 }
     requires price_low { neg_ℤ (pos most_price) ≤ℤ price }
@@ -119,8 +119,8 @@ fn less(rest: i64, price: i64) -> i64
     rest - price
 }
 
-/// A number with a cost.
-fn more(number: i64, cost: i64) -> i64
+/// A number with a cost added, both in thousandths of a cost unit.
+fn with_cost(number: i64, cost: i64) -> i64
     requires number_low { neg_ℤ (pos 30010000000000000) ≤ℤ number }
     requires number_high { number ≤ℤ pos 100010000000000000 }
     requires cost_low { pos 0 ≤ℤ cost }
@@ -180,9 +180,9 @@ pub(crate) fn rests_by_points(
         );
         let trip = day.trip(t);
         let number = numbers[t as usize] as usize;
-        let value = less(rest, price(prices, t));
+        let value = less_price(rest, price(prices, t));
         let until = charge(net.counts(), stand_rate(pool, trip), begin_of(trip));
-        add_row(&mut stood, base, width, number, more(value, until));
+        add_row(&mut stood, base, width, number, with_cost(value, until));
         add_row(&mut passed, base, width, number, value);
         rests[t as usize] = rest;
         base += width;

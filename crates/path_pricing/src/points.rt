@@ -27,8 +27,8 @@ fn cell_from(cells: &[i64], count: u32, width: usize, place: u32, number: usize)
     cell(cells, (count - place) as usize * width + number)
 }
 
-/// A cost, less another one, with a number.
-fn over(cost: i64, less: i64, number: i64) -> i64
+/// A number to which a cost is added, less another cost that it holds already, all in thousandths of a cost unit.
+fn with_difference(cost: i64, less: i64, number: i64) -> i64
     requires cost_low { pos 0 ≤ℤ cost }
     requires cost_high { cost ≤ℤ pos 3456000000000 }
     requires less_low { pos 0 ≤ℤ less }
@@ -73,7 +73,7 @@ fn with_direct(
             let moved = charge(counts, pool.dead_rate, dead);
             let before = charge(counts, stand_rate(pool, next), time);
             let behind = cell_from(stood, count, width, place, number);
-            lower(least, over(moved, before, behind))
+            lower(least, with_difference(moved, before, behind))
         }
     }
 }
@@ -124,7 +124,7 @@ fn with_depot(
             let place = next_from(day, firsts, t, end_of(trip) + dead);
             let moved = charge(counts, pool.dead_rate, dead);
             let behind = cell_from(passed, count, width, place, number);
-            lower(least, over(moved, 0, behind))
+            lower(least, with_difference(moved, 0, behind))
         }
     }
 }

@@ -1,5 +1,6 @@
 -- Promise: a certificate's tables stand for it.
 use Rattle.std.specs.Prelude.{◌≡◌, ℕ, pos, neg_ℤ, ◌<◌, ◌≤◌, ◌≤ℤ◌, List, [], ◌∷◌, length, All, AllPairs, Ok}
+use Rattle.plan_core.specs.Limits.{most_kept_price}
 use Rattle.plan_core.specs.declared.types.Price.{Price}
 use Rattle.cover_core.specs.declared.marks.Mark.{Mark}
 use Rattle.cover_core.specs.declared.marks.BlockMark.{BlockMark}
@@ -11,7 +12,7 @@ use Rattle.plan_cert.specs.Certificates.{read_of}
 use Rattle.plan_cert.specs.Writing.{tables_of}
 
 abbrev pub IsModerate : Price → Type 0
-IsModerate p = (neg_ℤ (pos 3000000000000000) ≤ℤ p.0) × (p.0 ≤ℤ pos 3000000000000000)
+IsModerate p = (neg_ℤ (pos most_kept_price) ≤ℤ p.0) × (p.0 ≤ℤ pos most_kept_price)
 
 -- a part has a price for each of so many items and classes
 pub record IsPart (items classes : ℕ) (part : CertPart) : Type 0 where

@@ -1,5 +1,6 @@
 -- Promise: the numbers that the fields of a certificate spell, each in its range.
 use Rattle.std.specs.Prelude.{ℕ, ℤ, pos, negsuc, neg_ℤ, ◌-◌, ◌&&◌, ◌||◌, ◌==◌, Bool, int_le, List, Option, Some, None, if◌then◌else◌, option_and_then, slice_get, position}
+use Rattle.plan_core.specs.Limits.{most_kept_price}
 use Rattle.vdv451_text.specs.declared.table.Field.{Field}
 use Rattle.vdv452_rows.specs.Cells.{whole_number}
 use Rattle.number_tables.specs.Outlines.{up_to, word}
@@ -35,7 +36,7 @@ truth number = do
 abbrev pub moderate : Option ℤ → Option ℤ
 moderate number = do
   z ← number
-  if int_le (neg_ℤ (pos 3000000000000000)) z && int_le z (pos 3000000000000000) then Some z else None
+  if int_le (neg_ℤ (pos most_kept_price)) z && int_le z (pos most_kept_price) then Some z else None
 
 -- a number that is not below 0
 abbrev pub natural : ℤ → Option ℕ

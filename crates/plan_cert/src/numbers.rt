@@ -8,7 +8,7 @@ ghost use Rattle.plan_cert.specs.Numbers as spec;
 use crate::cert::Pass;
 use vdv451_text::{Field, spelled_number};
 
-/// The greatest price, and minus the least.
+/// The greatest kept price, and minus the least, in thousandths of a cost unit.
 const MOST_PRICE: i64 = 3_000_000_000_000_000;
 
 /// The number that a field spells.

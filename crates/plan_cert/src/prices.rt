@@ -183,7 +183,11 @@ fn all_there(alloc: Global, slots: &Seq<Option<i64>>) -> Result<Option<Seq<i64>>
 }
 
 /// The prices of a pass, or the table is wrong as a whole.
-fn needed(alloc: Global, which: CertTable, slots: &Seq<Option<i64>>) -> Result<Seq<i64>, CertFault>
+fn prices_or_fault(
+    alloc: Global,
+    which: CertTable,
+    slots: &Seq<Option<i64>>,
+) -> Result<Seq<i64>, CertFault>
     ensures { Gives result (needed_of which (spec.all_there slots.now)) }
 {
     match all_there(alloc, slots)? {
@@ -196,10 +200,10 @@ fn needed(alloc: Global, which: CertTable, slots: &Seq<Option<i64>>) -> Result<S
 fn four_lists(alloc: Global, which: CertTable, slots: &Slots) -> Result<FourLists, CertFault>
     ensures { Gives result (tables_spec.four_of which slots.now) }
 {
-    let block_number = needed(alloc, which, &slots.block_number)?;
-    let block_cost = needed(alloc, which, &slots.block_cost)?;
-    let duty_number = needed(alloc, which, &slots.duty_number)?;
-    let duty_cost = needed(alloc, which, &slots.duty_cost)?;
+    let block_number = prices_or_fault(alloc, which, &slots.block_number)?;
+    let block_cost = prices_or_fault(alloc, which, &slots.block_cost)?;
+    let duty_number = prices_or_fault(alloc, which, &slots.duty_number)?;
+    let duty_cost = prices_or_fault(alloc, which, &slots.duty_cost)?;
     Ok(FourLists {
         block_number,
         block_cost,

@@ -1,5 +1,6 @@
 -- Promise: the plan of a day, and why a day has none.
 use Rattle.std.specs.Prelude.{◌≡◌, ℕ, Bool, true, false, List, Option, None, IsSomeAnd, length, slice_get}
+use Rattle.plan_core.specs.Limits.{most_kept_price}
 use Rattle.plan_core.specs.declared.types.Piece.{Piece as WorkPiece}
 use Rattle.cover_core.specs.declared.Column.{Column}
 use Rattle.cover_core.specs.Cover.{Problem}
@@ -63,7 +64,7 @@ pub record PlanEndsAs (facts : DayFacts) (asked : Asked) (ending : DayEnding) : 
 -- An offer that is dual feasible: there is a price for each item, from -3,000,000,000,000,000 to 3,000,000,000,000,000, and one for each
 -- class; no column has a value below minus the price of its class; and its bound is theirs.
 pub record IsDualFeasible (p : Problem) (kept : Kept) : Type 0 where
-  pub prices : (length kept.prices.items ≡ p.items) × AllWithin 3000000000000000 kept.prices.items
+  pub prices : (length kept.prices.items ≡ p.items) × AllWithin most_kept_price kept.prices.items
   pub class_prices : length kept.class_prices ≡ length p.caps
   pub paid : IsPaid p kept.prices.items kept.class_prices
   pub bound : kept.bound ≡ bound_of kept.prices.items kept.class_prices p.caps

@@ -10,6 +10,10 @@ most_items = 3000
 abbrev pub most_price : ℕ
 most_price = 10000000000000
 
+-- no price that a certificate keeps, of an item or of a class, lies further from 0, in thousandths of a cost unit
+abbrev pub most_kept_price : ℕ
+most_kept_price = 3000000000000000
+
 -- no column is worth more, in cost units
 abbrev pub most_worth : ℕ
 most_worth = 4000000000

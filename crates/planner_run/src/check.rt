@@ -90,7 +90,12 @@ fn status_of_answer(answer: Answered) -> Status
 }
 
 /// What the checker says of a plan and a certificate.
-fn checked(alloc: Global, ready: &Ready, plan: &[Table], cert: &[Table]) -> Result<Outcome, Memory>
+fn check_outcome(
+    alloc: Global,
+    ready: &Ready,
+    plan: &[Table],
+    cert: &[Table],
+) -> Result<Outcome, Memory>
     requires plain { IsTrue (is_plain_table ready.now.rec_frt) }
     requires rows { HasTripRows ready.now.model ready.now.rec_frt }
     requires plan { All (λ table. length table.rows < 2 ^ 32) plan.now }
@@ -132,7 +137,7 @@ pub fn check_text(
     ensures cause { IfErr result (IsModelRefused tables day) }
 {
     match ready_day(alloc, tables, day) {
-        Ok(ready) => match checked(alloc, &ready, plan, cert) {
+        Ok(ready) => match check_outcome(alloc, &ready, plan, cert) {
             Ok(outcome) => Ok(outcome),
             Err(Memory) => Err(Status::Memory),
         },

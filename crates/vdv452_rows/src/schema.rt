@@ -222,7 +222,7 @@ fn all_copied(alloc: Global, outlines: &[Outline<'_>]) -> Result<Vec<Column>, Me
 }
 
 /// A table that must be there.
-fn needed(alloc: Global, name: &[u8], outlines: &[Outline<'_>]) -> Result<Schema, Memory>
+fn needed_table(alloc: Global, name: &[u8], outlines: &[Outline<'_>]) -> Result<Schema, Memory>
     ensures { IfOk result (λ made. made ≡ schema.needed name.now (map column_of outlines.now)) }
 {
     let columns = all_copied(alloc, outlines)?;
@@ -234,7 +234,7 @@ fn needed(alloc: Global, name: &[u8], outlines: &[Outline<'_>]) -> Result<Schema
 }
 
 /// A table that may be absent.
-fn optional(alloc: Global, name: &[u8], outlines: &[Outline<'_>]) -> Result<Schema, Memory>
+fn optional_table(alloc: Global, name: &[u8], outlines: &[Outline<'_>]) -> Result<Schema, Memory>
     ensures { IfOk result (λ made. made ≡ schema.optional name.now (map column_of outlines.now)) }
 {
     let columns = all_copied(alloc, outlines)?;

@@ -63,7 +63,7 @@ fn denied_in(alloc: Global, tables: &[Table]) -> Result<Option<Seq<Denial>>, Mem
 }
 
 /// What is denied of a roster of these rows, None where it is refused.
-fn denied(alloc: Global, rows: &[[i64; 6]]) -> Result<Option<Seq<Denial>>, Memory> {
+fn denials_of(alloc: Global, rows: &[[i64; 6]]) -> Result<Option<Seq<Denial>>, Memory> {
     let mut duties = Vec::new(alloc);
     for row in rows {
         duties.push(duty(*row))?;
@@ -95,7 +95,7 @@ fn are_denials(found: &[Denial], wanted: &[[i64; 5]]) -> bool {
 
 /// Whether this is denied of a roster of these rows.
 fn is_denied(alloc: Global, rows: &[[i64; 6]], wanted: &[[i64; 5]]) -> Result<bool, Memory> {
-    match denied(alloc, rows)? {
+    match denials_of(alloc, rows)? {
         Some(found) => Ok(are_denials(found.as_slice(), wanted)),
         None => Ok(false),
     }
@@ -564,7 +564,7 @@ fn refuses_more_than_two_weeks(rt: HostRuntime) -> Result<(), Memory> {
 
 /// The text of what is denied of a roster of these rows.
 fn text_of(alloc: Global, rows: &[[i64; 6]]) -> Result<Bytes, Fail> {
-    match denied(alloc, rows)? {
+    match denials_of(alloc, rows)? {
         Some(found) => {
             let tables = [verdict_table(alloc, found.as_slice())?];
             Ok(write_tables(alloc, &tables)?)

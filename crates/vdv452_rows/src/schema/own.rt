@@ -3,7 +3,9 @@
 ghost use Rattle.std.specs.Prelude.{◌≡◌, IfOk};
 ghost use Rattle.vdv452_rows.specs.Schema as schema;
 
-use super::{Schema, count, fixed_costs, flag, key, needed, number, optional, rate, seconds};
+use super::{
+    Schema, count, fixed_costs, flag, key, needed_table, number, optional_table, rate, seconds,
+};
 use plan_core::Memory;
 use std::alloc::Global;
 
@@ -18,7 +20,7 @@ pub fn plan(alloc: Global) -> Result<Schema, Memory>
         seconds(b"MAX_WARTE_SEK"),
         seconds(b"UEBERGABE_SEK"),
     ];
-    needed(alloc, b"X_PLAN", &outlines)
+    needed_table(alloc, b"X_PLAN", &outlines)
 }
 
 /// X_HOF: the depots, with their vehicles and costs.
@@ -35,7 +37,7 @@ pub fn depots(alloc: Global) -> Result<Schema, Memory>
         rate(b"LEER_SATZ"),
         rate(b"STAND_SATZ"),
     ];
-    needed(alloc, b"X_HOF", &outlines)
+    needed_table(alloc, b"X_HOF", &outlines)
 }
 
 /// X_LINIE_FZG: which types of vehicles may serve a line.
@@ -43,7 +45,7 @@ pub fn line_types(alloc: Global) -> Result<Schema, Memory>
     ensures { IfOk result (λ found. found ≡ schema.line_types) }
 {
     let outlines = [key(b"LI_NR"), key(b"FZG_TYP_NR")];
-    optional(alloc, b"X_LINIE_FZG", &outlines)
+    optional_table(alloc, b"X_LINIE_FZG", &outlines)
 }
 
 /// X_ABLOESE: the points where drivers are relieved.
@@ -51,7 +53,7 @@ pub fn reliefs(alloc: Global) -> Result<Schema, Memory>
     ensures { IfOk result (λ found. found ≡ schema.reliefs) }
 {
     let outlines = [key(b"ONR_TYP_NR"), key(b"ORT_NR")];
-    optional(alloc, b"X_ABLOESE", &outlines)
+    optional_table(alloc, b"X_ABLOESE", &outlines)
 }
 
 /// X_WEG: the ways of drivers between points.
@@ -65,7 +67,7 @@ pub fn ways(alloc: Global) -> Result<Schema, Memory>
         key(b"ZIEL_NR"),
         seconds(b"WEG_SEK"),
     ];
-    optional(alloc, b"X_WEG", &outlines)
+    optional_table(alloc, b"X_WEG", &outlines)
 }
 
 /// X_FAHRER: the groups of drivers, with their costs and allowances. The two columns of allowances
@@ -85,5 +87,5 @@ pub fn drivers(alloc: Global) -> Result<Schema, Memory>
         flag(b"ZEHN_STD"),
         flag(b"KURZE_RUHE"),
     ];
-    needed(alloc, b"X_FAHRER", &outlines)
+    needed_table(alloc, b"X_FAHRER", &outlines)
 }

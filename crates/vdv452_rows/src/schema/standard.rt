@@ -4,8 +4,8 @@ ghost use Rattle.std.specs.Prelude.{◌≡◌, IfOk};
 ghost use Rattle.vdv452_rows.specs.Schema as schema;
 
 use super::{
-    Domain, Schema, key, needed, number, optional, plain, seconds, some_metres, trip_key,
-    unseen_column, word_key,
+    Domain, Schema, key, needed_table, number, optional_table, plain, seconds, some_metres,
+    trip_key, unseen_column, word_key,
 };
 use plan_core::Memory;
 use std::alloc::Global;
@@ -15,7 +15,7 @@ pub fn versions(alloc: Global) -> Result<Schema, Memory>
     ensures { IfOk result (λ found. found ≡ schema.versions) }
 {
     let outlines = [key(b"VER_GUELTIGKEIT"), number(b"BASIS_VERSION")];
-    needed(alloc, b"BASIS_VER_GUELTIGKEIT", &outlines)
+    needed_table(alloc, b"BASIS_VER_GUELTIGKEIT", &outlines)
 }
 
 /// FIRMENKALENDER: the kind of each day.
@@ -27,7 +27,7 @@ pub fn days(alloc: Global) -> Result<Schema, Memory>
         key(b"BETRIEBSTAG"),
         number(b"TAGESART_NR"),
     ];
-    needed(alloc, b"FIRMENKALENDER", &outlines)
+    needed_table(alloc, b"FIRMENKALENDER", &outlines)
 }
 
 /// REC_ORT: the points of the network.
@@ -35,7 +35,7 @@ pub fn points(alloc: Global) -> Result<Schema, Memory>
     ensures { IfOk result (λ found. found ≡ schema.points) }
 {
     let outlines = [key(b"BASIS_VERSION"), key(b"ONR_TYP_NR"), key(b"ORT_NR")];
-    needed(alloc, b"REC_ORT", &outlines)
+    needed_table(alloc, b"REC_ORT", &outlines)
 }
 
 /// REC_SEL: the sections between neighbouring points, with their lengths.
@@ -51,7 +51,7 @@ pub fn sections(alloc: Global) -> Result<Schema, Memory>
         key(b"SEL_ZIEL_TYP"),
         some_metres(b"SEL_LAENGE"),
     ];
-    needed(alloc, b"REC_SEL", &outlines)
+    needed_table(alloc, b"REC_SEL", &outlines)
 }
 
 /// SEL_FZT_FELD: the run times of the sections by groups.
@@ -68,7 +68,7 @@ pub fn runs(alloc: Global) -> Result<Schema, Memory>
         key(b"SEL_ZIEL_TYP"),
         seconds(b"SEL_FZT"),
     ];
-    needed(alloc, b"SEL_FZT_FELD", &outlines)
+    needed_table(alloc, b"SEL_FZT_FELD", &outlines)
 }
 
 /// ORT_HZTF: how long the trips of a group stand at a point.
@@ -82,7 +82,7 @@ pub fn group_dwells(alloc: Global) -> Result<Schema, Memory>
         key(b"ORT_NR"),
         seconds(b"HP_HZT"),
     ];
-    optional(alloc, b"ORT_HZTF", &outlines)
+    optional_table(alloc, b"ORT_HZTF", &outlines)
 }
 
 /// REC_FRT_HZT: how long one trip stands at a point.
@@ -96,7 +96,7 @@ pub fn trip_dwells(alloc: Global) -> Result<Schema, Memory>
         key(b"ORT_NR"),
         seconds(b"FRT_HZT_ZEIT"),
     ];
-    optional(alloc, b"REC_FRT_HZT", &outlines)
+    optional_table(alloc, b"REC_FRT_HZT", &outlines)
 }
 
 /// REC_LID: the variants of the lines, with their areas.
@@ -109,7 +109,7 @@ pub fn lines(alloc: Global) -> Result<Schema, Memory>
         word_key(b"STR_LI_VAR"),
         number(b"BEREICH_NR"),
     ];
-    needed(alloc, b"REC_LID", &outlines)
+    needed_table(alloc, b"REC_LID", &outlines)
 }
 
 /// LID_VERLAUF: the courses of the variants.
@@ -124,7 +124,7 @@ pub fn stops(alloc: Global) -> Result<Schema, Memory>
         number(b"ONR_TYP_NR"),
         number(b"ORT_NR"),
     ];
-    needed(alloc, b"LID_VERLAUF", &outlines)
+    needed_table(alloc, b"LID_VERLAUF", &outlines)
 }
 
 /// REC_FRT: the trips.
@@ -142,7 +142,7 @@ pub fn trips(alloc: Global) -> Result<Schema, Memory>
         plain(b"STR_LI_VAR", Domain::AnyWord),
         unseen_column(b"UM_UID"),
     ];
-    needed(alloc, b"REC_FRT", &outlines)
+    needed_table(alloc, b"REC_FRT", &outlines)
 }
 
 /// UEB_FZT: the times of moves without passengers.
@@ -159,7 +159,7 @@ pub fn deads(alloc: Global) -> Result<Schema, Memory>
         key(b"UEB_ZIEL"),
         seconds(b"UEB_FAHRZEIT"),
     ];
-    needed(alloc, b"UEB_FZT", &outlines)
+    needed_table(alloc, b"UEB_FZT", &outlines)
 }
 
 /// MENGE_FZG_TYP: the types of vehicles.
@@ -167,5 +167,5 @@ pub fn types(alloc: Global) -> Result<Schema, Memory>
     ensures { IfOk result (λ found. found ≡ schema.types) }
 {
     let outlines = [key(b"BASIS_VERSION"), key(b"FZG_TYP_NR")];
-    needed(alloc, b"MENGE_FZG_TYP", &outlines)
+    needed_table(alloc, b"MENGE_FZG_TYP", &outlines)
 }

@@ -6,24 +6,24 @@ use Rattle.cover_master.proofs.Ranks.{no_key}
 use Rattle.cover_master.proofs.Walks.{key-there, covered-more, covered-all, counted-more, few-keys, low-counts, few-more}
 use Rattle.cover_master.proofs.turns.cover.Goals as goal
 
-pub walk-requires-clause-class : goal.walk-requires-clause-class
-walk-requires-clause-class c =
+pub add_column-requires-clause-class : goal.add_column-requires-clause-class
+add_column-requires-clause-class c =
     (key-there c.args.prices.now.items c.args.pool.now c.args.caps.now c.args.keys.now c.requires.all c.requires.sorted
     (length c.args.prices.now.items) c.loop-key.key-index c.loop-key-test.true c.requires.fit).class
 
-pub walk-requires-clause-place : goal.walk-requires-clause-place
-walk-requires-clause-place c =
+pub add_column-requires-clause-place : goal.add_column-requires-clause-place
+add_column-requires-clause-place c =
     (key-there c.args.prices.now.items c.args.pool.now c.args.caps.now c.args.keys.now c.requires.all c.requires.sorted
     (length c.args.prices.now.items) c.loop-key.key-index c.loop-key-test.true c.requires.fit).place
 
-pub walk-requires-clause-small : goal.walk-requires-clause-small
-walk-requires-clause-small c = λ i.
+pub add_column-requires-clause-small : goal.add_column-requires-clause-small
+add_column-requires-clause-small c = λ i.
     let few = few-keys c.args.prices.now.items c.args.pool.now c.args.caps.now c.args.keys.now c.requires.all c.requires.sorted in
     let pool = c.requires.pool in
     omega (arith, c.loop-key.invariant.few i, c.loop-key.invariant.order)
 
-pub walk-requires-clause-low : goal.walk-requires-clause-low
-walk-requires-clause-low c = λ i.
+pub add_column-requires-clause-low : goal.add_column-requires-clause-low
+add_column-requires-clause-low c = λ i.
     let few = few-keys c.args.prices.now.items c.args.pool.now c.args.caps.now c.args.keys.now c.requires.all c.requires.sorted in
     let pool = c.requires.pool in
     let low = low-counts c.args.prices.now.items c.args.pool.now c.args.caps.now c.args.keys.now c.requires.all c.requires.sorted
@@ -48,18 +48,18 @@ loop-key-preserved c =
     λ l. (class : ℕ) → class < length l → slice_index l class ≡ count_by (λ x. x.class == class) (take (t + 1) keys) in
     record {
       order = omega arith;
-      len = c.walk.ensures.len ∙ c.loop-key.invariant.len;
-      classes = ap (λ (l : List ℕ). length l) c.walk.ensures.counted ∙ (long ∙ c.loop-key.invariant.classes);
-      counted = subst Counted (sym c.walk.ensures.counted)
+      len = c.add_column.ensures.len ∙ c.loop-key.invariant.len;
+      classes = ap (λ (l : List ℕ). length l) c.add_column.ensures.counted ∙ (long ∙ c.loop-key.invariant.classes);
+      counted = subst Counted (sym c.add_column.ensures.counted)
           (λ class h. counted-more prices pool caps keys c.requires.all c.requires.sorted counts t inside below
           c.loop-key.invariant.counted class (omega arith));
-      covered = λ item. c.walk.ensures.covered item
+      covered = λ item. c.add_column.ensures.covered item
           ∙ covered-more prices pool caps keys c.requires.all c.requires.sorted item t (get_or counts key.class 0)
           (slice_index c.loop-key.cover item) inside (c.loop-key.invariant.counted key.class below) (c.loop-key.invariant.covered item);
       few = λ item. few-more prices pool caps keys c.requires.all c.requires.sorted (length prices) item t
-          (slice_index c.loop-key.cover item) (slice_index c.walk.new.cover item)
+          (slice_index c.loop-key.cover item) (slice_index c.add_column.new.cover item)
           (nat_lt (get_or counts key.class 0) (slice_index caps key.class)) inside c.requires.fit (c.loop-key.invariant.few item)
-          (c.walk.ensures.covered item);
+          (c.add_column.ensures.covered item);
     }
 
 pub returns-clause-times : goal.returns-clause-times

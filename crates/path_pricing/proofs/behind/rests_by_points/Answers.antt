@@ -55,10 +55,10 @@ loop-t-preserved c =
     let inside : k < length items = omega (arith, long, there) in
     let base : c.loop-t.base ≡ (count - (k + 1)) * width =
     let P : ℕ → Type 0 = λ n. c.loop-t.base ≡ (count - n) * width in subst P same i.base in
-    let value : ℤ = c.less-value.result in
+    let value : ℤ = c.less_price-value.result in
     let until : ℤ = c.charge-until.result in
-    let stood : ℤ = c.more.result in
-    let value_is : value ≡ new -ℤ price_at prices k = omega (arith, ints, c.less-value.ensures.value, c.price.ensures.value, back) in
+    let stood : ℤ = c.with_cost.result in
+    let value_is : value ≡ new -ℤ price_at prices k = omega (arith, ints, c.less_price-value.ensures.value, c.price.ensures.value, back) in
     let trip = c.trip-trip.result.now in
     let At : DayFacts → Type 0 = λ d. slice_get d.trips k ≡ Some trip in
     let at : slice_get day.trips k ≡ Some trip = subst At c.day-day.ensures c.trip-trip.ensures.trip in
@@ -67,7 +67,7 @@ loop-t-preserved c =
     ∙ ap (λ n. scaled net.counts (n * c.begin_of.result)) c.stand_rate.ensures.value
     ∙ ap (λ n. scaled net.counts (stand_rate_at pool trip * n)) c.begin_of.ensures.value in
     let many : length numbers ≡ count = search rules in
-    let stood_is : stood ≡ value +ℤ until = omega (arith, ints, c.more.ensures.value) in
+    let stood_is : stood ≡ value +ℤ until = omega (arith, ints, c.with_cost.ensures.value) in
     let below : AreBelow width numbers count = λ u inside. c.requires.departures.below u (omega (arith, many, inside)) in
     let From : ℕ → Type 0 = λ t. AreBoundsFrom day net.counts prices pool items t in
     let Steps : List ℤ → Type 0 = λ l. StepsAbove day net.counts prices pool l k count new in
@@ -85,10 +85,14 @@ loop-t-preserved c =
       base = base_more count k width c.loop-t.base there base;
       stood_size = c.add_row.ensures.count ∙ i.stood_size;
       passed_size = c.add_row-in-loop-t.ensures.count ∙ i.passed_size;
-      stood_moderate = c.add_row.ensures.moderate i.stood_moderate (let fits = c.more.ensures.moderate in let low = fits.low in let high =
-          fits.high in record { low = omega (arith, ints, low); high = omega (arith, ints, high) });
+      stood_moderate = c.add_row.ensures.moderate i.stood_moderate
+          (let fits = c.with_cost.ensures.moderate in let low = fits.low in let high = fits.high in
+          record { low = omega (arith, ints, low); high = omega (arith, ints, high) });
       passed_moderate = c.add_row-in-loop-t.ensures.moderate i.passed_moderate
-          (record { low = omega (arith, ints, c.less-value.ensures.low); high = omega (arith, ints, c.less-value.ensures.high) });
+          (record {
+            low = omega (arith, ints, c.less_price-value.ensures.low);
+            high = omega (arith, ints, c.less_price-value.ensures.high);
+          });
       stood_rows = subst StoodSet (sym back)
           (rows_more c.loop-t.stood.items c.add_row.new.cells.items count width c.loop-t.base k numbers
           (stood_value day net.counts prices pool items)
@@ -120,8 +124,8 @@ overflow_mul-size c =
     let more = mul-le-mul few c.requires.few in
     omega (arith, more)
 
-pub less-value-requires-clause-rest_low : goal.less-value-requires-clause-rest_low
-less-value-requires-clause-rest_low c =
+pub less_price-value-requires-clause-rest_low : goal.less_price-value-requires-clause-rest_low
+less_price-value-requires-clause-rest_low c =
     let low = c.rest_behind-rest.ensures.deep.low in
     let few : length c.args.net.now.day.trips ≤ 3000 = search rules in
     let fits : FitsSigned w64 c.rest_behind-rest.result = search rules in

@@ -33,7 +33,7 @@ returns-in-Some-clause-depot c = λ numbers value are own rows.
     let (other, at_other) = there day.trips c.args.head c.requires.head in
     let cost : scaled c.args.counts (pool.dead_rate * c.in-Some.dead) ≡ scaled c.args.counts (pool.dead_rate * (inward + outward)) =
     ap (λ n. scaled c.args.counts (pool.dead_rate * n)) (sym same) in
-    let back_0 = to_z-of_z w64 c.over.result (search rules) in
+    let back_0 = to_z-of_z w64 c.with_difference.result (search rules) in
     let back_1 = to_z-of_z w64 c.charge-moved.result (search rules) in
     let back_2 = to_z-of_z w64 c.cell_from-behind.result (search rules) in
     let all : length c.trips.result.now ≡ count = search rules in
@@ -42,7 +42,18 @@ returns-in-Some-clause-depot c = λ numbers value are own rows.
     let low : c.lower.result ≤ℤ
     (scaled c.args.counts (pool.dead_rate * (inward + outward))
     +ℤ number_at c.args.passed.now ((count - place) * c.args.width + c.args.number)) =
-    omega (arith, ints, cost, c.lower.ensures.second, c.over.ensures, c.charge-moved.ensures.value, cell_is, back_0, back_1, back_2) in
+    omega (
+      arith,
+      ints,
+      cost,
+      c.lower.ensures.second,
+      c.with_difference.ensures,
+      c.charge-moved.ensures.value,
+      cell_is,
+      back_0,
+      back_1,
+      back_2,
+    ) in
     let behind : c.args.t + 1 ≤ place = omega (arith, c.next_from-place.ensures.after) in
     let dead_is : inward + outward ≡ c.in-Some.dead = same in
     let ends = c.end_of.ensures.value in

@@ -27,7 +27,7 @@ returns-in-Some-clause-direct c = λ numbers value are own rows.
     let fits : FitsSigned w64 c.lower.result = search rules in
     let rate : scaled c.args.counts (c.stand_rate.result * time) ≡ scaled c.args.counts (stand_rate_at c.args.pool.now other * time) =
     ap (λ n. scaled c.args.counts (n * time)) c.stand_rate.ensures.value in
-    let back_0 = to_z-of_z w64 c.over.result (search rules) in
+    let back_0 = to_z-of_z w64 c.with_difference.result (search rules) in
     let back_1 = to_z-of_z w64 c.charge-moved.result (search rules) in
     let back_2 = to_z-of_z w64 c.charge-before.result (search rules) in
     let back_3 = to_z-of_z w64 c.cell_from-behind.result (search rules) in
@@ -43,7 +43,7 @@ returns-in-Some-clause-direct c = λ numbers value are own rows.
       ints,
       rate,
       c.lower.ensures.second,
-      c.over.ensures,
+      c.with_difference.ensures,
       c.charge-moved.ensures.value,
       c.charge-before.ensures.value,
       cell_is,

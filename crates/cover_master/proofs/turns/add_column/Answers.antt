@@ -3,7 +3,7 @@ use Rattle.cover_core.specs.declared.Column.{Column}
 use Rattle.cover_core.specs.Cover.{AllBelow}
 use Rattle.cover_core.proofs.Values.{Rises-length}
 use Rattle.cover_core.proofs.Fits.{fit-at}
-use Rattle.cover_master.proofs.turns.walk.Goals as goal
+use Rattle.cover_master.proofs.turns.add_column.Goals as goal
 
 pub add_items-requires-clause-items : goal.add_items-requires-clause-items
 add_items-requires-clause-items c =
