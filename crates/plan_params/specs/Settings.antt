@@ -1,6 +1,9 @@
--- Promise: what the tables of this project say.
+-- Promise: what the tables of this project say, by the names of their columns.
 use Rattle.std.specs.Prelude.{ℕ, ◌==◌, nat_lt, List, [], ◌∷◌, map, slice_index, if◌then◌else◌, codes}
 use Rattle.plan_core.specs.declared.types.Point.{Point}
+use Rattle.vdv452_rows.specs.declared.schema.Schema.{Schema}
+use Rattle.vdv452_rows.specs.Schema as schema
+use Rattle.vdv452_rows.specs.Values.{schema_place}
 use Rattle.vdv452_tables.specs.declared.net.Net.{Net}
 use Rattle.vdv452_tables.specs.LookUps.{extra_of}
 use Rattle.plan_params.specs.declared.rows.ParamRows.{ParamRows}
@@ -14,54 +17,68 @@ use Rattle.plan_params.specs.declared.rows.way.Way.{Way}
 abbrev pub point_at : List ℕ → ℕ → ℕ → Point
 point_at row typ nr = record { typ = slice_index row typ; nr = slice_index row nr }
 
--- UEB_BEREICH_NR, UEB_FGR_NR, WENDE_SEK, MAX_WARTE_SEK, UEBERGABE_SEK
+-- the number in the column of this name
+abbrev pub number_under : Schema → List ℕ → List ℕ → ℕ
+number_under table name row = slice_index row (schema_place table name)
+
+-- the point whose type and number stand in the columns of these names
+abbrev pub point_under : Schema → List ℕ → List ℕ → List ℕ → Point
+point_under table typ nr row = point_at row (schema_place table typ) (schema_place table nr)
+
+-- X_PLAN
 abbrev pub settings_of : List ℕ → Settings
 settings_of row = record {
-  area = slice_index row 0;
-  group = slice_index row 1;
-  turn = slice_index row 2;
-  max_wait = slice_index row 3;
-  handover = slice_index row 4;
+  area = number_under schema.plan (codes "UEB_BEREICH_NR") row;
+  group = number_under schema.plan (codes "UEB_FGR_NR") row;
+  turn = number_under schema.plan (codes "WENDE_SEK") row;
+  max_wait = number_under schema.plan (codes "MAX_WARTE_SEK") row;
+  handover = number_under schema.plan (codes "UEBERGABE_SEK") row;
 }
 
--- HOF_NR, ONR_TYP_NR, ORT_NR, FZG_TYP_NR, ANZAHL, FIX_KOSTEN, LEER_SATZ, STAND_SATZ
+-- X_HOF
 abbrev pub pool_of : List ℕ → Pool
 pool_of row = record {
-  number = slice_index row 0;
-  depot = point_at row 1 2;
-  typ = slice_index row 3;
-  cap = slice_index row 4;
-  fixed = slice_index row 5;
-  dead_rate = slice_index row 6;
-  stand_rate = slice_index row 7;
+  number = number_under schema.depots (codes "HOF_NR") row;
+  depot = point_under schema.depots (codes "ONR_TYP_NR") (codes "ORT_NR") row;
+  typ = number_under schema.depots (codes "FZG_TYP_NR") row;
+  cap = number_under schema.depots (codes "ANZAHL") row;
+  fixed = number_under schema.depots (codes "FIX_KOSTEN") row;
+  dead_rate = number_under schema.depots (codes "LEER_SATZ") row;
+  stand_rate = number_under schema.depots (codes "STAND_SATZ") row;
 }
 
--- GRUPPE_NR, ONR_TYP_NR, ORT_NR, ANZAHL, FIX_KOSTEN, SATZ, ANMELDE_SEK, ABMELDE_SEK, ZEHN_STD, KURZE_RUHE; a row without the last two
--- has no allowances
+-- X_FAHRER; a row without the last two columns has no allowances
 abbrev pub group_of : List ℕ → Group
 group_of row = record {
-  number = slice_index row 0;
-  home = point_at row 1 2;
-  cap = slice_index row 3;
-  fixed = slice_index row 4;
-  rate = slice_index row 5;
-  sign_on = slice_index row 6;
-  sign_off = slice_index row 7;
-  ten = slice_index row 8 == 1;
-  reduced = slice_index row 9 == 1;
+  number = number_under schema.drivers (codes "GRUPPE_NR") row;
+  home = point_under schema.drivers (codes "ONR_TYP_NR") (codes "ORT_NR") row;
+  cap = number_under schema.drivers (codes "ANZAHL") row;
+  fixed = number_under schema.drivers (codes "FIX_KOSTEN") row;
+  rate = number_under schema.drivers (codes "SATZ") row;
+  sign_on = number_under schema.drivers (codes "ANMELDE_SEK") row;
+  sign_off = number_under schema.drivers (codes "ABMELDE_SEK") row;
+  ten = number_under schema.drivers (codes "ZEHN_STD") row == 1;
+  reduced = number_under schema.drivers (codes "KURZE_RUHE") row == 1;
 }
 
--- LI_NR, FZG_TYP_NR
+-- X_LINIE_FZG
 abbrev pub admission_of : List ℕ → Admission
-admission_of row = record { line = slice_index row 0; typ = slice_index row 1 }
+admission_of row = record {
+  line = number_under schema.line_types (codes "LI_NR") row;
+  typ = number_under schema.line_types (codes "FZG_TYP_NR") row;
+}
 
--- ONR_TYP_NR, ORT_NR
+-- X_ABLOESE
 abbrev pub relief_of : List ℕ → Point
-relief_of row = point_at row 0 1
+relief_of row = point_under schema.reliefs (codes "ONR_TYP_NR") (codes "ORT_NR") row
 
--- ONR_TYP_NR, ORT_NR, ZIEL_TYP, ZIEL_NR, WEG_SEK
+-- X_WEG
 abbrev pub way_of : List ℕ → Way
-way_of row = record { from = point_at row 0 1; to = point_at row 2 3; time = slice_index row 4 }
+way_of row = record {
+  from = point_under schema.ways (codes "ONR_TYP_NR") (codes "ORT_NR") row;
+  to = point_under schema.ways (codes "ZIEL_TYP") (codes "ZIEL_NR") row;
+  time = number_under schema.ways (codes "WEG_SEK") row;
+}
 
 -- the settings of the first row
 abbrev pub settings_in : List (List ℕ) → Settings

@@ -1,7 +1,19 @@
--- Promise: the values of a row's columns, by their places in the schema.
-use Rattle.std.specs.Prelude.{ℕ, List, [], Option, Some, None, slice_get}
+-- Promise: the values of a row's columns, by their places in the schema, and the place of a column, by its name.
+use Rattle.std.specs.Prelude.{ℕ, ◌+◌, List, [], ◌∷◌, Option, Some, None, slice_get, if◌then◌else◌}
+use Rattle.std.specs.Str.{bytes_eq}
 use Rattle.vdv452_rows.specs.declared.cell.Cell.{Cell}
 use Rattle.vdv452_rows.specs.declared.cell.Cell.TheVariants.{Nothing, Number, Long, Word}
+use Rattle.vdv452_rows.specs.declared.schema.Column.{Column}
+use Rattle.vdv452_rows.specs.declared.schema.Schema.{Schema}
+
+-- where the column of a name stands among columns, counted from 0
+abbrev pub place_among : List Column → List ℕ → ℕ
+place_among [] name = 0
+place_among (column ∷ columns) name = if bytes_eq column.name name then 0 else place_among columns name + 1
+
+-- the place of a schema's column of this name, which is the place of its value in each row of the schema's values
+abbrev pub schema_place : Schema → List ℕ → ℕ
+schema_place schema name = place_among schema.columns name
 
 -- the value of a number column
 abbrev pub number_of : Cell → ℕ
