@@ -3,13 +3,13 @@
 ghost use Rattle.std.specs.Prelude.{IfOk};
 ghost use Rattle.plan_params.specs.Indexes.{AreIndexes};
 
-use crate::index::index_of;
 use crate::rows::ParamRows;
 use crate::rows::admission::Admission;
 use crate::rows::way::WayKey;
 use indexmap::IndexMap;
 use plan_core::{Memory, Point};
 use std::alloc::Global;
+use vdv452_tables::index_of;
 
 /// What the rows tell, by their keys.
 #[derive(Drop)]

@@ -8,7 +8,6 @@
 #![tactic(auto)]
 
 mod fault;
-mod index;
 mod indexes;
 mod params;
 mod reading;

@@ -9,21 +9,22 @@ use plan_core::Memory;
 use std::alloc::Global;
 use std::hash::Hash;
 
-/// A row that is found by its key.
-pub(crate) trait KeyedRow<K, V> {
+/// A row of a table that is found by its key: `K` is the key, `V` what is told of the row.
+pub trait KeyedRow<K, V> {
     /// The row's key.
     ghost key_of: { Self → K };
 
     /// What is told of the row.
     ghost value_of: { Self → V };
 
+    /// The row's key, and what is told of it. `Memory` is the only error.
     fn entry(&self, alloc: Global) -> Result<(K, V), Memory>
         ensures { IfOk result (λ entry. entry ≡ (key_of self.now, value_of self.now)) };
 }
 
 /// The values of rows by their keys, from the last row to the first, so that the first row of a key
-/// counts.
-pub(crate) fn index_of<K: Eq + Hash + Drop, V: Drop, R: KeyedRow<K, V>>(
+/// counts. `Memory` is the only error.
+pub fn index_of<K: Eq + Hash + Drop, V: Drop, R: KeyedRow<K, V>>(
     alloc: Global,
     rows: &[R],
 ) -> Result<IndexMap<K, V>, Memory>

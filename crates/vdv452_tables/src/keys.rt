@@ -113,6 +113,17 @@ impl<'a> Equivalent<LineKey> for LineName<'a> {
     }
 }
 
+/// A point is its own key, and nothing more is told of it.
+impl KeyedRow<Point, ()> for Point {
+    ghost key_of = { λ at. at };
+
+    ghost value_of = { λ at. tt };
+
+    fn entry(&self, _alloc: Global) -> Result<(Point, ()), Memory> {
+        Ok((*self, ()))
+    }
+}
+
 impl KeyedRow<DayKey, u32> for CalendarRow {
     ghost key_of = { keys.day_key_of };
 

@@ -12,6 +12,7 @@ mod net;
 mod network;
 mod reading;
 
+pub use index::{KeyedRow, index_of};
 pub use net::Net;
 pub use network::Network;
 pub use reading::{Needs, read_tables};

@@ -3,8 +3,10 @@
 ghost use Rattle.std.specs.Prelude.{◌≡◌};
 ghost use Rattle.plan_params.specs.Settings.{admission_of};
 
-use crate::index::KeyedRow;
 use crate::row::{TableRow, number_at};
+use plan_core::Memory;
+use std::alloc::Global;
+use vdv452_tables::KeyedRow;
 
 /// A type of vehicles that may serve a line (X_LINIE_FZG).
 #[derive(Clone, Copy, Debug, PartialEq, Eq, Hash)]
@@ -32,8 +34,8 @@ impl KeyedRow<u32, ()> for Admission {
 
     ghost value_of = { λ admission. tt };
 
-    fn entry(&self) -> (u32, ()) {
-        (self.line, ())
+    fn entry(&self, _alloc: Global) -> Result<(u32, ()), Memory> {
+        Ok((self.line, ()))
     }
 }
 
@@ -43,7 +45,7 @@ impl KeyedRow<Admission, ()> for Admission {
 
     ghost value_of = { λ admission. tt };
 
-    fn entry(&self) -> (Admission, ()) {
-        (*self, ())
+    fn entry(&self, _alloc: Global) -> Result<(Admission, ()), Memory> {
+        Ok((*self, ()))
     }
 }

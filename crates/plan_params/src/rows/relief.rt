@@ -3,7 +3,6 @@
 ghost use Rattle.std.specs.Prelude.{◌≡◌};
 ghost use Rattle.plan_params.specs.Settings.{relief_of};
 
-use crate::index::KeyedRow;
 use crate::row::{TableRow, point_at};
 use plan_core::Point;
 
@@ -12,15 +11,5 @@ impl TableRow for Point {
 
     fn from_row(row: &[u32]) -> Point {
         point_at(row, 0, 1)
-    }
-}
-
-impl KeyedRow<Point, ()> for Point {
-    ghost key_of = { λ at. at };
-
-    ghost value_of = { λ at. tt };
-
-    fn entry(&self) -> (Point, ()) {
-        (*self, ())
     }
 }

@@ -4,9 +4,10 @@ ghost use Rattle.std.specs.Prelude.{◌≡◌};
 ghost use Rattle.plan_params.specs.Settings.{way_of};
 ghost use Rattle.plan_params.specs.LookUps.{way_key_of};
 
-use crate::index::KeyedRow;
 use crate::row::{TableRow, number_at, point_at};
-use plan_core::Point;
+use plan_core::{Memory, Point};
+use std::alloc::Global;
+use vdv452_tables::KeyedRow;
 
 /// How long a driver is on the way from point to point (X_WEG).
 #[derive(Clone, Copy, Debug, PartialEq, Eq)]
@@ -43,11 +44,11 @@ impl KeyedRow<WayKey, u32> for Way {
 
     ghost value_of = { λ way. way.time };
 
-    fn entry(&self) -> (WayKey, u32) {
+    fn entry(&self, _alloc: Global) -> Result<(WayKey, u32), Memory> {
         let key = WayKey {
             from: self.from,
             to: self.to,
         };
-        (key, self.time)
+        Ok((key, self.time))
     }
 }
