@@ -19,8 +19,7 @@ use day_calendar::{DayKind, day_rows};
 use day_model::MOST_TRIPS;
 use plan_core::{Bytes, Memory, Seq};
 use std::alloc::Global;
-use umlauf_write::{copied_columns, copied_row};
-use vdv451_text::{Field, Table, write_tables};
+use vdv451_text::{Field, Table, write_tables, copied_columns, copied_row};
 use vdv452_tables::{Needs, Network};
 
 /// The rows that stand at these places.

@@ -9,14 +9,13 @@ ghost use Rattle.vdv452_rows.specs.Cells.{whole_number as whole_number_of};
 ghost use Rattle.umlauf_write.specs.Tables.{numbered};
 ghost use Rattle.umlauf_write.specs.Trips.{HasOneRow, found_row, found_table as found_table_of, is_number as is_number_of, is_row_of as is_row_of_spec, number_in as number_in_spec, row_of as row_of_spec};
 
-use crate::copies::copied_columns;
 use crate::numbers::block_numbers;
 use crate::trips::with_uid;
 use cover_core::Column;
 use day_model::Day;
 use plan_core::{Memory, Seq};
 use std::alloc::Global;
-use vdv451_text::{Field, Head, Table, spelled_number};
+use vdv451_text::{Field, Head, Table, copied_columns, spelled_number};
 use vdv452_tables::column_place;
 
 /// The whole number of a field, if it has one.

@@ -6,7 +6,6 @@
 mod answer;
 mod blocks;
 mod bounds;
-mod copies;
 mod duties;
 mod found;
 mod legs;
@@ -17,7 +16,6 @@ mod text;
 mod trips;
 
 pub use answer::Answer;
-pub use copies::{copied_columns, copied_row};
 pub use printed::in_printed_order;
 pub use tables::{block_tables, plan_tables};
 pub use text::{DutyRow, PlanFault, PlanText};

@@ -6,14 +6,15 @@ ghost use Rattle.cover_core.specs.Cover.{AllBelow};
 ghost use Rattle.vdv451_text.specs.Plain.{is_plain_table};
 ghost use Rattle.umlauf_write.specs.Tables.{block_of, format_at, numbered, trip_row as trip_row_of, trip_table as trip_table_of, uid_field as uid_field_of, with_uid as with_uid_of};
 
-use crate::copies::{copied_columns, copied_row};
 use crate::numbers::block_numbers;
 use cover_core::Column;
 use day_model::Day;
 use itoa::Buffer;
 use plan_core::{Bytes, Memory, Seq};
 use std::alloc::Global;
-use vdv451_text::{Field, FieldBytes, Head, Table, is_number_format};
+use vdv451_text::{
+    Field, FieldBytes, Head, Table, copied_columns, copied_row, is_number_format,
+};
 use vdv452_tables::column_place;
 
 /// The number of a block in a column of a format: a number in a column of numbers, else its bare digits.

@@ -21,6 +21,7 @@
 //! [`is_plain`] tells which tables have a spelling, and [`write_tables`] writes the one that this crate commits to.
 #![tactic(auto)]
 
+mod copies;
 mod counts;
 mod fault;
 mod few;
@@ -38,6 +39,7 @@ mod steps;
 mod table;
 mod writing;
 
+pub use copies::{copied_columns, copied_row};
 pub use fault::{TextFault, TextKind};
 pub use number::spelled_number;
 pub use plain::{is_number_format, is_plain};

@@ -1,5 +1,5 @@
 use Rattle.std.proofs.Common.{◌≡◌, ◌++◌, drop}
-use Rattle.umlauf_write.proofs.copies.copied_columns.Given as goal
+use Rattle.vdv451_text.proofs.copies.copied_columns.Given as goal
 
 -- the copy so far and the columns left are all columns
 abbrev pub invariant-loop-column : goal.invariant-loop-column

@@ -1,5 +1,5 @@
 use Rattle.std.proofs.Common.{◌≡◌, ◌++◌, drop}
-use Rattle.umlauf_write.proofs.copies.copied_row.Given as goal
+use Rattle.vdv451_text.proofs.copies.copied_row.Given as goal
 
 -- the copy so far and the fields left are the row
 abbrev pub invariant-loop-field : goal.invariant-loop-field

@@ -1,12 +1,12 @@
-//! Rows and columns once more.
+//! Copies of rows and of columns.
 
 ghost use Rattle.std.specs.Prelude.{◌≡◌, IfOk};
 
+use crate::table::{Field, Head};
 use plan_core::{Memory, Seq};
 use std::alloc::Global;
-use vdv451_text::{Field, Head};
 
-/// A row's fields once more.
+/// A row's fields once more. `Memory` is the only error.
 pub fn copied_row(alloc: Global, row: &[Field]) -> Result<Seq<Field>, Memory>
     ensures { IfOk result (λ copy. copy ≡ row.now) }
 {
@@ -17,7 +17,7 @@ pub fn copied_row(alloc: Global, row: &[Field]) -> Result<Seq<Field>, Memory>
     Ok(copy)
 }
 
-/// The columns of a table once more.
+/// The columns of a table once more. `Memory` is the only error.
 pub fn copied_columns(alloc: Global, columns: &[Head]) -> Result<Seq<Head>, Memory>
     ensures { IfOk result (λ copy. copy ≡ columns.now) }
 {
