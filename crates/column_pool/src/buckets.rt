@@ -6,7 +6,7 @@ ghost use Rattle.column_pool.specs.Pools.{is_same, is_known, is_refused, pool_af
 ghost use Rattle.column_pool.specs.Buckets.{bucket_of, bucket_in, last_in, IsChained, IsIndexed};
 
 use cover_core::Column;
-use plan_core::{Memory, Seq};
+use plan_core::{Memory, Seq, zeros};
 use std::alloc::Global;
 
 /// How many columns a pool takes.
@@ -50,17 +50,6 @@ fn is_known(column: &Column, columns: &[Column], earlier: &[u32], head: u32) -> 
         place = earlier[at] as usize;
     }
     false
-}
-
-/// A list of zeros.
-fn zeros(alloc: Global, len: usize) -> Result<Seq<u32>, Memory>
-    ensures len { IfOk result (λ v. length v ≡ len) }
-    ensures zero { IfOk result (λ v. (i : ℕ) → slice_index v i ≡ 0) }
-{
-    match vec![in alloc; 0; len] {
-        Ok(zeros) => Ok(Seq::from_vec(zeros)),
-        Err(_) => Err(Memory),
-    }
 }
 
 /// Makes the table where it is still empty.

@@ -17,7 +17,7 @@ use crate::clamps::clamp;
 use crate::key::Key;
 use crate::selection::{candidates, limits};
 use cover_core::{Column, Prices, value};
-use plan_core::{Memory, Price, Seq};
+use plan_core::{Memory, Price, Seq, zeros};
 use std::alloc::Global;
 use std::cmp::Ordering;
 
@@ -80,17 +80,6 @@ fn add_items(cover: &mut Seq<u32>, list: &[u32])
     for item in list {
         let count = cover.as_slice()[*item as usize];
         cover.set(*item as usize, count + 1);
-    }
-}
-
-/// A list of zeros.
-fn zeros(alloc: Global, len: usize) -> Result<Seq<u32>, Memory>
-    ensures len { IfOk result (λ v. length v ≡ len) }
-    ensures zero { IfOk result (λ v. (i : ℕ) → slice_index v i ≡ 0) }
-{
-    match vec![in alloc; 0; len] {
-        Ok(zeros) => Ok(Seq::from_vec(zeros)),
-        Err(_) => Err(Memory),
     }
 }
 

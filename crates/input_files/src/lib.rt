@@ -21,4 +21,4 @@ pub use inputs::read_files;
 pub use lines::{text_kind, write_line, write_number, write_part};
 pub use parts::{CheckParts, EarlierParts, join_tables, split_earlier, split_plan};
 pub use stage::{MOST_BYTES, MOST_CERT, Stage};
-pub use transfer::{PIECE, ReadRefusal, read_whole, write_whole, zeros};
+pub use transfer::{PIECE, ReadRefusal, read_whole, write_whole};

@@ -31,14 +31,6 @@ impl From<AllocError> for ReadRefusal {
 /// How many bytes a read asks for.
 pub const PIECE: usize = 65_536;
 
-/// Bytes of that many zeros.
-pub fn zeros(alloc: Global, count: usize) -> Result<Vec<u8>, AllocError>
-    ensures bytes { IfOk result (λ zeros. zeros.items ≡ replicate count 0) }
-    ensures len { IfOk result (λ zeros. vec_len zeros ≡ count) }
-{
-    vec![in alloc; 0u8; count]
-}
-
 fn append_front(bytes: &mut Vec<u8>, buffer: &[u8], count: usize) -> Result<(), AllocError>
     requires { count ≤ length buffer.now }
     ensures items { OnOk result (bytes.new.items ≡ bytes.old.items ++ take count buffer.now) }
@@ -110,7 +102,7 @@ pub fn read_whole<F: Files>(
     // Without that answer no count of faults moved.
     ensures ended { (other : List ℕ) → IsErrOf result ReadRefusal.Fault ⊎ (F.faults files.new other ≡ F.faults files.old other) }
 {
-    let mut buffer = zeros(alloc, PIECE)?;
+    let mut buffer = vec![in alloc; 0u8; PIECE]?;
     read_pieces(alloc, files, name, most, buffer.as_mut_slice())
 }
 

@@ -9,18 +9,6 @@ use cover_core::Column;
 use plan_core::Memory;
 use std::alloc::{AllocError, Global};
 
-/// So many counts of 0.
-fn zeros(alloc: Global, count: u32) -> Result<Vec<u32>, Memory>
-    ensures count { IfOk result (λ counts. length counts.items ≡ count) }
-    ensures zeros { IfOk result (λ counts. (n : ℕ) → n < count → slice_index counts.items n ≡ 0) }
-{
-    let mut counts = Vec::new(alloc);
-    for _ in 0..count {
-        counts.push(0)?;
-    }
-    Ok(counts)
-}
-
 /// Counts each number of a list that has a count.
 fn count_numbers(counts: &mut [u32], numbers: &[u32])
     requires { HaveRoom counts.old numbers.now }
@@ -53,7 +41,7 @@ pub(crate) fn item_counts(alloc: Global, count: u32, lists: &[Column]) -> Result
     ensures count { IfOk result (λ counts. length counts.items ≡ count) }
     ensures counts { IfOk result (λ counts. AreCounts counts.items (all_items lists.now)) }
 {
-    let mut counts = zeros(alloc, count)?;
+    let mut counts = vec![in alloc; 0; count as usize]?;
     count_items(counts.as_mut_slice(), lists);
     Ok(counts)
 }
@@ -72,7 +60,7 @@ pub(crate) fn class_counts(alloc: Global, count: u32, lists: &[Column]) -> Resul
     ensures counts { IfOk result (λ counts. AreCounts counts.items (all_classes lists.now)) }
 {
     let classes = classes_of(alloc, lists)?;
-    let mut counts = zeros(alloc, count)?;
+    let mut counts = vec![in alloc; 0; count as usize]?;
     count_numbers(counts.as_mut_slice(), classes.as_slice());
     Ok(counts)
 }

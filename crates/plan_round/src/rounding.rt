@@ -16,7 +16,7 @@ use crate::fill::fill;
 use crate::take::take_all;
 use column_pool::Pool;
 use cover_core::{Column, Columns, Plan, Prices};
-use plan_core::{Memory, Seq};
+use plan_core::{Memory, Seq, zeros};
 use std::alloc::Global;
 
 /// The places of the pool's columns by value, and of those of equal value by place.
@@ -31,17 +31,6 @@ fn by_value<C: Columns>(columns: &C, pool: &Pool, prices: &Prices) -> Result<Seq
     let _items = columns.items();
     let _classes = columns.classes();
     pool.sorted_by_value(prices)
-}
-
-/// A list of zeros.
-fn zeros(alloc: Global, len: usize) -> Result<Seq<u32>, Memory>
-    ensures len { IfOk result (λ v. length v ≡ len) }
-    ensures zero { IfOk result (λ v. (i : ℕ) → slice_index v i ≡ 0) }
-{
-    match vec![in alloc; 0; len] {
-        Ok(zeros) => Ok(Seq::from_vec(zeros)),
-        Err(_) => Err(Memory),
-    }
 }
 
 /// A list of items that are all free.

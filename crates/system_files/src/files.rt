@@ -3,7 +3,7 @@
 ghost use Rattle.std.specs.Prelude.{◌≡◌, ◌≤◌, None, IfOk, length, drop};
 ghost use Rattle.std.specs.Io.{ReadsAtMost};
 
-use input_files::{PIECE, zeros};
+use input_files::PIECE;
 use plan_core::{Failed, Memory};
 use std::alloc::Global;
 use std::io::{Read, Seek, SeekFrom};
@@ -69,7 +69,7 @@ impl<'r, R: Disk> DiskFiles<'r, R> {
             rt,
             opened: None,
             name: Vec::with_capacity(alloc, longest)?,
-            piece: zeros(alloc, PIECE)?,
+            piece: vec![in alloc; 0u8; PIECE]?,
             faults: 0,
         })
     }

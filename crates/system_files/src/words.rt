@@ -1,6 +1,5 @@
 //! The words that a program is started with.
 
-use input_files::zeros;
 use plan_core::{Bytes, Memory};
 use std::alloc::Global;
 use std::env::{Env, FillError};
@@ -9,7 +8,7 @@ use std::env::{Env, FillError};
 fn word_at<R: Env>(rt: &R, alloc: Global, number: usize) -> Result<Option<Bytes>, Memory> {
     let mut room = 256usize;
     for _ in 0..32 {
-        let mut buffer = zeros(alloc, room)?;
+        let mut buffer = vec![in alloc; 0u8; room]?;
         match rt.arg(number, buffer.as_mut_slice()) {
             Ok(count) => {
                 buffer.truncate(count);

@@ -20,13 +20,6 @@ fn note(numbers: &mut [u32], items: &[u32], number: u32)
     }
 }
 
-fn zeros(alloc: Global, count: usize) -> Result<Vec<u32>, Memory>
-    ensures count { IfOk result (λ zeros. length zeros.items ≡ count) }
-    ensures zero { IfOk result (λ zeros. (i : ℕ) → slice_index zeros.items i ≡ 0) }
-{
-    Ok(vec![in alloc; 0; count]?)
-}
-
 /// For each trip the number of the first block that has it, where blocks are numbered from 1; 0 where none has it.
 pub(crate) fn block_numbers(
     alloc: Global,
@@ -38,7 +31,7 @@ pub(crate) fn block_numbers(
     ensures count { IfOk result (λ numbers. length numbers.items ≡ trips) }
     ensures numbers { IfOk result (λ numbers. (trip : ℕ) → trip < trips → slice_index numbers.items trip ≡ block_of 1 blocks.now trip) }
 {
-    let mut numbers = zeros(alloc, trips)?;
+    let mut numbers = vec![in alloc; 0; trips]?;
     let mut left = blocks.len();
     while left > 0 {
         left -= 1;

@@ -15,13 +15,6 @@ use cover_core::{Column, Pricer, Prices, value};
 use plan_core::{Memory, Seq};
 use std::alloc::Global;
 
-/// So many zeros.
-fn zeros(alloc: Global, count: u32) -> Result<Seq<i64>, Memory>
-    ensures { IfOk result (λ list. list ≡ replicate count (pos 0)) }
-{
-    Ok(Seq::from_vec(vec![in alloc; 0; count as usize]?))
-}
-
 /// Lowers the least value of a class to that of a column, if there is one and its value is less.
 fn lower_least(least: &mut Seq<i64>, prices: &Prices, class: u32, column: &Option<Column>)
     requires class { class < length least.old }
@@ -49,7 +42,7 @@ pub(crate) fn least_found(
     requires sound { All (IsSoundFound prices.now.items classes groups) found.now }
     ensures { IfOk result (λ least. least ≡ map (least_lowered (lowerings prices.now.items groups found.now)) (range_with_len 0 classes)) }
 {
-    let mut least = zeros(alloc, classes)?;
+    let mut least = Seq::from_vec(vec![in alloc; 0; classes as usize]?);
     for one in found {
         lower_least(&mut least, prices, one.task / groups, &one.column);
     }
