@@ -58,7 +58,7 @@ HasPlaces trip = IsPlace trip.from × IsPlace trip.to
 abbrev pub IsNumbered : Pool → Type 0
 IsNumbered pool = IsNumber pool.number × IsPlace pool.depot × IsNumber pool.typ
 
--- the numbers of a day's kind, of its places, pools and groups
+-- the numbers of a day type, of its places, pools and groups
 pub record HasNumbers (facts : DayFacts) : Type 0 where
   pub version : IsNumber facts.kind.version
   pub kind : IsNumber facts.kind.kind
@@ -189,7 +189,7 @@ kind_number tables version day kind e =
     let test : CalendarRow → Bool = λ row. (row.version == version) && (row.day == day) in
     mapped (λ (row : CalendarRow). row.kind) (find test net.days) kind e (find_each HasKind test net.days rows)
 
--- the points of a course
+-- the points of a stop sequence
 abbrev IsAtPlace : StopRow → Type 0
 IsAtPlace row = IsPlace row.at
 
@@ -300,8 +300,8 @@ groups_all net fits =
     (All-weaker (Fits schema.drivers.columns) (λ (row : List ℕ). P (group_of row)) group_number net.drivers fits))
 
 -- What a day is made of are fields of rows that were read through columns, and a column takes no number above its greatest one. So the
--- version and the kind of the day, the ends of its trips, and the numbers and places of its pools and groups have 32 bits: a version is
--- that of a row, the ends of a trip are points of a course, and a course is made of rows of stops.
+-- version and the day type, the ends of its trips, and the numbers and places of its pools and groups have 32 bits: a version is
+-- that of a row, the ends of a trip are points of a stop sequence, and a stop sequence is made of rows of stops.
 pub day_numbers : (tables : List Table) (day : ℕ) (facts : DayFacts) → HasRanges (net_of needs.All tables) →
     IsKindOf (net_of needs.All tables) day facts.kind →
     IsDayOf (net_of needs.All tables) facts.kind facts → HasNumbers facts

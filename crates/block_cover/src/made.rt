@@ -7,7 +7,7 @@ pub struct OpenMark {
     pub class: u32,
     /// The last trip of the block, from 0.
     pub trip: u32,
-    /// The seconds of driving since the last cut, or since the pull-out's begin.
+    /// The seconds of driving since the last cut, or since the pull-out's start.
     pub driving: u64,
     /// A thousand times what the block costs so far, or a thousand where blocks are counted, less the prices of its trips.
     pub value: i128,

@@ -136,7 +136,7 @@ end; 1
 eof; 14
 ";
 
-/// The day of a kind, with these trips and the ways without passengers, pools, and drivers.
+/// The day of a day type, with these trips and the ways without passengers, pools, and drivers.
 pub fn day_of(
     alloc: Global,
     trips: &[u8],
@@ -159,7 +159,7 @@ pub fn day_of(
     Ok(build_day(alloc, &net, &kind)?)
 }
 
-/// The day of a kind, with one pool of two vehicles.
+/// The day of a day type, with one pool of two vehicles.
 pub fn day(alloc: Global, kind: u32) -> Result<Day, Fail> {
     day_of(alloc, TRIPS, POOL, DRIVERS, kind)
 }

@@ -83,7 +83,7 @@ fn spell(alloc: Global, day: &Day) -> Result<Vec<i64>, Memory> {
     Ok(out)
 }
 
-/// Pools, the kind of a day, and its plan as numbers.
+/// Pools, the day type of a day, and its plan as numbers.
 type Row = (&'static [u8], u32, &'static [i64]);
 
 fn have_plans(alloc: Global, rows: &[Row]) -> Result<bool, Fail> {

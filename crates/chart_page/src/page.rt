@@ -122,7 +122,7 @@ fn push_charts(
     push_duty_chart(alloc, out, table, &sheet.duties, hours, starts)
 }
 
-/// The begins of the hours, and the end of the last.
+/// The starts of the hours, and the end of the last.
 fn starts_of(alloc: Global, hours: Hours) -> Result<Vec<u32>, AllocError>
     requires first { hours.first ≤ 2000000 }
     requires count { hours.count ≤ 2000000 }

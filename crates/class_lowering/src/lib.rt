@@ -1,4 +1,4 @@
-//! Prices are lowered by the columns of a pool, in the order of their values, where classes ask for their places.
+//! Prices (dual values) are lowered by the columns of a pool, in the order of their reduced costs, where classes ask for their places.
 //!
 //! A class with no place left for a column of a value below 0 *asks* for a place: minus the value of the first column that found none (its
 //! class price, in the words of linear programming). A column has a *loss* where its value and what its class asks are together below 0.

@@ -1,4 +1,4 @@
-//! The begin of a pass.
+//! The start of a pass.
 
 ghost use Rattle.std.specs.Prelude.{◌≡◌, ◌<◌, ◌≤◌, ◌≤ℤ◌, pos, length, IfOk, IfErr, OnOk};
 ghost use Rattle.cover_core.specs.FirstLeast.{AreCheap};

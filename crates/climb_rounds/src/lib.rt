@@ -1,4 +1,4 @@
-//! Climbing: a plan and the prices of a great bound, by prices that climb on a pool of columns.
+//! Climbing: a plan and a great dual bound by column generation with the subgradient method, on a pool of columns.
 //!
 //! Like the rounds of `price_rounds` this offers prices, one vector after another, and keeps the offer of the greatest bound; but it takes
 //! the prices from climbs on the Lagrangian of a pool, and it finds plans on the way by dives. Which prices are offered is advice alone:

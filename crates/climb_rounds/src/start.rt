@@ -170,7 +170,7 @@ fn nothing_asked(alloc: Global, classes: u32) -> Result<Seq<i64>, Memory>
     Ok(asked)
 }
 
-/// The begin of a walk, from the best plan.
+/// The start of a walk, from the best plan.
 pub(crate) fn first_walk<C: Columns>(
     alloc: Global,
     problem: &C,

@@ -38,7 +38,7 @@ pub struct BlockMark {
     pub class: u32,
     /// The last trip of the block, from 0.
     pub trip: u32,
-    /// The seconds of driving since the last cut, or since the pull-out's begin.
+    /// The seconds of driving since the last cut, or since the pull-out's start.
     pub driving: u32,
     /// A thousand times what the block costs so far, less the prices of its trips.
     pub value: i64,

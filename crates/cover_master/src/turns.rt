@@ -1,4 +1,4 @@
-//! Turns: prices rise where the chosen columns cover too little, and fall where they cover too much.
+//! Price steps: prices rise where the chosen columns cover too little, and fall where they cover too much.
 #![tactic(auto)]
 
 ghost use Rattle.std.specs.Prelude.{◌≡◌, ℕ, ◌<◌, ◌≤◌, ◌+◌, ◌≤ℤ◌, ◌+ℤ◌, ◌-ℤ◌, ◌*ℤ◌, ℤ, pos, neg_ℤ, nat_lt, cond, length, filter, IfOk, OnOk, slice_index, slice_set, vec_len};

@@ -1,4 +1,4 @@
--- Promise: the trips of a day: those of its version and kind that carry passengers, by start and number.
+-- Promise: the trips of a day: those of its version and day type that carry passengers, by start and number.
 use Rattle.std.specs.Prelude.{◌≡◌, ℕ, ◌+◌, Bool, ◌==◌, ◌&&◌, List, [], ◌∷◌, map, if◌then◌else◌, IsPermutation, IsSorted}
 use Rattle.std.specs.Ordering.{nat_cmp, ordering_then}
 use Rattle.std.specs.declared.cmp.Ordering.{Ordering}

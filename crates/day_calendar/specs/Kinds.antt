@@ -1,4 +1,4 @@
--- Promise: the version, the kind and the weekday of a day.
+-- Promise: the version, the day type and the weekday of a day.
 use Rattle.std.specs.Prelude.{◌≡◌, ℕ, Some}
 use Rattle.vdv452_tables.specs.declared.net.Net.{Net}
 use Rattle.vdv452_tables.specs.Calendar.{kind_on, version_on}

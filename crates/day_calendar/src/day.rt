@@ -1,4 +1,4 @@
-//! The version and the kind of a day.
+//! The version and the day type of a day.
 
 ghost use Rattle.std.specs.Prelude.{◌≡◌, ◌+◌, ◌↔◌, IfOk, IsSomeAnd, IsSome, IfSome};
 ghost use Rattle.jiff.specs.Words.{monday_zero};
@@ -23,7 +23,7 @@ pub struct DayKind {
     pub weekday: u32,
 }
 
-/// Why a day has no kind. The numbers are 1 `NoVersion`, 2 `NoDay`, 3 `NoDate`; of two that hold
+/// Why a day has no day type. The numbers are 1 `NoVersion`, 2 `NoDay`, 3 `NoDate`; of two that hold
 /// `NoDate` comes first, then `NoVersion`.
 #[derive(Clone, Copy, Debug, PartialEq, Eq, Error)]
 pub enum DayFault {
@@ -69,7 +69,7 @@ fn weekday_on(day: u32) -> Option<u32>
     }
 }
 
-/// The version in force on a day given as YYYYMMDD, the day's kind in it and its weekday. The
+/// The version in force on a day given as YYYYMMDD, the day type in it and its weekday. The
 /// version in force is that of the greatest VER_GUELTIGKEIT not after the day (VDV 452). It takes
 /// no memory.
 pub fn kind_of(net: &Network, day: u32) -> Result<DayKind, DayFault>

@@ -1,4 +1,4 @@
-//! The version and the kind of an operating day, and its trips in order.
+//! The version and the day type of an operating day, and its trips in order.
 #![tactic(auto)]
 
 mod day;

@@ -64,7 +64,7 @@ fn places_of(alloc: Global, found: &[DayTrip]) -> Result<Vec<u32>, Memory>
     Ok(found.iter().map(|trip| trip.place).collect(alloc)?)
 }
 
-/// The places of the trips of a version and a kind, in the order of (FRT_START, FRT_FID).
+/// The places of the trips of a version and a day type, in the order of (FRT_START, FRT_FID).
 fn ordered_places(
     alloc: Global,
     trips: &[TripRow],
@@ -80,7 +80,7 @@ fn ordered_places(
 }
 
 /// The places in `trip_rows` of the day's trips, in the order of (FRT_START, FRT_FID). The day's
-/// trips are the rows of REC_FRT of the day's version and kind with FAHRTART_NR 1. Other rows are
+/// trips are the rows of REC_FRT of the day's version and day type with FAHRTART_NR 1. Other rows are
 /// passed over.
 pub fn day_rows(alloc: Global, net: &Network, kind: &DayKind) -> Result<Seq<u32>, Memory>
     ensures rows { IfOk result (λ places. AreDayRows net.now.trips kind.now.version kind.now.kind places) }

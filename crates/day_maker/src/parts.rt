@@ -186,7 +186,7 @@ fn add_link(
     }
 }
 
-/// Puts behind others the row of a point of a course.
+/// Puts behind others the row of a point of a stop sequence.
 fn add_stop(
     alloc: Global,
     rows: &mut Seq<Seq<Field>>,
@@ -236,7 +236,7 @@ fn add_links(
     add_link(alloc, rows, timed, line, over, to)
 }
 
-/// Puts behind others the rows of the course of a variant.
+/// Puts behind others the rows of the stop sequence of a variant.
 fn add_course(
     alloc: Global,
     rows: &mut Seq<Seq<Field>>,

@@ -1,4 +1,4 @@
-//! How a day is planned, as it is defined.
+//! How a day is planned, as a definition: two passes of column generation for blocks and two for duties, and that it has one ending.
 //!
 //! The blocks of the day are planned first: a pass with each block worth 1, where a bound above the number of vehicles ends the planning;
 //! then a pass with costs, rounding and exchange. Where a plan of blocks is known it stands for that second pass. The blocks are put in printed order and cut, and the duties over their pieces are

@@ -56,7 +56,7 @@ day_fault net kind places =
     if nat_lt most_items (length places) then Some (faults.TooManyTrips (length places)) else
     settings_or (first_fault net kind.version) (timing_fault (timed_rows net kind.version (rows_at net.trips places)))
 
--- The day of a kind in a network: its trips by departure and number with their times, the settings, and the deadheads of the area and
+-- The day of a day type in a network: its trips by departure and number with their times, the settings, and the deadheads of the area and
 -- group that the settings name.
 pub record IsDayOf (net : Net) (kind : DayKind) (day : DayFacts) : Type 0 where
   pub kind_is : day.kind ≡ kind
@@ -67,7 +67,7 @@ pub record IsDayOf (net : Net) (kind : DayKind) (day : DayFacts) : Type 0 where
   pub params : day.params ≡ params_of net
   pub deads : AreDeadheads net kind.version day.params.settings.area day.params.settings.group day.deads
 
--- a network has this first reason against a day of a kind
+-- a network has this first reason against a day of a day type
 pub record HasDayFault (net : Net) (kind : DayKind) (fault : DayModelFault) : Type 0 where
   pub places : List ℕ
   pub rows : AreDayRows net.trips kind.version kind.kind places

@@ -8,7 +8,7 @@ use Rattle.deadheads.specs.DeadTimes.{dead_on}
 use Rattle.plan_params.specs.declared.rows.ParamRows.{ParamRows}
 use Rattle.plan_params.specs.LookUps.{admits_in, is_relief_in}
 
--- a day: its kind, its trips in the order of their numbers with the places of their rows in REC_FRT, the settings, and the times of
+-- a day: its day type, its trips in the order of their numbers with the places of their rows in REC_FRT, the settings, and the times of
 -- deadheads
 pub record DayFacts : Type 0 where
   pub kind : DayKind

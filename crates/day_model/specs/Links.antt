@@ -32,7 +32,7 @@ direct_over settings t u move = option_and_then (λ move. direct_for settings mo
 abbrev pub direct_link : DayFacts → Trip → Trip → Option Link
 direct_link day t u = direct_over day.params.settings t u (dead day t.to u.from)
 
--- The vehicle drives to the depot at once, stands there, and leaves so that it arrives at the next trip's begin.
+-- The vehicle drives to the depot at once, stands there, and leaves so that it arrives at the next trip's start.
 abbrev pub depot_for : ℕ → ℕ → Option ℕ → Option Link
 depot_for inward outward stand = option_and_then (λ stand. Some (Depot inward outward stand)) stand
 
@@ -49,7 +49,7 @@ depot_link day pool t u = depot_over t u (dead day t.to pool.depot) (dead day po
 abbrev pub link : DayFacts → Pool → Trip → Trip → Option Link
 link day pool t u = first_of (direct_link day t u) (depot_link day pool t u)
 
--- the deadhead from the depot to a trip: it arrives exactly at the trip's begin, and leaves at 0 or later
+-- the deadhead from the depot to a trip: it arrives exactly at the trip's start, and leaves at 0 or later
 abbrev pub pull_out_over : Trip → Option ℕ → Option ℕ
 pull_out_over t out = option_and_then (λ out. option_and_then (λ leaves. Some out) (seconds (t.begin.0 -ℤ pos out))) out
 

@@ -162,8 +162,8 @@ fn day_over(
     day_of(alloc, net, kind, rows, params)
 }
 
-/// The day of a kind in a network: its trips with their times, the settings, and the deadheads of the area and group of run times that
-/// X_PLAN names. The trips are the rows of REC_FRT of the day's version and kind with FAHRTART_NR 1, by departure and number.
+/// The day of a day type in a network: its trips with their times, the settings, and the deadheads of the area and group of run times that
+/// X_PLAN names. The trips are the rows of REC_FRT of the day's version and day type with FAHRTART_NR 1, by departure and number.
 ///
 /// # Errors
 ///

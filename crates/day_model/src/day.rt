@@ -48,7 +48,7 @@ impl Model for Day {
 }
 
 impl Day {
-    /// The version, the kind and the weekday of the day.
+    /// The version, the day type and the weekday of the day.
     pub fn kind(&self) -> &DayKind
         ensures { result.now ≡ self.now.kind }
     {
@@ -189,7 +189,7 @@ impl Day {
         layout.relieved.as_slice()[t as usize]
     }
 
-    /// How long the deadhead from a pool's depot to a trip takes: it arrives exactly at the trip's begin. None where there is no such
+    /// How long the deadhead from a pool's depot to a trip takes: it arrives exactly at the trip's start. None where there is no such
     /// deadhead, and where it would leave before second 0.
     pub fn pull_out(&self, class: u32, t: u32) -> Option<u32>
         requires class { class < length self.now.params.pools }

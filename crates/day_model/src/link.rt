@@ -10,7 +10,7 @@ pub enum Link {
         /// How long it stands: at least the minimum layover, at most the greatest wait.
         stand: u32,
     },
-    /// It drives to the depot at once, stands there, and leaves so that it arrives at the next trip's begin.
+    /// It drives to the depot at once, stands there, and leaves so that it arrives at the next trip's start.
     Depot {
         /// How long it drives to the depot.
         inward: u32,

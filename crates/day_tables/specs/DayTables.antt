@@ -12,7 +12,7 @@ use Rattle.number_tables.specs.Numbers.{number_table}
 abbrev pub tag_columns : List (List ℕ)
 tag_columns = codes "BETRIEBSTAG" ∷ codes "WOCHENTAG" ∷ codes "BASIS_VERSION" ∷ codes "TAGESART_NR" ∷ codes "FAHRTEN" ∷ []
 
--- the day as YYYYMMDD, its weekday, the version in force, the day's kind in it, and how many trips there are
+-- the day as YYYYMMDD, its weekday, the version in force, the day type in it, and how many trips there are
 abbrev pub tag_numbers : DayFacts → List (Option ℕ)
 tag_numbers day = Some day.kind.day ∷ Some day.kind.weekday ∷ Some day.kind.version ∷ Some day.kind.kind ∷ Some (length day.trips) ∷ []
 

@@ -143,7 +143,7 @@ fn trip_table(alloc: Global, net: &Network, day: &Day) -> Result<Table, Memory>
 /// The two tables of a day, in this order.
 ///
 /// X_TAG has one row: the day as YYYYMMDD (BETRIEBSTAG), its weekday from 1 for Monday to 7 for Sunday (WOCHENTAG), the version in
-/// force (BASIS_VERSION), the day's kind in it (TAGESART_NR), and how many trips the day has (FAHRTEN).
+/// force (BASIS_VERSION), the day type in it (TAGESART_NR), and how many trips the day has (FAHRTEN).
 ///
 /// X_FAHRT has a row for each trip of the day, by departure and then by number: its number (FRT_FID) and line (LI_NR), its first point
 /// by type and number (VON_TYP, VON_NR) and the departure there (BEGINN), its last point (NACH_TYP, NACH_NR) and the arrival there

@@ -6,7 +6,7 @@ use std::alloc::Global;
 use std::test::Fail;
 use vdv452_tables::{Needs, Network};
 
-/// The kind of 2026-03-02.
+/// The day type of 2026-03-02.
 const MONDAY: DayKind = DayKind {
     version: 1,
     kind: 1,
@@ -47,7 +47,7 @@ const TRIPS: [(&[&str], &[u32]); 4] = [
     ),
 ];
 
-/// A version from 20260101 on, a day of kind 1, and these trips.
+/// A version from 20260101 on, a day of day type 1, and these trips.
 fn calendar(alloc: Global, trips: &'static [&'static str]) -> Result<Network, Fail> {
     let given: [TableRows; 3] = [
         ("BASIS_VER_GUELTIGKEIT", &["20260101; 1"]),
@@ -76,7 +76,7 @@ fn has_days(net: &Network) -> bool {
     true
 }
 
-/// Whether the days are of their kinds, and the trips of the Monday have these places.
+/// Whether the days are of their day types, and the trips of the Monday have these places.
 fn has_places(alloc: Global, trips: &'static [&'static str], places: &[u32]) -> Result<bool, Fail> {
     let net = calendar(alloc, trips)?;
     let rows = day_rows(alloc, &net, &MONDAY)?;

@@ -1,4 +1,4 @@
-//! Courses of a small network.
+//! Stop sequences of a small network.
 
 use crate::networks::{TableRows, network};
 use place_net::route_length;

@@ -1,4 +1,4 @@
-//! Bounds that prices give, and the prices of the greatest bound so far.
+//! Dual bounds: the lower bound that prices give (weak duality), and the prices of the greatest bound so far.
 //!
 //! Prices say what a plan would pay for each item, class prices what it would pay for each place of a class. The *bound* is the sum of
 //! the prices less the sum of each cap times its class price. Where prices are paid (no list is worth less than its prices less its

@@ -60,7 +60,7 @@ abbrev pub last_piece : Piece → List Piece → Piece
 last_piece p [] = p
 last_piece p (q ∷ qs) = last_piece q qs
 
--- the first piece's begin less the way from home less the sign-on time
+-- the first piece's start less the way from home less the sign-on time
 abbrev pub sign_on : DutyFacts → Group → Piece → Option ℤ
 sign_on d g p = option_and_then (λ way. Some (p.begin.0 -ℤ pos way -ℤ pos g.sign_on)) (way_in d.params g.home p.from)
 

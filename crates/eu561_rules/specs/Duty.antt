@@ -59,7 +59,7 @@ abbrev pub KeepsArticle7 : Limits → List Drive → ℕ → Type 0
 KeepsArticle7 limits drives n =
     (i j : ℕ) → i ≤ j → j < n → BreakFree drives i j → driving_within drives i j ≤ limits.block
 
--- article 4(q): the drives from i to j are a driving period, from a full break or the duty's begin to the next one or the duty's end
+-- article 4(q): the drives from i to j are a driving period, from a full break or the duty's start to the next one or the duty's end
 pub record IsDrivingPeriod (drives : List Drive) (i j : ℕ) : Type 0 where
   pub order : i ≤ j
   pub there : j < length drives

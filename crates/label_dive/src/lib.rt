@@ -1,4 +1,4 @@
-//! Dives through labels: limits under which the first least list of a search is likely to be found.
+//! Dives through labels: limits under which a search for a shortest path with resources is likely to find its first least list.
 //!
 //! A search by labels takes the longer the higher its limit is, and a limit that is a little too high costs far more than several that
 //! are too low. So a dive first goes from a list of one item always to the extension that closes with least at least, and looks with what

@@ -1,4 +1,4 @@
-//! The numbers of a turn: subgradient, direction, gap, step size and price.
+//! The numbers of a price step: subgradient, direction, gap, step size and price.
 
 ghost use Rattle.std.specs.Prelude.{◌≡◌, ◌≤◌, ◌<◌, ◌≤ℤ◌, ◌*◌, ◌*ℤ◌, pos, neg_ℤ, int_div, unsigned_abs};
 ghost use Rattle.std.specs.Int.{int_max};

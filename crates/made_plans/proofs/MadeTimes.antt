@@ -28,7 +28,7 @@ by_line P a b c d e f g (suc (suc (suc (suc (suc (suc zero)))))) low high = f
 by_line P a b c d e f g (suc (suc (suc (suc (suc (suc (suc zero))))))) low high = g
 by_line P a b c d e f g (suc (suc (suc (suc (suc (suc (suc (suc n)))))))) low high = absurd (omega (arith, high))
 
--- the course of a variant: over the inner point to the other terminal
+-- the stop sequence of a variant: over the inner point to the other terminal
 abbrev start_of : Bool → ℕ → ℕ
 start_of out l = cond out l (l + 1)
 
@@ -71,7 +71,7 @@ courses =
     (both (HasCourse 7) (record { area = refl; course = refl; first = refl; second = refl; dwell = refl })
     (record { area = refl; course = refl; first = refl; second = refl; dwell = refl }))
 
--- a course of three points
+-- a stop sequence of three points
 three : (time_of : Point × Point → Option ℕ) (dwell_of : Point → ℕ) (row : TripRow) (a m b : Point) (s t d : ℕ) → time_of (a, m) ≡ Some s →
     time_of (m, b) ≡ Some t → dwell_of m ≡ d →
     timed_on time_of dwell_of row (a ∷ m ∷ b ∷ []) ≡ ended row a b (s + t + d)

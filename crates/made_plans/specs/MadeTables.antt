@@ -21,7 +21,7 @@ HasNoDayFault seed trips =
     (day : ℕ) (kind : DayKind) (fault : DayModelFault) → IsKindOf (made_net seed trips) day kind →
     HasDayFault (made_net seed trips) kind fault → ⊥
 
--- a day of the calendar has a version, and in it a kind
+-- a day of the calendar has a version, and in it a day type
 pub record HasKind (seed trips day : ℕ) : Type 0 where
   pub civil : IsCivilDay day
   pub version : version_on (made_net seed trips) day ≡ Some 1

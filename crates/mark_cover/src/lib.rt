@@ -1,4 +1,4 @@
-//! Covers of open lists by marks: certificates that prices are paid, tested by the marks alone.
+//! Covers of open lists by marks: certificates that prices are paid (dual feasible), tested by the marks alone.
 //!
 //! A *mark* says enough of an open list of items to go on. Marks are a *cover* where each list of one item has a mark at least as good as
 //! its own, each extension of a mark has one, and no mark closes with a value below minus its class price. A cover with class prices of

@@ -1,4 +1,4 @@
-//! What the bound of prices would be if they were scaled down, guessed from the least values that a pricing step gave.
+//! What the dual bound of prices would be if they were scaled down, guessed from the least reduced costs that a pricing step gave.
 //!
 //! Where prices are dual feasible but for a little, each class has a least value a little below 0, and the caps times these values take
 //! much off the bound. Prices that are scaled down by a part of a whole have a greater bound: a list of the least value then has about the

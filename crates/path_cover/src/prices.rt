@@ -30,7 +30,7 @@ fn thousandfold(high: u64, low: u64) -> i64
     1000 * (low as i64 - high as i64)
 }
 
-/// The price of each node: a thousand times how far its potential as an arc's end is above that as an arc's beginning.
+/// The price of each node: a thousand times how far its potential as an arc's end is above that as an arc's start.
 fn node_prices(alloc: Global, falls: &Falls, n: u32) -> Result<Seq<Price>, Memory>
     requires places { HasPlaces n falls.now }
     requires low { AreLow falls.now 1500000000000 }
@@ -45,7 +45,7 @@ fn node_prices(alloc: Global, falls: &Falls, n: u32) -> Result<Seq<Price>, Memor
     Ok(prices)
 }
 
-/// The prices that potentials make: of a node a thousand times how far its potential as an arc's end is above that as an arc's beginning,
+/// The prices that potentials make: of a node a thousand times how far its potential as an arc's end is above that as an arc's start,
 /// and of the class of paths a thousand times how far the store's potential is above the end's. No potential may be further than
 /// 1,500,000,000,000 below 0, as those of `least_cover` are not. `Memory` is the only error.
 pub fn prices_of<A: Arcs>(alloc: Global, arcs: &A, falls: &Falls) -> Result<PathPrices, Memory>

@@ -6,7 +6,7 @@ use Rattle.vdv452_tables.specs.declared.net.Net.{Net}
 use Rattle.vdv452_rows.specs.declared.rows.TripRow.{TripRow}
 use Rattle.vdv452_tables.specs.LookUps.{area_on, course_on, length_on, links_from}
 
--- the sections of a course
+-- the sections of a stop sequence
 abbrev pub links_of : List Point → List (Point × Point)
 links_of [] = []
 links_of (first ∷ course) = links_from first course
@@ -26,6 +26,6 @@ metres_in net version row None = None
 metres_in net version row (Some area) =
     length_over (section_length net version area) (links_of (course_on net version row.line row.variant))
 
--- the length of a trip's course in metres
+-- the length of a trip's stop sequence in metres
 abbrev pub route_metres : Net → ℕ → TripRow → Option ℕ
 route_metres net version row = metres_in net version row (area_on net version row.line row.variant)

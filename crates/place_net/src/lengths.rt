@@ -1,4 +1,4 @@
-//! The lengths of courses.
+//! The lengths of stop sequences.
 
 ghost use Rattle.std.specs.Prelude.{◌≡◌, ◌<◌, ◌≤◌, ◌*◌, ◌^◌, IfSome, length};
 ghost use Rattle.vdv452_tables.specs.LookUps.{links_from};
@@ -33,7 +33,7 @@ fn length_from(
     Some(metres)
 }
 
-/// The length of a course in metres; None where a section has no length.
+/// The length of a stop sequence in metres; None where a section has no length.
 fn course_length(net: &Network, version: u32, area: u32, course: &[Point]) -> Option<u64>
     requires { length course.now < 2 ^ 32 }
     ensures value { result ≡ length_over (section_length net.now version area) (links_of course.now) }
@@ -45,14 +45,14 @@ fn course_length(net: &Network, version: u32, area: u32, course: &[Point]) -> Op
     }
 }
 
-/// How far a trip goes, in metres: the sum of the lengths of the sections of its course (SEL_LAENGE of
-/// REC_SEL, in the area of REC_LID). Equal neighbouring points are a section, and a course of fewer
+/// How far a trip goes, in metres: the sum of the lengths of the sections of its stop sequence (SEL_LAENGE of
+/// REC_SEL, in the area of REC_LID). Equal neighbouring points are a section, and a stop sequence of fewer
 /// than two points has length 0. None exactly where REC_LID has no row of the trip's line and
-/// variant, or a section of its course has no length. It takes no memory.
+/// variant, or a section of its stop sequence has no length. It takes no memory.
 pub fn route_length(net: &Network, version: u32, row: &TripRow) -> Option<u64>
     ensures value { result ≡ route_metres net.now version row.now }
 
-    // A course has fewer than 2^32 sections of at most 1,000,000 metres.
+    // A stop sequence has fewer than 2^32 sections of at most 1,000,000 metres.
     ensures range { IfSome result (λ metres. metres ≤ 1000000 * 2 ^ 32) }
 {
     match net.area(version, row.line, &row.variant) {

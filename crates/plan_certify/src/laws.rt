@@ -21,7 +21,7 @@ pub fn day_is_certified_once()
     day_answers_once();
 }
 
-/// Two days that agree in version, kind, trips, settings and the times of deadheads have the same certificates: in which order a network
+/// Two days that agree in version, day type, trips, settings and times of deadheads have the same certificates: in which order a network
 /// lists its deadheads changes nothing.
 pub fn days_alike_are_certified_alike()
     ensures { (one other : DayFacts) → AreAlike one other → HaveSameCertificates one other }

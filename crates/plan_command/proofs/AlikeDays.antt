@@ -125,7 +125,7 @@ module _ (one other : DayFacts) (alike : AreAlike one other) where
       } in
       ap (λ blocks. problems blocks (duties_over one)) same_blocks ∙ ap (λ duties. problems (blocks_of other) duties) same_duties
 
-  -- the tables of a plan tell the version, the kind, the trips and the settings of their day alone
+  -- the tables of a plan tell the version, the day type, the trips and the settings of their day alone
   pub tables_alike : (table : Table) (answer : Answer) → answer_tables one table answer ≡ answer_tables other table answer
   tables_alike table answer =
       let day : ℕ → ℕ → List DayTrip → ParamRows → DayFacts = λ version kind trips params.

@@ -8,7 +8,7 @@ use Rattle.plan_command.specs.Planning.{Asked, IsPlanCauseOver}
 use Rattle.plan_command.specs.PlanText.{IsPlanTextOver}
 use Rattle.plan_command.specs.ShortText.{IsShortTextOver}
 
--- Two days have the same version and kind, the same trips and settings, and the same times of deadheads. The lists that tell the
+-- Two days have the same version and day type, the same trips and settings, and the same times of deadheads. The lists that tell the
 -- deadheads may differ, as may the dates and the places of the trips' rows.
 pub record AreAlike (one other : DayFacts) : Type 0 where
   pub versions : one.kind.version ≡ other.kind.version

@@ -15,7 +15,7 @@ pub fn day_answers_once()
     ensures short_either { (facts : DayFacts) → HasShortTextOrCause facts }
 {}
 
-/// Two days that agree in their version and kind, their trips, their settings and the times of their deadheads have the same texts, short
+/// Two days that agree in version and day type, trips, settings and times of deadheads have the same texts, short
 /// texts and causes for a refusal, by either method. So nothing of a plan hangs on the order in which a network tells its deadheads, nor on
 /// the date.
 pub fn days_alike_answer_alike()

@@ -104,7 +104,7 @@ pub(crate) fn fix<C: Columns>(
     push_column(problem, &mut descent.fixed, copy_column(alloc, column)?)
 }
 
-/// The begin of a dive: the columns that stay are fixed. The aim is that of a whole plan, in thousandths of a cost unit.
+/// The start of a dive: the columns that stay are fixed. The aim is that of a whole plan, in thousandths of a cost unit.
 pub(crate) fn begin<C: Columns>(
     alloc: Global,
     problem: &C,

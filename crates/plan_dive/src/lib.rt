@@ -1,4 +1,4 @@
-//! Dives: plans found by fixing columns at prices that climb.
+//! A diving heuristic: plans found by fixing columns one after another, at prices that climb in between.
 //!
 //! A *dive* fixes columns of a pool one after another, those first that a climb of the prices chose most often (diving heuristics of
 //! column generation). What is fixed leaves a smaller problem: fewer items, fewer places, a lower aim. The prices climb again on the

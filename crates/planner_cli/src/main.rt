@@ -1,4 +1,4 @@
-//! The planner as a program.
+//! The planner as a program: `run_program` with the streams of the operating system.
 #![tactic(auto)]
 
 use planner_run::run_program;

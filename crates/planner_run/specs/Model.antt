@@ -28,7 +28,7 @@ pub record IsModelOf (tables : List Table) (day : ℕ) (facts : DayFacts) : Type
   pub faultless : first_fault (schemas_of needs.All) tables ≡ None
   pub model : IsModelIn (net_of needs.All tables) day facts
 
--- the day has a kind in a network, and this first reason against it
+-- the day has a day type in a network, and this first reason against it
 pub record HasModelFaultIn (net : Net) (day : ℕ) (fault : DayModelFault) : Type 0 where
   pub kind : DayKind
   pub kind_is : IsKindOf net day kind
@@ -60,7 +60,7 @@ model_status (models.Params fault) = statuses.Input (inputs.Params fault)
 model_status (models.Trip fid fault) = statuses.Input (inputs.Trip fid fault)
 model_status models.Memory = statuses.Memory
 
--- a network has no day: the day has no kind, or there is a first reason against it
+-- a network has no day: the day has no day type, or there is a first reason against it
 abbrev pub IsModelRefusalIn : Net → ℕ → Status → Type 0
 IsModelRefusalIn net day status =
     (status ≡ statuses.Memory) ⊎

@@ -31,7 +31,7 @@ rows_at rows places = map (λ place. slice_index_or rows place []) places
 abbrev pub picked_table : Table → List ℕ → Table
 picked_table table places = record { name = table.name; columns = table.columns; rows = rows_at table.rows places }
 
--- the tables have no fault, and this is the day's kind, with the places of its trips among the rows of REC_FRT
+-- the tables have no fault, and this is the day type, with the places of its trips among the rows of REC_FRT
 pub record IsDayOf (tables : List Table) (day : ℕ) (kind : DayKind) (places : List ℕ) : Type 0 where
   pub faultless : first_fault (schemas_of needs.Calendar) tables ≡ None
   pub kind_is : IsKindOf (net_of needs.Calendar tables) day kind
@@ -47,7 +47,7 @@ pub record IsTripsText (tables : List Table) (day : ℕ) (bytes : List ℕ) : Ty
   pub found : table_of schema.trips tables ≡ Some table
   pub written : bytes ≡ text (picked_table table places ∷ [])
 
--- a day has no kind: it is no date, no version is in force, or the calendar lacks it
+-- a day has no day type: it is no date, no version is in force, or the calendar lacks it
 abbrev pub IsDayFault : Net → ℕ → DayFault → Type 0
 IsDayFault net day days.NoDate = ¬ IsCivilDay day
 IsDayFault net day days.NoVersion = IsCivilDay day × (version_on net day ≡ None)
@@ -86,7 +86,7 @@ table_status_of fault kinds.KeyTwice = statuses.Input (inputs.Table fault)
 abbrev pub refused_tables : TableFault → Status
 refused_tables fault = table_status_of fault fault.kind
 
--- the day has no kind
+-- the day has no day type
 abbrev pub IsDayRefusal : Net → ℕ → Status → Type 0
 IsDayRefusal net day status = (fault : DayFault) × (status ≡ statuses.Day fault) × IsDayFault net day fault
 
@@ -97,7 +97,7 @@ IsCrowdRefusal trips version kind status =
     ⊎ ((places : List ℕ) × AreDayRows trips version kind places × (most_items < length places)
     × (status ≡ statuses.Input (inputs.Trips (length places))))
 
--- the day's kind in a network, and the places of its trips, which are not too many
+-- the day type in a network, and the places of its trips, which are not too many
 pub record IsDayIn (net : Net) (day : ℕ) (kind : DayKind) (places : List ℕ) : Type 0 where
   pub kind_is : IsKindOf net day kind
   pub rows : AreDayRows net.trips kind.version kind.kind places

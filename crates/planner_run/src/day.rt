@@ -44,7 +44,7 @@ fn text_in(alloc: Global, net: &Network, day: u32) -> Result<Bytes, Status>
 ///
 /// # Errors
 ///
-/// `Input` with the first fault of the tables; then `Day` where the day has no kind; then `Input` with the number of trips where there
+/// `Input` with the first fault of the tables; then `Day` where the day has no day type; then `Input` with the number of trips where there
 /// are more than 3,000, the first fault of the settings, or the first trip without times; and `Memory`.
 pub fn day_text(alloc: Global, tables: &[Table], day: u32) -> Result<Bytes, Status>
     requires sized { All (λ table. length table.rows < 2 ^ 32) tables.now }

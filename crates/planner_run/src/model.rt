@@ -38,7 +38,7 @@ pub(crate) fn network(alloc: Global, tables: &[Table], needs: Needs) -> Result<N
     }
 }
 
-/// The version, kind and weekday of a day, or why it has none.
+/// The version, day type and weekday of a day, or why it has none.
 pub(crate) fn day_kind(net: &Network, day: u32) -> Result<DayKind, Status>
     ensures kind { IfOk result (IsKindOf net.now day) }
     ensures cause { IfErr result (IsDayRefusal net.now day) }
@@ -65,7 +65,7 @@ fn model_status(fault: DayModelFault) -> Status
 ///
 /// # Errors
 ///
-/// `Day` where the day has no kind; then `Input` with the number of trips where there are more than 3,000, the first fault of the
+/// `Day` where the day has no day type; then `Input` with the number of trips where there are more than 3,000, the first fault of the
 /// settings, or the first trip without times; and `Memory`.
 pub(crate) fn model_of(alloc: Global, net: &Network, day: u32) -> Result<Day, Status>
     ensures day { IfOk result (IsModelIn net.now day) }

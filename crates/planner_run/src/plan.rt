@@ -51,7 +51,7 @@ impl From<PlanFault> for Status {
 ///
 /// # Errors
 ///
-/// `Input` with the first fault of the tables; then `Day` where the day has no kind; then `Input` with the number of trips where there
+/// `Input` with the first fault of the tables; then `Day` where the day has no day type; then `Input` with the number of trips where there
 /// are more than 3,000, the first fault of the settings, or the first trip without times; then, for vehicles and after them for drivers,
 /// `NoPlan` where the bound on their number is above how many there are, and `NotPlaced` where rounding leaves a trip or a piece; and
 /// `Memory`.

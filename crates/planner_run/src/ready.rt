@@ -83,7 +83,7 @@ fn only_table(tables: Seq<Table>, place: usize) -> Table
 ///
 /// # Errors
 ///
-/// `Input` with the first fault of the tables; then `Day` where the day has no kind; then `Input` with the number of trips where there
+/// `Input` with the first fault of the tables; then `Day` where the day has no day type; then `Input` with the number of trips where there
 /// are more than 3,000, the first fault of the settings, or the first trip without times; and `Memory`.
 pub fn ready_day(alloc: Global, tables: Seq<Table>, day: u32) -> Result<Ready, Status>
     requires plain { IsTrue (are_plain tables) }

@@ -52,7 +52,7 @@ pub enum Status {
     Usage,
     /// The files hold something wrong.
     Input(InputFault),
-    /// The day is no date, has no version or no kind.
+    /// The day is no date, has no version or no day type.
     Day(DayFault),
     /// The bound on the number of blocks is above the number of vehicles, and then the day has no blocks; or the bound on the number of
     /// duties is above the number of drivers, and then there are no duties over the pieces of the blocks that were planned.

@@ -92,7 +92,7 @@ fn day_places(alloc: Global, net: &Network, kind: &DayKind) -> Result<Seq<u32>, 
     Ok(places)
 }
 
-/// A day's kind, and the places of its trips among the rows of REC_FRT, by departure and number.
+/// A day type, and the places of its trips among the rows of REC_FRT, by departure and number.
 #[derive(Drop)]
 struct DayPlaces {
     kind: DayKind,
@@ -129,7 +129,7 @@ fn day_of(alloc: Global, tables: &[Table], day: u32) -> Result<DayPlaces, Status
 ///
 /// # Errors
 ///
-/// `Input` with the first fault of the tables; then `Day` where the day has no kind; then `Input` with the number of trips where
+/// `Input` with the first fault of the tables; then `Day` where the day has no day type; then `Input` with the number of trips where
 /// there are more than 3,000; and `Memory`.
 pub fn trips_text(alloc: Global, tables: &[Table], day: u32) -> Result<Bytes, Status>
     requires plain { IsTrue (are_plain tables.now) }

@@ -115,7 +115,7 @@ pub const OTHER_TYPE: &[Change] = &[
     ),
 ];
 
-/// Both trips are of another kind of days.
+/// Both trips are of another day type.
 pub const NO_TRIPS: &[Change] = &[
     (
         "rec; 1; 1; 28800; 1; 1; 1; 1; \"H\"",
@@ -142,7 +142,7 @@ pub const PAST_END: &[Change] = &[(
     "rec; 1; 1; 169201; 1; 1; 1; 1; \"H\"",
 )];
 
-/// The course of the first trip has one point.
+/// The stop sequence of the first trip has one point.
 pub const SHORT: &[Change] = &[
     ("rec; 1; 2; 1; \"H\"; 1; 2\n", ""),
     ("\"R\"; 1; 1\nend; 4\n", "\"R\"; 1; 1\nend; 3\n"),

@@ -1,4 +1,4 @@
-//! Rounds of prices over a problem: the pool of columns from which a plan is made, and the prices of the greatest bound.
+//! Column generation with subgradient steps over a problem: the pool of columns for a plan, and the prices of the greatest bound.
 //!
 //! A *pass* begins at the start prices with an empty pool. In each price round the prices are offered, the columns of least value are
 //! added to the pool, and 16 price steps move the prices. In each lowering round the prices are offered, and the columns of least value

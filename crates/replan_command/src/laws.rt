@@ -15,7 +15,7 @@ pub fn replan_answers_once()
     ensures refused { (day : DayFacts) → RefusedAlone day }
 {}
 
-/// Two days that agree in their version and kind, their trips, their settings and the times of their deadheads have the same texts and causes
+/// Two days that agree in version and day type, trips, settings and times of deadheads have the same texts and causes
 /// for a refusal when they are planned anew.
 pub fn days_alike_are_replanned_alike()
     ensures texts { (one other : DayFacts) → AreAlike one other → HaveSameTexts one other }

@@ -1,4 +1,4 @@
-//! Labels of the lists of a rest, from labels of the lists that they stand for.
+//! Labels (shortest paths with resources) of a day that has begun: those of the rest, from labels of the lists that they stand for.
 //!
 //! A labelling of a problem's lists gives one of the lists of any rest of it: a head's label is made by folding the steps over its items, a
 //! head is never a next item, and a finished head has no next. The laws of the one are those of the other; so the one search by labels

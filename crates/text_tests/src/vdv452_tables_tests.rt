@@ -30,7 +30,7 @@ const TIMES: &[u8] =
 const POINTS: &[u8] =
     b"tbl; REC_ORT\natr; BASIS_VERSION; ONR_TYP_NR; ORT_NR\nfrm; num[9.0]; num[9.0]; num[9.0]\nrec; 1; 1; 10\n";
 
-/// Two variants of a line, whose courses stand in another order.
+/// Two variants of a line, whose stop sequences stand in another order.
 const LINES: &[u8] =
     b"tbl; REC_LID\natr; BASIS_VERSION; LI_NR; STR_LI_VAR; BEREICH_NR\nfrm; num[9.0]; num[9.0]; char[6]; num[9.0]\nrec; 1; 7; \"H\"; 5\nrec; 1; 7; \"R\"; 6\nend; 2\ntbl; LID_VERLAUF\natr; BASIS_VERSION; LI_LFD_NR; LI_NR; STR_LI_VAR; ONR_TYP_NR; ORT_NR\nfrm; num[9.0]; num[9.0]; num[9.0]; char[6]; num[9.0]; num[9.0]\nrec; 1; 2; 7; \"H\"; 2; 20\nrec; 1; 1; 7; \"R\"; 1; 10\nrec; 1; 1; 7; \"H\"; 1; 10\nend; 3\n";
 

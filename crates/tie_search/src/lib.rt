@@ -1,4 +1,4 @@
-//! A search for the first of many least lists: its value first, and where a list with that value ends.
+//! A shortest path with resources where many are equally short: the least value first, and then which list with that value comes first.
 //!
 //! Where many lists close with the least value, a search that tells the first of them apart keeps far more labels than one that asks for the
 //! value alone. So the value is looked for first, and the last item of a list that closes with it. Of this nothing is promised, and it

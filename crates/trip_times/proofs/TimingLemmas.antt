@@ -1,4 +1,4 @@
--- Sums that stop past the last second, and the trip over a course.
+-- Sums that stop past the last second, and the trip over a stop sequence.
 use Rattle.std.proofs.Common.{◌≡◌, ℕ, ◌+◌, ◌<◌, List, [], ◌∷◌, ◌++◌, Option, Some, None, Result, Ok, Err, cond, refl, ap, sym, subst, ◌∙◌, arith, inl, inr, unwrap_or, min}
 use Rattle.std.proofs.lemmas.Bool.Decides.{leb_tells}
 use Rattle.std.specs.Prelude.{fold, sum_by}
@@ -45,7 +45,7 @@ known_runs None seconds runs is = (refl, cc)
 known_runs (Some link) seconds runs is = absurd cc
 
 module _ (time_of : Point × Point → Option ℕ) (dwell_of : Point → ℕ) (row : TripRow) where
-  -- a course by its first point, its last point and the points between them
+  -- a stop sequence by its first point, its last point and the points between them
   by_ends : (first last : Point) (inner : List Point) → timed_on time_of dwell_of row (first ∷ (inner ++ last ∷ []))
       ≡ timed_if row (first_missing time_of (links_from first (inner ++ last ∷ []))) first last
       (run_seconds_of time_of (links_from first (inner ++ last ∷ [])) + sum_by dwell_of inner)

@@ -49,7 +49,7 @@ abbrev pub timed_if : TripRow → Option (Point × Point) → Point → Point �
 timed_if row (Some link) from to seconds = Err (NoRunTime link.0 link.1)
 timed_if row None from to seconds = ended row from to seconds
 
--- by the course: the trip takes the run times of its sections, and stands at the points between the first and the last
+-- by the stop sequence: the trip takes the run times of its sections, and stands at the points between the first and the last
 abbrev pub timed_on : (Point × Point → Option ℕ) → (Point → ℕ) → TripRow → List Point → Result Trip TripFault
 timed_on time_of dwell_of row [] = Err ShortRoute
 timed_on time_of dwell_of row (first ∷ []) = Err ShortRoute

@@ -93,7 +93,7 @@ fn timely_trip(row: &TripRow, from: Point, to: Point, seconds: u32) -> Result<Tr
     }
 }
 
-/// The trip over the points of a course.
+/// The trip over the points of a stop sequence.
 fn time_course(
     net: &Network,
     version: u32,
@@ -127,7 +127,7 @@ fn time_course(
 /// section, and at a point that is passed twice it stands twice. It takes no memory.
 ///
 /// Of the faults the first one counts: NoRoute where REC_LID has no row of the trip's line and
-/// variant; ShortRoute where its course has fewer than two points; NoRunTime for the first section
+/// variant; ShortRoute where its stop sequence has fewer than two points; NoRunTime for the first section
 /// without a run time; PastEnd where the trip ends after 172,800, as each does that begins after it.
 pub fn time_trip(net: &Network, version: u32, row: &TripRow) -> Result<Trip, TripFault>
     ensures timed { result ≡ timed net.now version row.now }

@@ -10,11 +10,11 @@ pub struct Trip {
     pub fid: u64,
     /// LI_NR.
     pub line: u32,
-    /// The first point of its course.
+    /// The first point of its stop sequence.
     pub from: Point,
     /// The departure at the first point (FRT_START), from 0 to 172,800.
     pub begin: Sec,
-    /// The last point of its course.
+    /// The last point of its stop sequence.
     pub to: Point,
     /// The arrival at the last point, from the departure to 172,800.
     pub end: Sec,
@@ -26,11 +26,11 @@ pub enum TripFault {
     /// REC_LID has no row of the trip's line and variant.
     #[error("the line's variant has no row")]
     NoRoute,
-    /// The course has fewer than two points.
-    #[error("the course is too short")]
+    /// The stop sequence has fewer than two points.
+    #[error("the stop sequence is too short")]
     ShortRoute,
-    /// SEL_FZT_FELD has no row of this section; it is the first such one of the course.
-    #[error("a link has no run time")]
+    /// SEL_FZT_FELD has no row of this section; it is the first such one of the stop sequence.
+    #[error("a section has no run time")]
     NoRunTime {
         /// Where the section begins.
         from: Point,

@@ -29,7 +29,7 @@ block_columns =
     codes "BASIS_VERSION" ∷ codes "TAGESART_NR" ∷ codes "UM_UID" ∷ codes "ANF_ORT" ∷ codes "ANF_ONR_TYP" ∷ codes "END_ORT"
     ∷ codes "END_ONR_TYP" ∷ codes "FZG_TYP_NR" ∷ []
 
--- the version and kind of the day, the number of the block, where it begins and ends: at its pool's depot, and the type of its vehicle
+-- the version and day type of the day, the number of the block, where it begins and ends: at its pool's depot, and the type of its vehicle
 abbrev pub block_numbers : DayFacts → ℕ → Pool → List (Option ℕ)
 block_numbers day number pool =
     Some day.kind.version ∷ Some day.kind.kind ∷ Some number ∷ Some pool.depot.nr ∷ Some pool.depot.typ ∷ Some pool.depot.nr

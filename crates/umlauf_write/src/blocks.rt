@@ -81,7 +81,7 @@ fn cost_rows(alloc: Global, day: &Day, blocks: &[Column]) -> Result<Seq<Seq<Fiel
     Ok(rows)
 }
 
-/// The table REC_UMLAUF of blocks: for each the version and kind of the day, its number from 1, the points where it begins and ends,
+/// The table REC_UMLAUF of blocks: for each the version and day type of the day, its number from 1, the points where it begins and ends,
 /// and the type of its vehicle.
 pub(crate) fn block_table(alloc: Global, day: &Day, blocks: &[Column]) -> Result<Table, Memory>
     requires few { length blocks.now ≤ most_items }

@@ -52,7 +52,7 @@ pub fn block_tables(
 
 /// The seven tables of an answer, in this order. Blocks, duties, the legs of a block and the pieces of a duty are numbered from 1.
 ///
-/// - REC_UMLAUF has the blocks: the version and kind of the day, the block's number (UM_UID), where it begins and ends, and the type of
+/// - REC_UMLAUF has the blocks: the version and day type of the day, the block's number (UM_UID), where it begins and ends, and the type of
 ///   its vehicle.
 /// - REC_FRT has the trips of the day by number, as `rec_frt` has them but for UM_UID, which has the numbers of their blocks.
 /// - X_UMLAUF has each block's pool (HOF_NR) and cost (KOSTEN).

@@ -23,7 +23,7 @@ pub struct VersionRow {
     pub version: u32,
 }
 
-/// The kind of a day in a version (FIRMENKALENDER).
+/// The day type of a day in a version (FIRMENKALENDER).
 #[derive(Clone, Copy, Debug, PartialEq, Eq)]
 pub struct CalendarRow {
     /// BASIS_VERSION.

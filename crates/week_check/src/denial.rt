@@ -57,7 +57,7 @@ fn put_in_order(found: &mut Vec<Denial>) -> Result<(), Memory>
 /// - 63, article 6(3): two neighbouring weeks, each with a duty, with more than 90 hours of driving.
 /// - 82, article 8(2): a duty whose rest is under nine hours. The gap after a duty is the time up to
 ///   the driver's next duty, and 24 hours after the last one; the rest is what of the gap lies
-///   within 24 hours from the duty's begin.
+///   within 24 hours from the duty's start.
 /// - 84, article 8(4): a duty with a reduced rest where since the last weekly rest at least three
 ///   duties of the driver had one. A weekly rest is a gap of at least 24 hours (article 4(h)). A
 ///   reduced rest has at least nine and under eleven hours, is no weekly rest, and its duty had no

@@ -9,7 +9,7 @@ pub(crate) struct Rest {
     pub next: u32,
     /// The seconds up to the driver's next duty, or 86,400 after the last.
     pub gap: i64,
-    /// The seconds of the gap that lie within the 24 hours from the duty's begin; below 0 where the
+    /// The seconds of the gap that lie within the 24 hours from the duty's start; below 0 where the
     /// next duty begins before this one ends.
     pub length: i64,
     /// Whether the duty had a pause of at least three hours, the first part of a split rest.

@@ -44,7 +44,7 @@ fn next_day(turn: &Turn, later: &[Turn]) -> u32
     }
 }
 
-/// The part of a gap that lies within the 24 hours from a duty's begin.
+/// The part of a gap that lies within the 24 hours from a duty's start.
 fn within_day(turn: &Turn, gap: i64) -> i64
     requires { duties.IsTurn turn.now }
     ensures { result ≡ int_min gap (pos 86400 -ℤ (turn.now.end -ℤ turn.now.begin)) }

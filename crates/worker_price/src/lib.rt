@@ -1,4 +1,4 @@
-//! Pricing by several workers at one board.
+//! Pricing in parallel (column generation): several workers at one board find the columns of least reduced cost, the same for any number.
 //!
 //! A *task* is a class with one of the groups of 16 first items. Workers claim tasks, and price each under a limit: of a class whose
 //! least value so far is known, a first least is looked for only where its value is below 0 and twice it is at most that value.

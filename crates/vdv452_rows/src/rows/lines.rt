@@ -1,4 +1,4 @@
-//! Rows of lines and of their courses.
+//! Rows of lines and of their stop sequences.
 
 ghost use Rattle.vdv452_rows.specs.TypedRows as typed_rows;
 
@@ -20,12 +20,12 @@ pub struct LineRow {
     pub area: u32,
 }
 
-/// A point in the course of a variant of a line (LID_VERLAUF).
+/// A point in the stop sequence of a variant of a line (LID_VERLAUF).
 #[derive(Drop)]
 pub struct StopRow {
     /// BASIS_VERSION.
     pub version: u32,
-    /// LI_LFD_NR, the number by which the points of a course are in order.
+    /// LI_LFD_NR, the number by which the points of a stop sequence are in order.
     pub number: u32,
     /// LI_NR.
     pub line: u32,

@@ -7,7 +7,7 @@ use crate::cell::Cell;
 use plan_core::{Memory, Point};
 use std::alloc::Global;
 
-/// A section between neighbouring points of courses, and its length (REC_SEL).
+/// A section between neighbouring points of stop sequences, and its length (REC_SEL).
 #[derive(Clone, Copy)]
 pub struct SectionRow {
     /// BASIS_VERSION.

@@ -18,7 +18,7 @@ pub fn versions(alloc: Global) -> Result<Schema, Memory>
     needed_table(alloc, b"BASIS_VER_GUELTIGKEIT", &outlines)
 }
 
-/// FIRMENKALENDER: the kind of each day.
+/// FIRMENKALENDER: the day type of each day.
 pub fn days(alloc: Global) -> Result<Schema, Memory>
     ensures { IfOk result (λ found. found ≡ schema.days) }
 {
@@ -112,7 +112,7 @@ pub fn lines(alloc: Global) -> Result<Schema, Memory>
     needed_table(alloc, b"REC_LID", &outlines)
 }
 
-/// LID_VERLAUF: the courses of the variants.
+/// LID_VERLAUF: the stop sequences of the variants.
 pub fn stops(alloc: Global) -> Result<Schema, Memory>
     ensures { IfOk result (λ found. found ≡ schema.stops) }
 {

@@ -5,7 +5,7 @@ use Rattle.day_model.specs.Building.{IsDayOf}
 use Rattle.day_model.specs.Facts.{DayFacts}
 use Rattle.day_tests.proofs.day_tables_tests.day_text.Goals as goal
 
--- a day of a kind is one of its own kind
+-- a day of a day type is one of its own day type
 own_kind : (net : Net) (kind : DayKind) (day : DayFacts) → IsDayOf net kind day → IsDayOf net day.kind day
 own_kind net kind day is =
     let P : DayKind → Type 0 = λ k. IsDayOf net k day in
