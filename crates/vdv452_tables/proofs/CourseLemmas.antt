@@ -1,4 +1,4 @@
--- One row more in the courses.
+-- One row more in the stop sequences.
 use Rattle.std.proofs.Common.{◌≡◌, Bool, true, false, cond, if◌then◌else◌, List, [], ◌∷◌, ◌++◌, Option, Some, map, filter, refl, sym, ap, ◌∙◌, append_assoc}
 use Rattle.std.proofs.lemmas.List.{append-nil}
 use Rattle.indexmap.specs.IndexMap.{IndexMap, get}
@@ -33,7 +33,7 @@ grouped old new row rows rest whole at grows so_far key =
     ∙ ap (λ rs. course_or_none (get line_key_eq old key) ++ points_of key rs) (sym at)
     ∙ so_far key
 
--- a course that is taken out and put back with a point more
+-- a stop sequence that is taken out and put back with a point more
 pub course_grows : (row : StopRow) (key : LineKey) (course : List Point) (old mid new : Option (List Point)) (at_row : List Point)
     (b : Bool) → line_key_eq (stop_key_of row) key ≡ b
     → course ≡ at_row ++ row.at ∷ [] → (line_key_eq (stop_key_of row) key ≡ true → at_row ≡ course_or_none old) →

@@ -1,4 +1,4 @@
--- A course has no more points than there are rows.
+-- A stop sequence has no more points than there are rows.
 use Rattle.std.proofs.Common.{◌≡◌, ℕ, ◌<◌, ◌≤◌, ◌^◌, Bool, true, false, if◌then◌else◌, List, [], ◌∷◌, length, map, filter, nat_lt, refl, ap, ◌∙◌, arith, suc}
 use Rattle.vdv452_tables.specs.Calendar.{Net}
 use Rattle.vdv452_tables.specs.declared.keys.LineKey.{LineKey}

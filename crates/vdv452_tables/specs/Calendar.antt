@@ -1,4 +1,4 @@
--- Promise: the rows of a network, and the version and the kind of a day.
+-- Promise: the rows of a network, and the version and the day type of a day.
 use Rattle.std.specs.Prelude.{◌≡◌, ◌≤◌, ℕ, All, Contains, ◌==◌, ◌&&◌, nat_le, nat_lt, List, [], ◌∷◌, ◌++◌, Option, Some, None, if◌then◌else◌, filter}
 use Rattle.std.specs.Option.{option_map}
 use Rattle.std.specs.List.{find}
@@ -136,7 +136,7 @@ pub record IsInForce (rows : List VersionRow) (day version : ℕ) : Type 0 where
   pub has_begun : row.day ≤ day
   pub is_latest : All (λ other. other.day ≤ day → other.day ≤ row.day) rows
 
--- the kind of a day is that of the row of the version and the day
+-- the day type of a day is that of the row of the version and the day
 abbrev pub kind_in : List CalendarRow → ℕ → ℕ → Option ℕ
 kind_in rows version day = option_map (λ row. row.kind) (find (λ row. (row.version == version) && (row.day == day)) rows)
 

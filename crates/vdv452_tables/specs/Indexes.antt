@@ -11,9 +11,9 @@ use Rattle.vdv452_tables.specs.declared.indexes.Moves.{Moves}
 use Rattle.vdv452_tables.specs.declared.indexes.Places.{Places}
 use Rattle.vdv452_tables.specs.declared.net.Net.{Net}
 use Rattle.vdv452_tables.specs.LookUps.{in_order, points_of}
-use Rattle.vdv452_tables.specs.Keys.{IsIndex, day_key_eq, day_key_of, point_key_eq, point_key_of, type_key_eq, type_key_of, section_key_eq, section_key_of, move_key_eq, run_key_of, dead_key_of, group_dwell_key_eq, group_dwell_key_of, trip_dwell_key_eq, trip_dwell_key_of, line_key_eq, line_key_of}
+use Rattle.vdv452_tables.specs.Keys.{IsIndex, day_key_eq, day_key_of, point_key_eq, point_key_of, type_key_eq, type_key_of, section_key_eq, section_key_of, move_key_eq, run_key_of, group_dwell_key_eq, group_dwell_key_of, trip_dwell_key_eq, trip_dwell_key_of, line_key_eq, line_key_of}
 
--- what an index of courses gives at a key that may be absent
+-- what an index of stop sequences gives at a key that may be absent
 abbrev pub course_or_none : Option (List Point) → List Point
 course_or_none None = []
 course_or_none (Some course) = course
@@ -22,7 +22,7 @@ course_or_none (Some course) = course
 abbrev pub AreCourses : {S : Type 0} → List StopRow → IndexMap LineKey (List Point) S → Type 0
 AreCourses rows courses = (key : LineKey) → course_or_none (get line_key_eq courses key) ≡ points_of key rows
 
--- a row's point comes to the end of the course of its key, and the other courses stay
+-- a row's point comes to the end of the stop sequence of its key, and the other stop sequences stay
 abbrev pub CourseGrows : {S : Type 0} → StopRow → IndexMap LineKey (List Point) S → IndexMap LineKey (List Point) S → Type 0
 CourseGrows row old new =
     (key : LineKey) → course_or_none (get line_key_eq new key) ≡ course_or_none (get line_key_eq old key) ++ points_of key (row ∷ [])
@@ -39,7 +39,6 @@ pub record AreLines (net : Net) (lines : Lines) : Type 0 where
 pub record AreMoves (net : Net) (moves : Moves) : Type 0 where
   pub lengths : IsIndex section_key_eq section_key_of (λ row. row.length) net.sections moves.lengths
   pub runs : IsIndex move_key_eq run_key_of (λ row. row.time) net.runs moves.runs
-  pub deads : IsIndex move_key_eq dead_key_of (λ row. row.time) net.deads moves.deads
 
 pub record AreDwells (net : Net) (dwells : Dwells) : Type 0 where
   pub groups : IsIndex group_dwell_key_eq group_dwell_key_of (λ row. row.time) net.group_dwells dwells.groups

@@ -69,7 +69,7 @@ points_of key rows = map (λ row. row.at) (filter (λ row. line_key_eq (stop_key
 abbrev pub course_on : Net → ℕ → ℕ → List ℕ → List Point
 course_on net version line variant = points_of (named version line variant) (in_order net.stops)
 
--- the sections of a course that begins at a point: each pair of neighbouring points
+-- the sections of a stop sequence that begins at a point: each pair of neighbouring points
 abbrev pub links_from : Point → List Point → List (Point × Point)
 links_from from [] = []
 links_from from (to ∷ course) = (from, to) ∷ links_from to course

@@ -1,4 +1,4 @@
-//! The courses of lines.
+//! The stop sequences of lines.
 
 ghost use Rattle.std.specs.Prelude.{◌≡◌, false, IfOk, OnOk};
 ghost use Rattle.indexmap.specs.IndexMap.{get};
@@ -44,7 +44,7 @@ fn ordered_stops(alloc: Global, rows: &[StopRow]) -> Result<Vec<StopRow>, Memory
     Ok(ordered)
 }
 
-/// The course of a row's key, without its place in the index; an empty one where there is none.
+/// The stop sequence of a row's key, without its place in the index; an empty one where there is none.
 fn taken_course(
     alloc: Global,
     courses: &mut IndexMap<LineKey, Seq<Point>>,
@@ -64,7 +64,7 @@ fn taken_course(
     }
 }
 
-/// Puts a row's point at the end of the course of its key.
+/// Puts a row's point at the end of the stop sequence of its key.
 fn add_stop(
     alloc: Global,
     courses: &mut IndexMap<LineKey, Seq<Point>>,
@@ -94,7 +94,7 @@ fn grouped_stops(alloc: Global, rows: &[StopRow]) -> Result<IndexMap<LineKey, Se
     Ok(courses)
 }
 
-/// The courses of lines by their keys.
+/// The stop sequences of lines by their keys.
 pub(crate) fn courses_of(
     alloc: Global,
     rows: &[StopRow],

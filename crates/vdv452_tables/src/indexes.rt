@@ -26,7 +26,6 @@ pub(crate) struct Lines {
 pub(crate) struct Moves {
     pub lengths: IndexMap<SectionKey, Option<u32>>,
     pub runs: IndexMap<MoveKey, u32>,
-    pub deads: IndexMap<MoveKey, u32>,
 }
 
 /// How long trips stand, by the keys of groups and of trips.

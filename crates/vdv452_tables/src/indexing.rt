@@ -36,12 +36,7 @@ fn moves_of(alloc: Global, rows: &Net) -> Result<Moves, Memory>
 {
     let lengths = index_of(alloc, rows.sections.as_slice())?;
     let runs = index_of(alloc, rows.runs.as_slice())?;
-    let deads = index_of(alloc, rows.deads.as_slice())?;
-    Ok(Moves {
-        lengths,
-        runs,
-        deads,
-    })
+    Ok(Moves { lengths, runs })
 }
 
 fn dwells_of(alloc: Global, rows: &Net) -> Result<Dwells, Memory>

@@ -10,7 +10,7 @@ use plan_core::{Bytes, Memory, Point};
 use std::alloc::Global;
 use std::hash::Hash;
 use vdv452_rows::{
-    CalendarRow, DeadRow, GroupDwellRow, LineRow, PointRow, RunRow, SectionRow, TripDwellRow,
+    CalendarRow, GroupDwellRow, LineRow, PointRow, RunRow, SectionRow, TripDwellRow,
     TypeRow, bytes_of,
 };
 
@@ -85,7 +85,7 @@ pub(crate) struct TripDwellKey {
     pub at: Point,
 }
 
-/// The key of a variant of a line in REC_LID, and of a course in LID_VERLAUF.
+/// The key of a variant of a line in REC_LID, and of a stop sequence in LID_VERLAUF.
 #[derive(PartialEq, Eq, Hash, Drop)]
 pub(crate) struct LineKey {
     pub version: u32,
@@ -184,17 +184,6 @@ impl KeyedRow<SectionKey, Option<u32>> for SectionRow {
 
 impl KeyedRow<MoveKey, u32> for RunRow {
     ghost key_of = { keys.run_key_of };
-
-    ghost value_of = { λ row. row.time };
-
-    fn entry(&self, _alloc: Global) -> Result<(MoveKey, u32), Memory> {
-        let key = MoveKey::new(self.version, self.area, self.group, self.from, self.to);
-        Ok((key, self.time))
-    }
-}
-
-impl KeyedRow<MoveKey, u32> for DeadRow {
-    ghost key_of = { keys.dead_key_of };
 
     ghost value_of = { λ row. row.time };
 

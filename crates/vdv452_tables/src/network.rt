@@ -5,7 +5,7 @@ ghost use Rattle.std.specs.Option.{option_copied, option_map};
 ghost use Rattle.vdv452_tables.specs.Calendar.{IsInForce, begun, kind_on, later as later_row, latest, version_on};
 ghost use Rattle.indexmap.specs.IndexMap.{get};
 ghost use Rattle.vdv452_tables.specs.Indexes.{course_or_none};
-ghost use Rattle.vdv452_tables.specs.Keys.{line_key_eq, named};
+ghost use Rattle.vdv452_tables.specs.Keys.{dead_key_of, line_key_eq, move_key_eq, named, value_at};
 ghost use Rattle.vdv452_tables.specs.LookUps.{area_on, course_on, dead_time_on, extra_of, group_dwell_on, has_point_on, has_type_on, known, length_on, run_time_on, trip_dwell_on};
 ghost use Rattle.vdv452_tables.specs.Ranges.{Fits, HasRanges, IsLength, IsTime, columns_named};
 
@@ -90,6 +90,18 @@ fn course_in<'l>(lines: &'l Lines, name: LineName<'_>) -> &'l [Point]
         Some(course) => course.as_slice(),
         None => &[],
     }
+}
+
+/// The time of the first row of UEB_FZT with a key.
+fn dead_time_in(rows: &[DeadRow], key: MoveKey) -> Option<u32>
+    ensures { result ≡ value_at move_key_eq dead_key_of (λ row. row.time) rows.now key }
+{
+    for row in rows {
+        if MoveKey::new(row.version, row.area, row.group, row.from, row.to) == key {
+            return Some(row.time);
+        }
+    }
+    None
 }
 
 impl Network {
@@ -222,7 +234,7 @@ impl Network {
 
     /// UEB_FAHRZEIT in seconds, of the row of UEB_FZT with this version, area, group of run times
     /// and points: the time of a move without passengers. None without such a row. It takes no
-    /// memory.
+    /// memory, and as much time as the table has rows: who asks often makes `Deadheads` of them.
     pub fn dead_time(
         &self,
         version: u32,
@@ -235,7 +247,7 @@ impl Network {
         ensures range { IfSome result IsTime }
     {
         let key = MoveKey::new(version, area, group, from, to);
-        self.indexes.moves.deads.get(&key).copied()
+        dead_time_in(self.rows.deads.as_slice(), key)
     }
 
     /// All rows of UEB_FZT in their order, those of other versions too. It takes no memory.

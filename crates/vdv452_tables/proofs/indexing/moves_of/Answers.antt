@@ -4,5 +4,4 @@ pub returns : goal.returns
 returns c = record {
   lengths = rw c.as_slice.ensures at c.in_ok-lengths.ensures;
   runs = rw c.as_slice-2.ensures at c.in_ok-runs.ensures;
-  deads = rw c.as_slice-3.ensures at c.in_ok-deads.ensures;
 }

@@ -7,8 +7,7 @@ use Rattle.vdv452_tables.proofs.LookUpLemmas.{found_all}
 use Rattle.vdv452_tables.proofs.network.Network.dead_time.Goals as goal
 
 pub returns-clause-value : goal.returns-clause-value
-returns-clause-value c = c.copied.ensures ∙ (rw (c.deref.ensures, c.new-key.ensures) at c.get.ensures.value)
-    ∙ c.self.invariant.0.moves.deads (move_key c.args.version c.args.area c.args.group c.args.from c.args.to)
+returns-clause-value c = (rw (c.as_slice.ensures, c.new-key.ensures) at c.dead_time_in.ensures)
     ∙ ap (λ (n : Net). dead_time_on n c.args.version c.args.area c.args.group c.args.from c.args.to) c.self.view_is
 
 pub returns-clause-range : goal.returns-clause-range
