@@ -21,7 +21,10 @@ use Rattle.vdv451_text.proofs.FieldsBack.{name_reads, format_reads, field_reads}
 use Rattle.vdv451_text.proofs.Spelling.{run_append, run_table, eof_step, run_spells, spells_run}
 use Rattle.vdv451_text.proofs.Good.{map_append, kept_all}
 
--- The lines of the text.
+-- The lines of the text, as a list without line ends: those of the header, of each table, and `eof`. `text` is defined as one list
+-- of bytes, while the grammar reads lines; this list stands between the two. The file shows that the text is these lines with CR LF
+-- behind each (`text_ended`), that cutting the text gives them again (`cut_lines`), and that reading them ends with the tables
+-- (`body_runs`); from these three follows `text_back`, the promise that what is written is read back.
 abbrev header_lines : List (List ℕ)
 header_lines =
     (codes "mod" ++ spaced (codes "DD.MM.YYYY" ∷ codes "HH:MM:SS" ∷ codes "free" ∷ []))
@@ -105,11 +108,16 @@ tables_ended (table ∷ tables) = ap (λ (t : List ℕ). t ++ flat_map (table_te
     ∙ ap (λ (t : List ℕ). ended_lines (table_lines table) ++ t) (tables_ended tables)
     ∙ sym (ended_append (table_lines table) (tables_lines tables))
 
+-- The bytes of the text are its lines, each with CR LF behind it. `text` sets the line ends row by row and table by table, so each
+-- of the levels above is an induction on its own list, and `ended_append` puts the lines of one level before those of the next.
+-- From here on it suffices to speak of lines.
 text_ended : (tables : List Table) → text tables ≡ ended_lines (text_lines tables)
 text_ended tables = ap (λ (t : List ℕ). header_text crlf ++ (t ++ (eof_bytes tables ++ crlf))) (tables_ended tables)
     ∙ sym (ap (λ (t : List ℕ). ended_lines header_lines ++ t) (ended_append (tables_lines tables) (eof_bytes tables ∷ [])))
 
--- Lines without a line end in them are cut again where they end.
+-- Lines without a line end in them are cut again where they end: going through the bytes of a line no LF stops the cut before the
+-- line's own (`cut_line`), and of what is cut the CR is the last byte, which goes (`return_goes`); a CR within a text stays. This
+-- is where it counts that plain tables have no LF in any field, and why each lemma below also says that its line has none.
 return_goes : (line : List ℕ) → without_return (line ++ 13 ∷ []) ≡ line
 return_goes [] = refl
 return_goes (b ∷ []) = refl
@@ -144,6 +152,9 @@ pub record RightTable (table : Table) : Type 0 where
 number_read : (n : ℕ) → n < 10 ^ 18 → AllRead (decimal n ∷ []) (Bare (decimal n) ∷ [])
 number_read n h = (bare_reads (decimal n) (decimal_bare n (omega arith)), tt)
 
+-- The names of plain columns, written and read: each is one bare field that gives the name, already in capitals, and reading drops
+-- none of them. A last field with nothing in it would be dropped, and a plain name is not empty; as `without_void` looks at the
+-- last field alone, the induction goes by one column and by two or more.
 names_read : (columns : List Head) → list_all is_plain_column columns ≡ true →
     AllRead (names_in columns) (map (λ (c : Head). Bare c.name) columns)
     × (all_some (map name_of (map (λ (c : Head). Bare c.name) columns)) ≡ Some (names_in columns))
@@ -167,6 +178,8 @@ names_read (c ∷ d ∷ columns) h =
         all_some os ≡ Some xs → all_some (o ∷ os) ≡ Some (x ∷ xs)
     all_some_more o x os xs e h = rw (e, h) refl
 
+-- The same of the formats: each is one bare field that gives the format. There are as many fields as columns, so that none is one
+-- too many and reading drops none.
 formats_read : (columns : List Head) → list_all is_plain_column columns ≡ true →
     AllRead (formats_in columns) (map (λ (c : Head). Bare c.format) columns)
     × (all_some (map format_of (map (λ (c : Head). Bare c.format) columns)) ≡ Some (formats_in columns))
@@ -193,6 +206,9 @@ record RowRead (columns : List Head) (row : List Field) : Type 0 where
   values : values_of columns pieces ≡ Some row
   many : length pieces ≡ length columns
 
+-- The fields of a plain row, written and read, are one piece for each column, and the value of each piece in its column is the
+-- field (`field_reads`, which has the cases: number, text, raw bytes, empty). By induction on columns and fields together; the
+-- number of pieces is kept in the statement because the grammar drops a void last field only where there is one more than columns.
 row_read : (columns : List Head) (row : List Field) → length columns ≡ length row →
     list_all (λ pair. is_plain_field pair.0 pair.1) (zip columns row) ≡ true → list_all is_sized_field row ≡ true → RowRead columns row
 row_read [] [] l h s = record { pieces = []; read = tt; values = refl; many = refl }
@@ -211,6 +227,8 @@ row_read (c ∷ columns) (v ∷ row) l h s =
       many = ap suc ih.many;
     }
 
+-- A row's line spells the row: `fields_behind` turns the pieces that fields are read as into the fields of the line, `rec_line`
+-- gives the keyword back, and with as many pieces as columns none is dropped (`kept_all`).
 row_spelled : (columns : List Head) (row : List Field) → is_plain_row columns row ≡ true → list_all is_sized_field row ≡ true →
     SpellsRow columns (line_of (row_line row)) row × (has_no_feed (row_line row) ≡ true)
 row_spelled columns row h s =
@@ -286,6 +304,9 @@ formats_spelled columns h =
       no_feed_spaced (codes "frm") (formats_in columns) pieces refl n.0,
     )
 
+-- The lines of a plain table spell it, and none has a line end in it: `tbl`, `atr` and `frm` by the lemmas above, the rows one by
+-- one, and `end` because the decimal digits of the number of rows are read as this number. There the size counts: a count is at
+-- most 18 digits, so rows must be fewer than 10 ^ 18. All that the machine must know of a table it takes from here.
 table_right : (table : Table) → is_plain_table table ≡ true → is_sized_table table ≡ true → RightTable table
 table_right table h s =
     let w = both_true (is_plain_name table.name) (are_plain_columns table.columns && list_all (is_plain_row table.columns) table.rows) h in
@@ -325,6 +346,9 @@ table_right table h s =
         list_all has_no_feed xs ≡ true → list_all has_no_feed (a ∷ b ∷ c ∷ xs) ≡ true
     four_clean a b c xs p q r s = rw (p, q, r, s) refl
 
+-- Where some tables have been read, reading the lines of further plain tables adds just these. The statement is about any tables
+-- `ts` read before, since the induction moves each table read over to them; each step is `run_table`, by which the machine goes
+-- through the lines that spell one table.
 tables_run : (ts tables : List Table) → list_all is_plain_table tables ≡ true → list_all is_sized_table tables ≡ true →
     (run (Open true ts) (map line_of (tables_lines tables)) ≡ Ok (Open true (ts ++ tables)))
     × (list_all has_no_feed (tables_lines tables) ≡ true)
@@ -342,6 +366,8 @@ tables_run ts (t ∷ tables) h s =
       no_feed_append (table_lines t) (tables_lines tables) r.no_feed ih.1,
     )
 
+-- The same from the start of a text. There the machine does not yet stand behind a table, and with no table at all it never does;
+-- the truth value `b` says whether there was one, and for the `eof` behind it either will do.
 all_run : (tables : List Table) → list_all is_plain_table tables ≡ true → list_all is_sized_table tables ≡ true →
     (b : Bool) × (run start (map line_of (tables_lines tables)) ≡ Ok (Open b tables)) × (list_all has_no_feed (tables_lines tables) ≡ true)
 all_run [] h s = (false, refl, refl)
@@ -361,6 +387,8 @@ all_run (t ∷ tables) h s =
 header_runs : run start (map line_of header_lines) ≡ Ok start
 header_runs = refl
 
+-- All lines behind the header end with the tables: the tables' lines by `all_run`, and then `eof`, whose number is that of the
+-- tables. Of both the file carries along that they have no line end, which `lines_again` needs for the cut.
 body_runs : (tables : List Table) → are_plain tables ≡ true → are_sized tables ≡ true →
     (run start (map line_of (tables_lines tables ++ eof_bytes tables ∷ [])) ≡ Ok (Ended tables))
     × (list_all has_no_feed (tables_lines tables ++ eof_bytes tables ∷ []) ≡ true)
@@ -386,7 +414,11 @@ lines_again : (tables : List Table) → are_plain tables ≡ true → are_sized 
 lines_again tables h s =
     ap (λ (t : List ℕ). map without_return (cut_at_feeds t)) (text_ended tables) ∙ cut_lines (text_lines tables) (body_runs tables h s).1
 
--- What is written is read back.
+-- What is written is read back: the text of plain tables of a size that a text can say spells these tables, which is the clause
+-- `back` of `write_tables`. The text is cut into its lines again (`lines_again`); the machine passes over the header's lines, which
+-- hold no table, and ends with the tables (`body_runs`); and what the machine ends with is spelled (`run_spells`). It goes by the
+-- machine because a run over lines put together is the runs one after another, while the grammar would need the parts to be found
+-- anew.
 pub text_back : (tables : List Table) → are_plain tables ≡ true → are_sized tables ≡ true → Spells (lines_of (text tables)) tables
 text_back tables h s =
     let body = tables_lines tables ++ eof_bytes tables ∷ [] in
@@ -400,7 +432,9 @@ pub back_clause : {E : Type 0} (tables : List Table) (r : Result (List ℕ) E) �
 back_clause tables (Ok bytes) e h s = subst (λ b. Spells (lines_of b) tables) (sym e) (text_back tables h s)
 back_clause tables (Err x) e h s = tt
 
--- Lines spell at most one list of tables.
+-- Lines spell at most one list of tables: whatever they spell, the machine ends with it (`spells_run`), and the machine has one
+-- end. So the clauses `only` and `one` of `write_tables` follow from `back`: other tables that the bytes spell, or plain ones whose
+-- text they are and which they therefore spell too, are the tables that were written.
 spelled_once : (lines : List (List ℕ)) (tables others : List Table) → Spells lines tables → Spells lines others → others ≡ tables
 spelled_once lines tables others a b = let p = spells_run lines tables a in let q = spells_run lines others b in cc (p, q)
 
