@@ -19,7 +19,10 @@ and_true : (t : Bool) → t ≡ (t && true)
 and_true true = refl
 and_true false = refl
 
--- kinds whose last field is as the others
+-- Kinds whose last field is as the others. This file is about lines with more fields than may stand there: the code keeps none of
+-- the further ones, but looks at each and answers the first of two kinds, a wrong field before a wrong number. The definition tests
+-- all fields and then counts them, so the kinds are the same if "all right" says the same to both, which this is for names, formats
+-- and counts.
 right_all : (kind : FieldKind) → ((p : Piece) → may_end kind p ≡ may_stand kind p) → (ps : List Piece) →
     all_right kind ps ≡ list_all (may_stand kind) ps
 right_all kind same [] = refl
@@ -41,6 +44,9 @@ tbl_crowd rest x fault e = elim (few_fault kind_of.Name 1 (fields_of rest) fault
 ]
 
 -- `atr`
+-- Among column names the last field may have nothing in it, and the definition drops such a field before it tests the others; so
+-- both say the same. One field at most is dropped, so with more than 201 of them there are still more than 200 names, which is the
+-- wrong number.
 columns_right : (ps : List Piece) → all_right kind_of.ColumnName ps ≡ list_all (may_stand kind_of.ColumnName) (without_void ps)
 columns_right [] = refl
 columns_right (p ∷ []) = by_test (is_void p) where
@@ -72,7 +78,8 @@ atr_crowd rest x fault e = elim (few_fault kind_of.ColumnName 201 (fields_of res
       rw (s, f, names, low, high) refl
 ]
 
--- `frm`
+-- `frm`: with at least two fields more than columns none is dropped, since a last field with nothing in it is only where there is
+-- one too many; so the definition tests the same fields as the code, and their number is wrong.
 all_kept : (c : ℕ) (ps : List Piece) → c + 1 < length ps → at_most_one_void c ps ≡ ps
 all_kept c ps l = let other : (length ps == c + 1) ≡ false = grind (arith, nat_tests) in rw other refl
 

@@ -112,6 +112,10 @@ right_behind kind (b ∷ c ∷ before) p ps = ap (λ t. may_stand kind b && t) (
 abbrev failed : TextKind → Result (List Piece) TextKind
 failed kind = Err kind
 
+-- Where as many fields as may stand were kept and something follows, the answer is the kind of fault alone, and it depends on the
+-- kept fields and on what is left: behind a separator stands at least one field (`some_field`), so there are too many, and whether
+-- all are right is whether the kept ones are and the others are. So the code need not keep more fields than may stand, however long
+-- the line is.
 pub too_many : (kind : FieldKind) (most : ℕ) (whole : Option (List Piece)) (before : List Piece) (left : Option (List ℕ)) (bytes : List ℕ)
     → whole ≡ option_map (λ more. before ++ more) (fields_of left) → left ≡ Some bytes → most ≤ length before →
     few_of kind most whole ≡ Err (crowd_behind kind before (fields_of left))

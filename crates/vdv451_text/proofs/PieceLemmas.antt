@@ -84,6 +84,10 @@ whole_is_only None = refl
 whole_is_only (Some (text, [])) = refl
 whole_is_only (Some (text, c ∷ bytes)) = refl
 
+-- Reading a quoted text byte by byte, with one truth value for a quote right before, gives the text that `closed_text` finds where
+-- nothing stands behind its closing quote, and else nothing. By induction, with two bytes at once at a doubled quote, since
+-- `closed_text` takes these together. So the code's loop, which keeps the text so far and that truth value, reads a quoted field as
+-- the definition does.
 text_is_whole : (bytes : List ℕ) → text_after false bytes ≡ whole_text (closed_text bytes)
 text_is_whole [] = refl
 text_is_whole (b ∷ []) =

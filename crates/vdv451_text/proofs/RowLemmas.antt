@@ -81,6 +81,10 @@ one_kept columns column p (q ∷ ps) =
       by_test true = refl
       by_test false = refl
 
+-- Values taken column by column are those of the definition, which drops a last void field where there is one too many, counts, and
+-- takes all values at once. By induction on columns and pieces: one column and one piece less leaves the difference of their
+-- numbers as it was (`one_kept`), and behind the last column only one void field may be left. So the code makes a row without
+-- holding its pieces.
 row_counted : (columns : List Head) (ps : List Piece) → row_of columns (Some ps) ≡ counted columns ps
 row_counted [] [] = refl
 row_counted [] (p ∷ []) =

@@ -84,6 +84,9 @@ tables_size most lines (table ∷ tables) few (first, others, parts, one, more) 
       | suc j ↦ λ d within. rest j d (omega (arith, within))
     ]
 
+-- Tables that are read from at most 4294967294 bytes have fewer than 2 ^ 32 rows: there are no more lines than bytes, those that
+-- count are no more than the lines, and of these each row of a table has one of its own. It is the clause `sized` of `read_file`,
+-- on which it rests in `vdv452_rows` that the numbers of rows fit in 32 bits.
 pub given_sizes : (most : ℕ) (bytes : List ℕ) (tables : List Table) → most ≤ 4294967294 → Gives most bytes tables →
     All (λ table. length table.rows < 2 ^ 32) tables
 given_sizes most bytes tables small (few, spelled) =
