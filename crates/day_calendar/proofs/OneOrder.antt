@@ -56,7 +56,9 @@ tail_sorted {X = X} lt x xs up = λ k d low high.
     let more : suc k + 1 ≡ suc (k + 1) = omega arith in
     subst P more h
 
--- items in order that are the same but for their places are the same
+-- Items in order that are the same but for their places are the same. "The same" is that every sum over them is: so the number of
+-- items before the first one of the other list is 0 in both, and neither first item is before the other; an order that tells items
+-- apart makes them equal. They are taken from both sums, and the rest follows by induction.
 one_order : {X : Type 0} (lt : X → X → Bool) (o : IsStrictWeakOrder lt) (apart : (a b : X) → lt a b ≡ false → lt b a ≡ false → a ≡ b)
     (xs ys : List X) → IsSortedBy lt xs → IsSortedBy lt ys → ((f : X → ℕ) → sum_by f xs ≡ sum_by f ys) → xs ≡ ys
 one_order lt o apart [] [] up up' same = refl
@@ -114,7 +116,9 @@ neither Greater Greater e a b = absurd (cc)
 trips_apart : (a b : DayTrip) → trip_lt a b ≡ false → trip_lt b a ≡ false → a ≡ b
 trips_apart a b p q = same_trip a b (neither (trip_order a b) (trip_order b a) (trip_order_total.antisymm a b) p q)
 
--- there is one list of the places of a day's trips
+-- There is one list of the places of a day's trips: two lists that are the same trips in another order and rise are equal
+-- (`one_order`), since trips that are not before each other have one start, one number and one place. This is the clause `only` of
+-- `day_rows`; from here on a trip of the day is its number in this list.
 pub one_list : (trips : List TripRow) (version kind : ℕ) (places others : List ℕ) → AreDayRows trips version kind places →
     AreDayRows trips version kind others → places ≡ others
 one_list trips version kind places others rows rows' =

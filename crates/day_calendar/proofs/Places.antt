@@ -30,6 +30,9 @@ from_within version kind place n (trip ∷ trips) few =
       | false ↦ rest
     ] in split (is_of_day version kind trip)
 
+-- The places of a day's trips stand among all trips, so that code may take the row at each of them without a test. The trips are
+-- gathered with their places as they stand, each below the count (`from_within`), and putting them in order keeps what holds of
+-- each.
 pub places_within : (trips : List TripRow) (version kind : ℕ) (places : List ℕ) → AreDayRows trips version kind places →
     All (λ place. place < length trips) places
 places_within trips version kind places rows =

@@ -11,7 +11,9 @@ use Rattle.deadheads.specs.declared.moves.Ends.{Ends}
 use Rattle.deadheads.specs.Entries.{time_at}
 use Rattle.deadheads.specs.DeadTimes.{AreTimesOf, key_of}
 
--- what rows tell is within two days where their times are
+-- What rows tell is within two days where their times are: the time of a move is that of the first row with its key, or there is
+-- none; by induction on the rows, of which each passes the test of the key or leaves the question to those behind. With it the
+-- index that `Deadheads::new` makes holds only times within two days, as `dead` promises of every move.
 pub told_within : (rows : List DeadRow) (key : MoveKey) → All (λ row. IsTime row.time) rows →
     IfSome (value_at move_key_eq dead_key_of (λ row. row.time) rows key) IsTime
 told_within [] key all = tt

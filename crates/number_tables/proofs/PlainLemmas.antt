@@ -51,7 +51,10 @@ few_heads columns plain =
     and_from (not (length (map number_head columns) == 0)) _ (ap (λ n. not (n == 0)) same ∙ some.0)
     (and_from (nat_le (length (map number_head columns)) 200) _ (ap (λ n. nat_le n 200) same ∙ few.0) (plain_heads columns few.1))
 
--- under plain names full rows make a plain table
+-- Under plain names full rows make a plain table: all columns are of a number format, in which every number is plain and so is
+-- nothing; what is left to ask is that names are plain, that there are 1 to 200 columns, and that each row has a field for each.
+-- For the tables of this project the first two are tests on constants, so a table is plain as soon as its rows have the right
+-- length (`full_rows`).
 pub plain_table : (name : List ℕ) (columns : List (List ℕ)) → PlainNumbers name columns
 plain_table name columns = λ rows names full.
     let both = and_parts (is_plain_name name) _ names in

@@ -14,6 +14,9 @@ use Rattle.vdv452_rows.specs.Found.{found_cell, found_cells, found_column, found
 use Rattle.vdv452_rows.specs.Rows.{cell_fault, cell_in, fault, cells, field_at, key_fault, key_of, missing_column, missing_columns, own_key, place_of, row_faults, when}
 
 module _ (heads : List Head) (row : List Field) where
+  -- What is read by places is what is read by names: the code looks for each column's place once, and then takes fields by place,
+  -- while the definitions look for the column's name in each row. The place does not depend on the row, so each column gives the
+  -- same cell, the same fault and the same part of the key; by induction on the columns, and below on the rows.
   pub faults_found : (table : List ℕ) (number : ℕ) (columns : List Column) →
       found_faults table number row (found_columns heads columns)
       ≡ flat_map (λ column. cell_fault table number column (field_at heads row column.name)) columns
@@ -46,6 +49,9 @@ module _ (s : Schema) (table : Table) where
   rows_found [] = refl
   rows_found (row ∷ rows) = λ i. cells_found table.columns row s.columns i ∷ rows_found rows i
 
+  -- The same for all rows, with the keys before them: each row's faults and key are those by names, so the keys that the next row
+  -- is compared with are the same ones. The induction carries any keys before and any number of the row, since both change with
+  -- each row. So `read_table` may be shown by places alone, while its contract speaks of names.
   pub row_faults_found : (before : List (List Cell)) (number : ℕ) (rows : List (List Field)) →
       found_row_faults s.name (found_columns table.columns s.columns) before number rows ≡ row_faults s table before number rows
   row_faults_found before number [] = refl

@@ -66,7 +66,9 @@ trip_back (Number n ∷ Number m ∷ cells) e = absurd (not_second (Number n) (N
 trip_back (Number n ∷ Word w ∷ cells) e = absurd (not_second (Number n) (Word w) cells refl e)
 trip_back (Number n ∷ Long m ∷ cell ∷ cells) e = absurd (too_long (Number n) (Long m) cell cells e)
 
--- a short key keeps its cells
+-- A short key keeps its cells: whichever of its three forms it has, trip, numbers or all cells, they are got back from it. The form
+-- is chosen by what the cells are, so in the first two each number is the one that stood there (`trip_back`, `numbers_back`), and a
+-- cell that is no such number leaves the third. So keys may be compared and hashed in little room without two keys becoming one.
 pub cells_back : (cells : List Cell) → cells_of (short cells) ≡ cells
 cells_back cells = by (is_trip cells) (trip_back cells) (nat_le (length cells) 7) (numbers_of cells) (numbers_back cells)
   where
@@ -142,13 +144,18 @@ both_same true false there back = sym (there refl)
 both_same false true there back = back refl
 both_same false false there back = refl
 
--- a short key is another one where their cells are the same
+-- A short key is another one where their cells are the same: from keys to cells as a key keeps its cells (`cells_back`), and from
+-- cells to keys as each key has one short form. That the other key is in its short form is needed, since the same cells may stand
+-- in two forms; the set of keys keeps it as its invariant.
 short_same : (cells : List Cell) (key : RowKey) → IsShort key → key_eq (short cells) key ≡ same_cells cells (cells_of key)
 short_same cells key is_short =
     both_same _ _
     (λ e. (cells_decide cells (cells_of key)).1 (sym (cells_back cells) ∙ ap cells_of ((key_decides (short cells) key).0 e)))
     (λ e. (key_decides (short cells) key).1 (ap short ((cells_decide cells (cells_of key)).0 e) ∙ is_short))
 
+-- A key is in the set of short keys exactly where a key before has the same cells, whatever comparison the code uses, if it agrees
+-- with that of keys. So whether a row's key is there twice, which the definition asks of all keys before, is one look into the set.
+-- That the code's derived comparison is the one of keys is shown where the set is (`insert`).
 pub any_short : (same : RowKey → RowKey → Bool) → ((x y : RowKey) → same x y ≡ key_eq x y) → (cells : List Cell) (keys : List RowKey) →
     All IsShort keys → list_any (same (short cells)) keys ≡ list_any (same_cells cells) (map cells_of keys)
 any_short same agrees cells [] all_short = refl

@@ -21,6 +21,9 @@ pub drop_read : {A : Type 0} (xs : List A) (i : ℕ) (x y : A) → i < length xs
 drop_read xs i x y within is same = drop_item xs i x within is ∙ ap (λ z. z ∷ drop (i + 1) xs) (sym same)
 
 module _ (row : List Field) (found : List Found) (i : ℕ) (entry : Found) (at : drop i found ≡ entry ∷ drop (i + 1) found) where
+  -- One column of a row more: what was gathered, put before what the columns left give, is the whole. Each loop over columns or
+  -- rows keeps this, and each of the steps below moves the first of what is left to the end of what was gathered; at the end
+  -- nothing is left, and what was gathered is what the definition has.
   pub cells_step : (cells whole : List Cell) (cell : Cell) → cell ≡ found_cell row entry → cells ++ found_cells (drop i found) row ≡ whole →
       (cells ++ cell ∷ []) ++ found_cells (drop (i + 1) found) row ≡ whole
   cells_step cells whole cell is so_far =
@@ -65,6 +68,9 @@ module _ (row : List Field) (found : List Found) (i : ℕ) (entry : Found) (at :
         found_faults table number row (drop (i + 1) found) ≡ whole
     faults_step right = ap (λ fs. fs ++ found_faults table number row (drop (i + 1) found)) (sym right) ∙ split
 
+    -- A wrong value ends the row, and it is the first fault of all: the loop has found nothing wrong in the columns before, so all
+    -- faults of the row are those of the columns left, which begin with this one. With `faults_step` the loop gives up exactly at
+    -- the first fault.
     pub cell_refused : (refusal : Refusal) → IsRefusal (cell_fault table number entry.column (found_field row entry)) refusal →
         IsRefusal whole refusal
     cell_refused refusal given =
@@ -92,6 +98,9 @@ module _ (found : List Found) (rows : List (List Field)) (i : ℕ) (row : List F
         (refusal_front _ (found_row_faults table found (before ++ own_key (found_key found row)) (number + 1) (drop (i + 1) rows))
         refusal given)
 
+    -- A right row adds its key to the keys before it and no fault, so the faults of the rows left are still those of the table. The
+    -- keys before and the number of the row are what the definition gives the next row, which is why the statement carries both. A
+    -- row that is refused is refused for the table, as the rows before it added no fault (`row_refused`).
     pub row_step : (after : List (List Cell)) → found_row_fault table found before number row ≡ [] →
         after ≡ before ++ own_key (found_key found row) → found_row_faults table found after (number + 1) (drop (i + 1) rows) ≡ whole
     row_step after right is =

@@ -48,6 +48,9 @@ keyed before (cell ∷ cells) new own =
     all_pairs_push Differs before (cell ∷ cells) own (λ k d within. none_passes (same_cells (cell ∷ cells)) before new k d within)
 
 module _ (s : Schema) (table : Table) where
+  -- If no row of a table has a fault, the keys of its rows are pairwise different. By induction on the rows, with the keys of the
+  -- rows before: these differ pairwise, and a row whose key is not there twice joins them (`keyed`). The faults are one list over
+  -- rows, so that it is empty makes each part of it empty.
   own_keys : (before : List (List Cell)) (place : ℕ) (rows : List (List Field)) → row_faults s table before place rows ≡ [] →
       AllPairs Differs before → AllPairs Differs (before ++ flat_map (λ row. own_key (key_of s table row)) rows)
   own_keys before place [] none own = subst (AllPairs Differs) (sym (append-nil before)) own
@@ -64,6 +67,9 @@ own_in s tables None none = λ i j d below within. absurd (omega arith)
 own_in s tables (Some table) none =
     own_keys s table [] 1 table.rows (rest_empty (missing_columns s table) _ none) (λ i j d below within. absurd (omega arith))
 
+-- Where nothing is wrong with the tables, no two rows of any of them have one key; table by table, since all faults together are
+-- none only where each table's are. Among them are the keys of a table that stands in the tables; an absent one has none. So a
+-- look-up by key, which takes the first row with the key, takes the only one.
 pub own_of : (schemas : List Schema) (tables : List Table) → faults_of schemas tables ≡ [] → All (HasOwnKeys tables) schemas
 own_of [] tables none = All-nil _
 own_of (s ∷ schemas) tables none =

@@ -42,7 +42,10 @@ module _ {K V R : Type 0} (same : K → K → Bool) (key_of : R → K) (value_of
       ap (λ rs. value_at same key_of value_of rs key) (drop_item rows i row within is)
       ∙ ap (λ (b : Bool). option_map value_of (if b then Some row else find (λ r. same (key_of r) key) (drop (i + 1) rows))) no
 
-  -- a row put before the rows of an index
+  -- A row put into an index before the rows behind it. The code goes through the rows from the last to the first, and each takes
+  -- the place of one with its key: so the index always gives what the first row with the key among those passed gives, as the
+  -- definition's look-up does. At the end all rows are passed, and a look-up in the index is one in the table, twice-used keys
+  -- included.
   pub index_step : {S : Type 0} (old new : IndexMap K V S) (rows : List R) (left : ℕ) (row : R) (entry : K × V) → 0 < left →
       left - 1 < length rows → row ≡ get_or rows (left - 1) row → entry ≡ (key_of row, value_of row)
       → ((key : K) → get same new key ≡ cond (same entry.0 key) (Some entry.1) (get same old key))

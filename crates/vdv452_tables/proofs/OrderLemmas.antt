@@ -86,6 +86,9 @@ put_level x row (next ∷ rows) = by (nat_lt next.number row.number) refl (put_l
     by true e later = by_next (level x next) (level x row) refl refl e later
     by false e later = refl
 
+-- Putting rows in their order by insertion leaves the rows of each number as they stand: a row is put before the first one that is
+-- not below it, so only rows of smaller numbers come before it, and among its own number it stays the first. This is what stable
+-- means of a sort.
 in_order_level : (x : StopRow) (rows : List StopRow) → filter (level x) (in_order rows) ≡ filter (level x) rows
 in_order_level x [] = refl
 in_order_level x (row ∷ rows) = put_level x row (in_order rows) ∙ ap (λ rs. if level x row then row ∷ rs else rs) (in_order_level x rows)
@@ -118,7 +121,9 @@ first_same x y xs ys same = ap (first_of x) same
 others_same : (x y : StopRow) (xs ys : List StopRow) → x ∷ xs ≡ y ∷ ys → xs ≡ ys
 others_same x y xs ys same = ap others_of same
 
--- rows that rise are told by the rows of each number
+-- Rows that rise are told by the rows of each number: two lists that rise and have the same rows of each number, in one order, are
+-- one list. The first rows have one number, for a smaller first number would occur in one list alone; as first rows of that number
+-- they are equal; and taking them away leaves both conditions as they were. So a sort is determined without saying how it goes.
 one_order : (xs ys : List StopRow) → Rises xs → Rises ys → ((row : StopRow) → filter (level row) xs ≡ filter (level row) ys) → xs ≡ ys
 one_order [] [] rises others same = refl
 one_order [] (y ∷ ys) rises others same = absurd (empty (same y ∙ kept y y ys refl))
@@ -165,6 +170,9 @@ rises_from (row ∷ rows) sorted = (
   rises_from rows (λ i j d below within. sorted (suc i) (suc j) d (omega arith) (omega arith)),
 )
 
+-- The library's stable sort gives the rows in the order that the definition reaches by insertion: both rise and both keep the order
+-- within each number, so they are one list (`one_order`). Thus the points of a course stand by LI_LFD_NR, and where a number stands
+-- twice in the order of the rows, whatever the sort does inside.
 pub sorted_stops : (rows sorted : List StopRow) → IsNonDecreasingBy (λ row. row.number) sorted →
     IsStableByKey (λ row. row.number) nat_cmp rows sorted → sorted ≡ in_order rows
 sorted_stops rows sorted rises stable =

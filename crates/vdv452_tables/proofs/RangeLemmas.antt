@@ -49,6 +49,9 @@ long_read_within most None = (omega arith, omega arith)
 long_read_within most (Some (pos n)) = long_within most n (nat_le n most) refl
 long_read_within most (Some (negsuc n)) = (omega arith, omega arith)
 
+-- A value that a column's domain gives is not above the domain's greatest one, by the cases of the domain: a number is given only
+-- after the test against this bound, and a word or an unseen value holds no number. A cell that may be empty, or whose field is
+-- missing or wrong, has nothing in it, which counts as 0.
 value_within : (domain : Domain) (field : Field) → Within domain (value_in domain field)
 value_within (UpTo most) field = read_within most (whole_number field)
 value_within (LongUpTo most) field = long_read_within most (whole_number field)
@@ -108,6 +111,9 @@ module _ {A : Type 0} (P : A → Type 0) (row_of : List Cell → ℕ → A) (s :
   found_all None = All-nil P
   found_all (Some table) = typed_all table table.rows 0
 
+  -- What holds of the typed row of every row of fields holds of all rows of a table that is read, for an absent table too. By
+  -- induction on the rows; the number of the row takes no part. It suffices then to show each range for one row of fields, by the
+  -- domain of its column (`number_at_most`, `long_at_most`).
   rows_all : (tables : List Table) → All P (rows_as row_of s tables)
   rows_all tables = found_all (table_of s tables)
 
@@ -138,6 +144,9 @@ module _ {A : Type 0} (row_of : List Cell → ℕ → A) (s : Schema) where
 number_rows : (s : Schema) (tables : List Table) → All (Fits s.columns) (rows_as number_row s tables)
 number_rows s tables = rows_all (Fits s.columns) number_row s (λ table row place. fits table row s.columns) tables
 
+-- The rows that are read have the ranges of their columns, whatever the tables are: each number was read within its column's
+-- domain, and the number of rows is that of a table of few rows. It does not need the tables to be right, since a wrong field gives
+-- nothing. It is the contract's promise of ranges, by which sums of times in the crates above stay within their numbers.
 pub ranges_of : (needs : Needs) (tables : List Table) → All (λ table. length table.rows < 2 ^ 32) tables → HasRanges (net_of needs tables)
 ranges_of needs.Calendar tables few = record {
   few_trips = rows_few trip_row schema.trips tables few;

@@ -60,6 +60,10 @@ module _ (row : VersionRow) (rows : List VersionRow) (day : ℕ) where
     All-cons (IsLatest day other) row rows (λ begins. absurd (omega arith)) told.2,
   )
 
+-- The latest row that has begun is the one of the greatest day, and none only where all rows begin later. By induction on the rows
+-- from the end: a row that has begun is compared with what is found behind it, and stays unless that one is of a later day
+-- (`later_tells`); one that has not begun changes nothing (`early_tells`). It is all that `version_at` promises of the version in
+-- force and of there being none.
 pub latest_tells : (rows : List VersionRow) (day : ℕ) → Tells rows day (latest (begun rows day))
 latest_tells [] day = All-nil _
 latest_tells (row ∷ rows) day = by (nat_le row.day day) refl (latest_tells rows day)
