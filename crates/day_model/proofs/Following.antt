@@ -44,7 +44,9 @@ heads_none numbers heads all = record {
   first = λ u from within. absurd (omega (arith, from, within));
 }
 
--- one place more is passed
+-- One place more is passed. Places are passed from the last one on, so this one is before all of them and becomes the first one
+-- with its number, while the rooms of other numbers stay as they are. By cases on whether a number is that of the place: if so, its
+-- room holds the place itself; if not, what held of its room from the next place on holds from this one on.
 pub heads_more : (numbers heads : List ℕ) (k : ℕ) → k < length numbers → slice_index numbers k < length heads →
     AreHeads numbers heads (k + 1) → AreHeads numbers (slice_set heads (slice_index numbers k) k) k
 heads_more numbers heads k there room old =
@@ -91,6 +93,9 @@ nexts_none numbers nexts long = record {
   first = λ t u from later inside. absurd (omega (arith, from, later, inside));
 }
 
+-- The next place of the one that is passed is what its number's room held before: the first place behind it with its number, or the
+-- number of places where there is none. All four claims follow from those of the room: it is behind, has the number, and no place
+-- between has it. The next ones of the places passed before do not change. At place 0 the lists are those of all trips.
 pub nexts_more : (numbers nexts heads : List ℕ) (k next : ℕ) → k < length numbers → slice_index numbers k < length heads →
     next ≡ slice_index heads (slice_index numbers k) →
     AreHeads numbers heads (k + 1) → AreNexts numbers nexts (k + 1) → AreNexts numbers (slice_set nexts k next) k
@@ -143,6 +148,9 @@ nexts_more numbers nexts heads k next there room is heads_are old =
 pub first_later : (trips : List Trip) (time other : ℤ) (k : ℕ) → time ≤ℤ other → IsFirstFrom trips time k → IsFirstFrom trips other k
 first_later trips time other k less first u trip at late = first u trip at (omega (arith, ints, less, late))
 
+-- One minute more: the trips passed begin before it, so no trip before the place begins at it or later. Nothing is asked of the
+-- order of trips; as the place only moves on from minute to minute (`first_later`), one pass over the trips serves all minutes. It
+-- suffices that a search for trips from a minute on may begin at the place: it passes none over.
 pub minutes_more : (trips : List Trip) (minutes : List ℕ) (m k : ℕ) → m < 2881 → k ≤ length trips → IsFirstFrom trips (pos (60 * m)) k →
     AreMinutes trips m minutes → AreMinutes trips (m + 1) (slice_set minutes m k)
 minutes_more trips minutes m k few within first are =

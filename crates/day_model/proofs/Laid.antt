@@ -29,7 +29,9 @@ numbers_below given numbering are i inside =
     let (point, at) = there given i (omega (arith, many, inside)) in
     slice_get_within numbering.points _ point (are.points i point at)
 
--- a layout is made of its parts
+-- A layout is made of its parts: points have numbers, a grid holds the times between numbered points, and a trip's first or last
+-- point stands at the trip's number; so the time between two trips is the cell at their two numbers. What trips share, a point, is
+-- held once, which keeps the grids small where many trips begin at few points.
 laid_of : (trips : List Trip) (params : ParamRows) (deads : List (Ends × ℕ)) (begins ends : Numbering) (firsts nexts minutes : List ℕ)
     (between outward inward : Grid) (admitted relieved : List Bool) →
     AreNumbered (map (λ (trip : Trip). trip.from) trips) begins → AreNumbered (map (λ (trip : Trip). trip.to) trips) ends →
@@ -143,6 +145,10 @@ between_within trips params deads layout t u laid below below' =
     let next = there trips u below' in
     cell_within layout.between _ _ _ (laid.between t u trip.0 next.0 trip.1 next.1)
 
+-- What is read in the layout is what the day says of the deadhead from one trip to another; below the same from depots, to depots,
+-- of admissions and of relief points. Each has a lemma that the place is in the layout, so that the code may read it without a
+-- test, and one that the reading is the definition's value (`between_within`, `between_is`). So a day answers by numbers what its
+-- rules ask by points.
 pub between_is : (day : DayFacts) (layout : Layout) (t u : ℕ) → AreLaidOut day.trips day.params day.deads layout →
     t < length day.trips → u < length day.trips →
     told (slice_index layout.between.cells (place layout.between (slice_index layout.ends t) (slice_index layout.begins u)))

@@ -11,7 +11,9 @@ use Rattle.day_model.specs.declared.fault.DayModelFault.TheVariants as faults
 use Rattle.day_model.specs.Facts.{DayFacts}
 use Rattle.day_model.specs.Building.{HasDayCause, IsDayOf, day_fault}
 
--- a fault other than running out of memory is the first one
+-- A fault other than running out of memory is the first one against the day, for the trips that the calendar gives, and so a cause;
+-- out of memory needs none. That it is the first of the order of faults was shown where it was found; here it is told of the
+-- network and the kind alone.
 pub cause_of : (net : Net) (kind : DayKind) (rows : List ℕ) (fault : DayModelFault) → AreDayRows net.trips kind.version kind.kind rows →
     (fault ≡ faults.Memory) ⊎ (day_fault net kind rows ≡ Some fault) → HasDayCause net kind fault
 cause_of net kind rows faults.Memory are h = tt
@@ -37,7 +39,9 @@ faultless net kind day is =
 same_fault : (a b : DayModelFault) → Some a ≡ Some b → a ≡ b
 same_fault a b e = let f : Option DayModelFault → DayModelFault = λ o. unwrap_or o a in ap f e
 
--- where there is a first fault it is answered, or running out of memory
+-- Where there is a first fault it is answered, or running out of memory: a day that was built has none against it, as its trips are
+-- few, its settings without a fault and its trips timed (`faultless`); and the day's trips are one list, so the fault meant is of
+-- the same trips. With `cause_of` a day is refused exactly where the definition has a fault.
 pub exact_of : (net : Net) (kind : DayKind) (rows : List ℕ) (answer : Result DayFacts DayModelFault) →
     IfOk answer (IsDayOf net kind) → IfOk answer (λ day. day.rows ≡ rows) →
     IfErr answer (λ fault. (fault ≡ faults.Memory) ⊎ (day_fault net kind rows ≡ Some fault)) →

@@ -109,7 +109,10 @@ module _ (a : DayFacts) (d : List (Ends × ℕ)) (same : (x y : Point) → dead 
       (slice_get a.params.pools class)) in
       ap (λ f. worth f (block_cost a)) driven ∙ ap (λ f. worth (can_be_driven other) f) costs
 
--- the worth of lists hangs on the trips, the settings and the times of deadheads alone
+-- The worth of lists hangs on the trips, the settings and the times of deadheads alone. A day keeps these times as a list in some
+-- order, and two days that were read alike may differ in it; what is asked of the list is only the time between two points. So the
+-- lemma goes through all definitions that use such times, from connections to legs, pieces and costs, and replaces the question by
+-- the other day's answer.
 pub same_worth : (a b : DayFacts) (counts : Bool) → a.trips ≡ b.trips → a.params ≡ b.params → ((x y : Point) → dead a x y ≡ dead b x y) →
     block_worth a counts ≡ block_worth b counts
 same_worth a b counts trips params same =

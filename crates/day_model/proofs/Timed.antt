@@ -69,7 +69,9 @@ row_there : (rows : List TripRow) (place : ℕ) (row : TripRow) → place < leng
     slice_get rows place ≡ Some row
 row_there rows place row within is = slice_get_read rows (length rows) place row refl within is
 
--- the same at the place of a loop
+-- The same at the place of a loop, whose invariant it keeps: the trips so far, before what the rows left give, are what all rows
+-- give. A row that is timed moves its trip to the trips so far; one that has no times ends all with its fault (`wrong_at`). So the
+-- answer is the list of all trips, or the fault of the first trip, in their order, that has one.
 pub more_at : (net : Net) (version : ℕ) (rows : List TripRow) (places : List ℕ) (i : ℕ) (row : TripRow)
     (trips now : List Trip) (trip : Trip) →
     i < length places → slice_index places i < length rows → row ≡ get_or rows (slice_index places i) row →

@@ -68,6 +68,9 @@ joined_fids row (Ok trip) (Ok more) trips small first rest is =
     let e : trip ∷ more ≡ trips = cc in
     subst AreTrips e (All-cons (λ trip. trip.fid ≤ 10 ^ 18) trip more (omega (arith, small, first trip refl)) (rest more refl))
 
+-- Trips that were timed have the numbers of their rows: each trip is made with its row's number, whatever its course and times
+-- (`in_fid`), and a fault gives no trips. So the bound on FRT_FID that was read carries over from rows to trips, which the numbers
+-- of X_FAHRT need.
 timed_fids : (net : Net) (version : ℕ) (rows : List TripRow) (trips : List Trip) → All (λ row. row.fid ≤ 10 ^ 18) rows →
     timed_rows net version rows ≡ Ok trips → AreTrips trips
 timed_fids net version [] trips small is =
@@ -109,7 +112,9 @@ plain_trips net day =
     plain_table (codes "X_FAHRT") trip_columns (map (placed_numbers net day.kind.version) (zip day.rows day.trips)) refl
     (full_rows trip_columns (placed_numbers net day.kind.version) (λ placed. refl) (zip day.rows day.trips))
 
--- the tables of a day are plain
+-- The tables of a day are plain: their names and columns are constants that pass the tests, and each row is made with as many
+-- numbers as there are columns. A number is plain in every column of numbers, whatever the day, so nothing is asked of the day
+-- itself. So the tables may be written, and are read back as they are.
 pub plain_day : (net : Net) (day : DayFacts) → IsTrue (are_plain (day_tables_of net day))
 plain_day net day =
     and_from (is_plain_table (tag_table day)) (is_plain_table (trip_table net day) && true) (plain_tag day)

@@ -29,7 +29,10 @@ first_map : {A B : Type 0} (f : A → B) (xs : List A) (found : Option A) → fi
 first_map f [] found is = ap (option_map f) is
 first_map f (x ∷ xs) found is = ap (option_map f) is
 
--- the first fault of a row is that of its table
+-- The first fault of a row is that of its table, from this row on: the faults of a table are those of its rows, one after another,
+-- and of a row the first is told with the row's number. With `row_passed`, by which a row without a fault leaves the first fault to
+-- the rows behind it, the loop over rows keeps "the first fault of what is left is the first of all", and may stop at the first
+-- that it meets.
 pub row_first : (net : Net) (version : ℕ) (rule : Rule) (place : ℕ) (row : List ℕ) (rows rest : List (List ℕ)) (kind : ParamKind) →
     rows ≡ row ∷ rest → first (row_kinds net version rule.references row) ≡ Some kind
     → first (row_faults net version rule place rows) ≡ Some (fault kind rule.name (number_of place))
@@ -64,7 +67,9 @@ module _ (faults : Rule → List ParamFault) (rules : List TableRule) (i : ℕ) 
       let at : drop i rules ≡ get_or rules i rule ∷ drop (i + 1) rules = rw add-one (drop-cons rules i rule within) in
       ap (λ rs. first (flat_map faults (map rule_of rs))) (sym at) ∙ so_far
 
-  -- the first fault of a table is that of all tables from it on
+  -- The first fault of a table is that of all tables from it on, and one without a fault leaves the first to those behind it
+  -- (`rule_passed`). The invariant of the loop over tables is the same as that over rows: nothing is wrong so far. What is found is
+  -- told with its table's name, so the fault that is answered is the first of the definition's list.
   pub rule_first : true ≡ is_some found → option_map fault_of found ≡ whole
   unfolding here rest
   rule_first some = by found some is ∙ split
@@ -101,6 +106,9 @@ not_when false x none = refl
 few_from : (n : ℕ) → nat_lt 32 n ≡ false → n ≤ 32
 few_from n e = grind (arith, nat_tests)
 
+-- Where nothing is wrong with a limited table, it has at most 32 rows: the fault for more would stand at the head of the table's
+-- faults, which are none. So at most 32 pools and 32 groups are promised of all settings that are read without a fault
+-- (`few_pools`, `few_groups`), which class numbers rest on.
 limit_kept : (net : Net) (version : ℕ) (rule : Rule) → rule.is_limited ≡ true → table_faults net version rule ≡ [] →
     length (extra_of net rule.name) ≤ 32
 limit_kept net version rule limited none =
@@ -183,6 +191,9 @@ module _ (net : Net) (version : ℕ) where
       each_append IsReadFault (table_faults net version rule) (flat_map (table_faults net version) rules)
       (table_read rule) (tables_read rules)
 
+  -- A fault of the tables is never that memory ran out: by going through the list of faults as it is put together, reference by
+  -- reference, row by row and table by table, none of which has that kind. So where the answer is out of memory it is not one of
+  -- the tables' faults, and where it is a fault it is their first (`memory_is`).
   pub is_read : (found : ParamFault) → first_fault net version ≡ Some found → found.kind ≢ kinds.Memory
   unfolding first_fault
   is_read found is =

@@ -33,7 +33,9 @@ is_some_behind : {V : Type 0} (entry : Option (Bor V)) → is_some entry ≡ is_
 is_some_behind None = refl
 is_some_behind (Some value) = refl
 
--- an entry is there exactly where a row passes
+-- An entry is there exactly where a row passes the test: what is found in an index is the first such row's value, and a first one
+-- is there exactly where there is any. The definitions ask only whether any row of the settings passes, the code looks one key up
+-- in an index; so `admits` and `relief` answer as defined without going through the rows.
 pub is_found : {R V : Type 0} (value_of : R → V) (test : R → Bool) (rows : List R) (entry : Option (Bor V)) →
     option_copied entry ≡ option_map value_of (find test rows) → is_some entry ≡ list_any test rows
 is_found value_of test rows entry is = is_some_behind entry ∙ ap is_some is ∙ found_any value_of test rows

@@ -38,6 +38,9 @@ module _ {A : Type 0} (number : A → ℕ) where
   All-rest : (P : A → Type 0) (x : A) (xs : List A) → All P (x ∷ xs) → All P xs
   All-rest P x xs all k d within = all (suc k) d (omega arith)
 
+  -- What holds of all items holds of them with one more put in its place, and so of all in order (`order_all`). Order, number and
+  -- ranges of pools and groups rest on this insertion, which is how the definition orders them. By induction on the items: one is
+  -- either passed and stays in front, or the new one is put before it, and then nothing else has changed.
   pub put_all : (P : A → Type 0) (item : A) (items : List A) → P item → All P items → All P (put_in_order number item items)
   put_all P item [] first others = All-cons P item [] first others
   put_all P item (next ∷ items) first others =
@@ -159,7 +162,9 @@ module _ {A : Type 0} (number : A → ℕ) where
   others_same : (x y : A) (xs ys : List A) → x ∷ xs ≡ y ∷ ys → xs ≡ ys
   others_same x y xs ys same = ap others_of same
 
-  -- items that rise are told by the items of each number
+  -- Items that rise are told by the items of each number: of two such lists with the same items of each number, in one order, the
+  -- first items have one number, since a smaller one would stand in one list alone, and are then equal; without them both
+  -- conditions hold again.
   one_order : (xs ys : List A) → Rises xs → Rises ys → ((item : A) → filter (level item) xs ≡ filter (level item) ys) → xs ≡ ys
   one_order [] [] rises others same = refl
   one_order [] (y ∷ ys) rises others same = absurd (empty (same y ∙ kept y y ys refl))
@@ -206,6 +211,8 @@ module _ {A : Type 0} (number : A → ℕ) where
     rises_from items (λ i j d below within. sorted (suc i) (suc j) d (omega arith) (omega arith)),
   )
 
+  -- The library's stable sort gives the items in the order of the definition: both rise, both keep the items of each number as they
+  -- stood, so they are one list (`one_order`). Pools and groups so have one numbering, whatever the sort does inside.
   pub sorted_items : (items sorted : List A) → IsNonDecreasingBy number sorted → IsStableByKey number nat_cmp items sorted →
       sorted ≡ in_order number items
   sorted_items items sorted rises stable =

@@ -49,6 +49,9 @@ abbrev group_number : Group → ℕ
 group_number group = group.number
 
 module _ (net : Net) (rows : List (List ℕ)) where
+  -- Pools have the ranges of their columns: each row that was read fits the columns of its table, the pool takes its numbers from
+  -- the row's places, and putting pools in their order keeps what holds of each (`order_all`). In the same way groups and ways;
+  -- costs and times in all crates above stay within their numbers by these ranges.
   pub pools_all : (pools : List Pool) → rows ≡ extra_of net (codes "X_HOF") → All (Fits schema.depots.columns) rows →
       pools ≡ pools_of net → All IsPool pools
   pools_all pools are fits is =

@@ -27,7 +27,9 @@ get_right (x ∷ xs) ys (suc k) i e = get_right xs ys k i (omega (arith, e))
 row_more : (r n c m : ℕ) → m ≡ n → suc r * n + c ≡ m + (r * n + c)
 row_more r n c m e = omega (arith, e)
 
--- in rows of one length
+-- In rows of one length: where each item gives `n` entries, entry `c` of item `r` stands at `r * n + c` of all entries one after
+-- another. By induction on the items: the entry is in the first item's, or behind them, where the place is less by `n`. That all
+-- items give as many entries is needed, since the place is reckoned without going through the items before.
 pub flat_at : {A B : Type 0} (f : A → List B) (n : ℕ) → ((a : A) → length (f a) ≡ n) → (rows : List A) (r : ℕ) (a : A) →
     slice_get rows r ≡ Some a →
     (c : ℕ) (b : B) → slice_get (f a) c ≡ Some b → (k : ℕ) → k ≡ r * n + c → slice_get (flat_map f rows) k ≡ Some b
@@ -46,7 +48,9 @@ mapped_at f [] i x e = absurd (cc)
 mapped_at f (y ∷ xs) zero x e = ap (λ z. Some (f z)) (same_Some y x e)
 mapped_at f (y ∷ xs) (suc i) x e = mapped_at f xs i x e
 
--- the cell of a grid
+-- The cell of a grid: at the number of a row's point and the number of a column's point stands the time from one to the other. So a
+-- look-up by two points, which would search, is one by two numbers; `cell_within` shows that the place is in the grid, and
+-- `cell_told` that what is read there tells the time, or that there is none.
 pub grid_cell : (time : Point → Point → Option ℕ) (rows columns : List Point) (grid : Grid) (r c : ℕ) (from to : Point) →
     IsGrid time rows columns grid →
     slice_get rows r ≡ Some from → slice_get columns c ≡ Some to → IsCell grid r c (time from to)
