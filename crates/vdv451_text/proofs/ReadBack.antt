@@ -179,7 +179,7 @@ names_read (c ∷ d ∷ columns) h =
     all_some_more o x os xs e h = rw (e, h) refl
 
 -- The same of the formats: each is one bare field that gives the format. There are as many fields as columns, so that none is one
--- too many and reading drops none.
+-- too many and reading drops none; the third claim, on their number, is what `kept_all` asks for that.
 formats_read : (columns : List Head) → list_all is_plain_column columns ≡ true →
     AllRead (formats_in columns) (map (λ (c : Head). Bare c.format) columns)
     × (all_some (map format_of (map (λ (c : Head). Bare c.format) columns)) ≡ Some (formats_in columns))
@@ -388,7 +388,8 @@ header_runs : run start (map line_of header_lines) ≡ Ok start
 header_runs = refl
 
 -- All lines behind the header end with the tables: the tables' lines by `all_run`, and then `eof`, whose number is that of the
--- tables. Of both the file carries along that they have no line end, which `lines_again` needs for the cut.
+-- tables; for it to be a count they must be fewer than 10 ^ 18. That none of these lines has a line end is carried along, as
+-- `lines_again` needs it for the cut.
 body_runs : (tables : List Table) → are_plain tables ≡ true → are_sized tables ≡ true →
     (run start (map line_of (tables_lines tables ++ eof_bytes tables ∷ [])) ≡ Ok (Ended tables))
     × (list_all has_no_feed (tables_lines tables ++ eof_bytes tables ∷ []) ≡ true)
@@ -415,10 +416,10 @@ lines_again tables h s =
     ap (λ (t : List ℕ). map without_return (cut_at_feeds t)) (text_ended tables) ∙ cut_lines (text_lines tables) (body_runs tables h s).1
 
 -- What is written is read back: the text of plain tables of a size that a text can say spells these tables, which is the clause
--- `back` of `write_tables`. The text is cut into its lines again (`lines_again`); the machine passes over the header's lines, which
--- hold no table, and ends with the tables (`body_runs`); and what the machine ends with is spelled (`run_spells`). It goes by the
--- machine because a run over lines put together is the runs one after another, while the grammar would need the parts to be found
--- anew.
+-- `back` of `write_tables`. The text is cut into its lines again (`lines_again`); the machine is at its start again behind the
+-- header's lines (`header_runs`), and ends with the tables (`body_runs`); and what the machine ends with is spelled (`run_spells`).
+-- It goes by the machine because a run over lines put together is the runs one after another, while the grammar would need the
+-- parts to be found anew.
 pub text_back : (tables : List Table) → are_plain tables ≡ true → are_sized tables ≡ true → Spells (lines_of (text tables)) tables
 text_back tables h s =
     let body = tables_lines tables ++ eof_bytes tables ∷ [] in
