@@ -56,9 +56,9 @@ tail_sorted {X = X} lt x xs up = λ k d low high.
     let more : suc k + 1 ≡ suc (k + 1) = omega arith in
     subst P more h
 
--- Items in order that are the same but for their places are the same. "The same" is that every sum over them is: so the number of
--- items before the first one of the other list is 0 in both, and neither first item is before the other; an order that tells items
--- apart makes them equal. They are taken from both sums, and the rest follows by induction.
+-- Items in order that are the same but for their places are the same. "The same" is that every sum over them is: so as many items
+-- of one list as of the other are before the other's first item, which is none. Neither first item is then before the other, and an
+-- order that tells items apart makes them equal. Taken from every sum, they leave lists that are the same again.
 one_order : {X : Type 0} (lt : X → X → Bool) (o : IsStrictWeakOrder lt) (apart : (a b : X) → lt a b ≡ false → lt b a ≡ false → a ≡ b)
     (xs ys : List X) → IsSortedBy lt xs → IsSortedBy lt ys → ((f : X → ℕ) → sum_by f xs ≡ sum_by f ys) → xs ≡ ys
 one_order lt o apart [] [] up up' same = refl

@@ -33,7 +33,9 @@ plain_rows columns (row ∷ rows) full =
     (plain_row columns row (All-head (λ row. length row ≡ length columns) row rows full))
     (plain_rows columns rows (All-tail (λ row. length row ≡ length columns) row rows full))
 
--- under plain names full rows make a plain table
+-- Under plain names full rows make a plain table, also where numbers may be below 0: the columns are of the same number format, in
+-- which a number is plain whatever its sign. Names and columns are as in `plain_table`, and only the rows are shown anew; a row
+-- need only be of the right length.
 pub plain_signed : (name : List ℕ) (columns : List (List ℕ)) → PlainSigned name columns
 plain_signed name columns = λ rows names full.
     let both = and_parts (is_plain_name name) _ names in

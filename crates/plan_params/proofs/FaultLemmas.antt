@@ -108,7 +108,7 @@ few_from n e = grind (arith, nat_tests)
 
 -- Where nothing is wrong with a limited table, it has at most 32 rows: the fault for more would stand at the head of the table's
 -- faults, which are none. So at most 32 pools and 32 groups are promised of all settings that are read without a fault
--- (`few_pools`, `few_groups`), which class numbers rest on.
+-- (`few_pools`, `few_groups`).
 limit_kept : (net : Net) (version : ℕ) (rule : Rule) → rule.is_limited ≡ true → table_faults net version rule ≡ [] →
     length (extra_of net rule.name) ≤ 32
 limit_kept net version rule limited none =

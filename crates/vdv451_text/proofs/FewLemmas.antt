@@ -64,7 +64,10 @@ checked_ok kind is_last (Some p) e = (p, refl, by_test (if is_last then may_end 
   by_test true e = refl
   by_test false e = absurd cc
 
--- a right field leaves what is wrong to the others
+-- A right field leaves what is wrong to the others: of fields that are too many only the kind of fault is wanted, and with a right
+-- one taken off the front it is the same of the rest. Which test a field has to pass depends on whether it is the last one, and it
+-- is the last where nothing is left behind it (`crowd_one`). A wrong field ends the search (`crowd_ends`), for a wrong field goes
+-- before a wrong number.
 pub crowd_goes_on : (kind : FieldKind) (whole : TextKind) (left after : Option (List ℕ)) (bytes : List ℕ) (o : Option Piece) (last : Bool)
     → whole ≡ crowd_of kind (fields_of left) → left ≡ Some bytes → fields_of (Some bytes) ≡ with_piece o (fields_of after) →
     last ≡ is_none after → checked kind last o ≡ Ok (tt {0})

@@ -29,7 +29,10 @@ parts_read part others =
 pub behind_all : (bytes : List ℕ) (i : ℕ) → take (length bytes - i) (drop i bytes) ≡ drop i bytes
 behind_all bytes i = take_all (length bytes - i) (drop i bytes) (omega (arith, length-drop i bytes))
 
--- the fields, where the first one ends at a separator
+-- The fields, where the first one ends at a separator: the first piece, and the fields of what stands behind the separator. The
+-- code looks for the end of the first field by the scan (`EndsFirst`) and then goes on with the bytes behind it; as a field that is
+-- cut off leaves the scan before a field again, the rest is cut as a line of its own. So fields are read one at a time, in one
+-- pass.
 pub fields_from : (bytes : List ℕ) (i : ℕ) → EndsFirst bytes i → i < length bytes →
     fields_of (Some bytes) ≡ with_piece (piece_of (trimmed (take i bytes)))
     (fields_of (Some (take (length bytes - (i + 1)) (drop (i + 1) bytes))))

@@ -141,7 +141,10 @@ cut_lines (line ∷ lines) h =
     ∙ ap (λ (t : List ℕ). t ∷ map without_return (cut_at_feeds (ended_lines lines))) (return_goes line)
     ∙ ap (λ (t : List (List ℕ)). line ∷ t) (cut_lines lines w.1)
 
--- Each line of a table.
+-- Each line of a table, written and read again. For each kind of line a lemma claims two things: that the line says of the table
+-- what the grammar asks of such a line (`name_spelled`, `names_spelled`, `formats_spelled`, `row_spelled`), and that it has no line
+-- end in it. `RightTable` holds both of a whole table, and the machine's run over all lines takes the one, the cut of the text the
+-- other.
 bares : List (List ℕ) → List Piece
 bares names = map (λ name. Bare name) names
 
@@ -418,8 +421,8 @@ lines_again tables h s =
 -- What is written is read back: the text of plain tables of a size that a text can say spells these tables, which is the clause
 -- `back` of `write_tables`. The text is cut into its lines again (`lines_again`); the machine is at its start again behind the
 -- header's lines (`header_runs`), and ends with the tables (`body_runs`); and what the machine ends with is spelled (`run_spells`).
--- It goes by the machine because a run over lines put together is the runs one after another, while the grammar would need the
--- parts to be found anew.
+-- It goes by the machine because that asks for one step of each line and no more: which lines count, and which are header lines,
+-- need not be shown apart.
 pub text_back : (tables : List Table) → are_plain tables ≡ true → are_sized tables ≡ true → Spells (lines_of (text tables)) tables
 text_back tables h s =
     let body = tables_lines tables ++ eof_bytes tables ∷ [] in

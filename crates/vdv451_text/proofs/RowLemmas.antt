@@ -34,7 +34,9 @@ column_left : (columns : List Head) (i : ℕ) (column : Head) → i < length col
 column_left columns i column below at =
     drop-cons columns i column below ∙ ap (λ c. c ∷ drop (suc i) columns) (sym at) ∙ ap (λ n. column ∷ drop n columns) (sym (add-one i))
 
--- the field of one column
+-- The field of one column: the values so far, before what the columns left make of the fields left, are what all columns make of
+-- all fields; one column and one field move to the values so far. A broken field ends the row with its fault (`row_breaks`). At the
+-- last column the row is whole, and `row_counted` says that this is the row of the definition.
 pub row_goes_on : (whole : Result (List Field) TextKind) (columns : List Head) (i : ℕ) (column : Head) (before after : List Field)
     (left : Option (List ℕ)) (bytes : List ℕ) (o : Option Piece) (more : Option (List Piece)) (v : Field)
     → whole ≡ ok_map (λ m. before ++ m) (row_of (drop i columns) (fields_of left)) → i < length columns → column ≡ get_or columns i column →

@@ -14,7 +14,10 @@ outcome_mapped : {A B : Type 0} (f : A → B) (w : Option TextKind) (x : A) → 
 outcome_mapped f None x = refl
 outcome_mapped f (Some kind) x = refl
 
--- a right line leads on, and a wrong one is refused
+-- A right line leads on, and a wrong one is refused (`refuses`): on a line that may stand, the machine's step is the answer on the
+-- line's fields with the next state put round it (`ok_map`). So code that reads the fields of the line, and gives up with their
+-- fault, makes just this step. The lemmas below say so of each keyword; of the counts of columns, rows and tables each keeps those
+-- by which its keyword is tested.
 pub leads_on : {A : Type 0} (s : State) (keyword this : Keyword) (rest : Option (List ℕ)) (f : A → State)
     (given : Result A TextKind) (x : A)
     → keyword ≡ this → step s (Says this rest) ≡ ok_map f given → given ≡ Ok x → step s (Says keyword rest) ≡ Ok (f x)

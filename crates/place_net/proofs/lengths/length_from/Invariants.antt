@@ -4,7 +4,9 @@ use Rattle.place_net.specs.Routes.{length_over, section_length}
 use Rattle.place_net.proofs.LengthLemmas.{length_on_top}
 use Rattle.place_net.proofs.lengths.length_from.Given as goal
 
--- the metres so far and what is left make the whole
+-- The metres so far and what is left make the whole: what is left is added on top of them, if each section left has a length; so at
+-- the first section without one the answer is none, whatever was added before. Each section has at most 1,000,000 metres, so the
+-- number of sections passed bounds the sum, which therefore stays within 64 bits.
 abbrev pub invariant-loop-to : goal.invariant-loop-to
 invariant-loop-to l = record {
   bounded : l.metres ≤ 1000000 * l.to-index;
