@@ -212,7 +212,8 @@ module _ {A : Type 0} (number : A → ℕ) where
   )
 
   -- The library's stable sort gives the items in the order of the definition: both rise, both keep the items of each number as they
-  -- stood, so they are one list (`one_order`). Pools and groups so have one numbering, whatever the sort does inside.
+  -- stood, so they are one list (`one_order`). Pools and groups so have one numbering, whatever the sort does inside: the number of
+  -- a class is a place in this order, and it is fixed by the tables alone.
   pub sorted_items : (items sorted : List A) → IsNonDecreasingBy number sorted → IsStableByKey number nat_cmp items sorted →
       sorted ≡ in_order number items
   sorted_items items sorted rises stable =

@@ -43,10 +43,9 @@ tbl_crowd rest x fault e = elim (few_fault kind_of.Name 1 (fields_of rest) fault
       rw (s, f, names, number) refl
 ]
 
--- `atr`
--- Among column names the last field may have nothing in it, and the definition drops such a field before it tests the others; so
--- both say the same. One field at most is dropped, so with more than 201 of them there are still more than 200 names, which is the
--- wrong number.
+-- `atr`: among column names the last field may have nothing in it, and the definition drops such a field before it tests the
+-- others; so both say the same. One field at most is dropped, so with more than 201 of them there are still more than 200 names,
+-- which is the wrong number.
 columns_right : (ps : List Piece) → all_right kind_of.ColumnName ps ≡ list_all (may_stand kind_of.ColumnName) (without_void ps)
 columns_right [] = refl
 columns_right (p ∷ []) = by_test (is_void p) where
@@ -79,7 +78,8 @@ atr_crowd rest x fault e = elim (few_fault kind_of.ColumnName 201 (fields_of res
 ]
 
 -- `frm`: with at least two fields more than columns none is dropped, since a last field with nothing in it is only where there is
--- one too many; so the definition tests the same fields as the code, and their number is wrong.
+-- one too many; so the definition tests the same fields as the code, and their number is wrong. For `end` and `eof`, on which one
+-- field may stand and none is dropped, the lemma goes the same way without this question.
 all_kept : (c : ℕ) (ps : List Piece) → c + 1 < length ps → at_most_one_void c ps ≡ ps
 all_kept c ps l = let other : (length ps == c + 1) ≡ false = grind (arith, nat_tests) in rw other refl
 

@@ -181,8 +181,9 @@ names_read (c ∷ d ∷ columns) h =
         all_some os ≡ Some xs → all_some (o ∷ os) ≡ Some (x ∷ xs)
     all_some_more o x os xs e h = rw (e, h) refl
 
--- The same of the formats: each is one bare field that gives the format. There are as many fields as columns, so that none is one
--- too many and reading drops none; the third claim, on their number, is what `kept_all` asks for that.
+-- The same of the formats, by induction on the columns one by one: each is one bare field that gives the format, tested byte by
+-- byte. There are as many fields as columns, so that none is one too many and reading drops none; the third claim, on their number,
+-- is what `kept_all` asks for that.
 formats_read : (columns : List Head) → list_all is_plain_column columns ≡ true →
     AllRead (formats_in columns) (map (λ (c : Head). Bare c.format) columns)
     × (all_some (map format_of (map (λ (c : Head). Bare c.format) columns)) ≡ Some (formats_in columns))
@@ -231,7 +232,8 @@ row_read (c ∷ columns) (v ∷ row) l h s =
     }
 
 -- A row's line spells the row: `fields_behind` turns the pieces that fields are read as into the fields of the line, `rec_line`
--- gives the keyword back, and with as many pieces as columns none is dropped (`kept_all`).
+-- gives the keyword back, and with as many pieces as columns none is dropped (`kept_all`). The line has no line end, since a field
+-- that is read as a piece has none.
 row_spelled : (columns : List Head) (row : List Field) → is_plain_row columns row ≡ true → list_all is_sized_field row ≡ true →
     SpellsRow columns (line_of (row_line row)) row × (has_no_feed (row_line row) ≡ true)
 row_spelled columns row h s =
@@ -370,7 +372,8 @@ tables_run ts (t ∷ tables) h s =
     )
 
 -- The same from the start of a text. There the machine does not yet stand behind a table, and with no table at all it never does;
--- the truth value `b` says whether there was one, and for the `eof` behind it either will do.
+-- the truth value `b` says whether there was one, and for the `eof` behind it either will do. The first table is read from the
+-- start itself, and the others by `tables_run`, with the first as the table read before.
 all_run : (tables : List Table) → list_all is_plain_table tables ≡ true → list_all is_sized_table tables ≡ true →
     (b : Bool) × (run start (map line_of (tables_lines tables)) ≡ Ok (Open b tables)) × (list_all has_no_feed (tables_lines tables) ≡ true)
 all_run [] h s = (false, refl, refl)

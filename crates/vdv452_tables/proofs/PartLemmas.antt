@@ -15,7 +15,7 @@ module _ (tables : List Table) (front rest : List Schema) where
 
   -- What is refused for the tables in front is refused for all: the faults of schemas read one after another are one list, part by
   -- part, and what heads the first part heads the whole. Where the tables in front have no fault, the same holds of the rest
-  -- (`rest_refused`); so reading may go table by table, and its refusal is still the first fault of all eighteen.
+  -- (`rest_refused`); so reading may go table by table, and its refusal is still the first fault of all tables that are read.
   pub front_refused : {A : Type 0} (r : Result A Refusal) → IfErr r (IsRefusal (faults_of front tables)) →
       IfErr r (IsRefusal (faults_of (front ++ rest) tables))
   front_refused (Ok x) given = tt
