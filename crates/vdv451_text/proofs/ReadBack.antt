@@ -181,9 +181,9 @@ names_read (c ∷ d ∷ columns) h =
         all_some os ≡ Some xs → all_some (o ∷ os) ≡ Some (x ∷ xs)
     all_some_more o x os xs e h = rw (e, h) refl
 
--- The same of the formats, by induction on the columns one by one: each is one bare field that gives the format, tested byte by
--- byte. There are as many fields as columns, so that none is one too many and reading drops none; the third claim, on their number,
--- is what `kept_all` asks for that.
+-- The same of the formats, by induction on the columns one by one: each is one bare field that gives the format, as a format has no
+-- blank at either end, no quote and no separator. There are as many fields as columns, so that none is one too many and reading
+-- drops none; the third claim, on their number, is what `kept_all` asks for that.
 formats_read : (columns : List Head) → list_all is_plain_column columns ≡ true →
     AllRead (formats_in columns) (map (λ (c : Head). Bare c.format) columns)
     × (all_some (map format_of (map (λ (c : Head). Bare c.format) columns)) ≡ Some (formats_in columns))
