@@ -36,7 +36,8 @@ all_formats ps = list_all (λ p. is_format (bytes_of p)) ps
 
 -- `atr`: the code drops a last field with nothing in it by taking a slice (`last_dropped`, `last_kept`), tests the names left and
 -- then their number, in the order of the definition. So each of its ends, a wrong name, a wrong number or the names, is what the
--- machine makes of the line; each has a lemma. `frm` has the same ones, with the number of columns in the place of 1 to 200.
+-- machine makes of the line; each has a lemma. `frm` has those of the two wrong ends, with the number of columns in the place of 1
+-- to 200.
 pub atr_field : {A : Type 0} (rest : Option (List ℕ)) (ps slice kept : List Piece) (x : A) → fields_of rest ≡ Some ps → slice ≡ ps →
     kept ≡ without_void slice → false ≡ all_names kept
     → outcome (wrong_fields 0 0 0 (Says Atr rest) (fields_of rest)) x ≡ Err kinds.Field
