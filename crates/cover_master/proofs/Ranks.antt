@@ -28,6 +28,9 @@ place_total = then_total (on_total (λ (k : Key). k.value) int_cmp_total) (on_to
 pub key_total : IsTotalOrder key_cmp
 key_total = then_total (on_total (λ (k : Key). k.class) nat_cmp_total) place_total
 
+-- Columns are sorted by class, value and place, a total order; so the sorting of the library may be asked for this order, and in
+-- its result no column stands before one that is less, however far apart the two are. Two places of the result decide which comes
+-- first.
 pub before_order : IsStrictWeakOrder is_before
 before_order = ranks_by key_total (λ (k : Key). k)
 
@@ -68,6 +71,9 @@ eqb-apart : (m n : ℕ) → (m ≡ n → ⊥) → (m == n) ≡ false
 eqb-apart m n e = grind (arith, nat_tests)
 
 -- one that is sorted before, at another place, comes before exactly if it is of the class
+-- Of two columns at different places of the pool, the one that is sorted before the other counts in the other's rank exactly if it
+-- is of the same class. The sort only says that the later one is not less; equal they cannot be, since the order ends with the
+-- place: so the earlier one is truly less, and within one class that is what the rank counts.
 pub before-earlier : (x y : Key) → is_before y x ≡ false → (x.place ≡ y.place → ⊥) → comes_before y x ≡ (x.class == y.class)
 before-earlier x y sorted apart =
     elim (cases_eq x.class y.class) [
@@ -84,6 +90,8 @@ before-earlier x y sorted apart =
     ]
 
 -- one that is sorted after does not come before
+-- Whatever stands after a column in the sorted list is not less, and so never counts in its rank. With the lemma above, a rank can
+-- be read off from what stands before a column alone.
 pub before-later : (x y : Key) → is_before x y ≡ false → comes_before y x ≡ false
 before-later x y sorted =
     elim (cases_eq x.class y.class) [
@@ -110,6 +118,9 @@ no-gain-after k x g e =
 counted : (p : Key → Bool) (x : Key) (xs : List Key) → count_by p (x ∷ xs) ≡ cond (p x) 1 0 + count_by p xs
 counted p x xs = sum_by-cons (λ y. cond (p y) 1 0) x xs
 
+-- The rank of a column of value below 0 is the same among the columns of value below 0 as in the whole pool: whatever comes before
+-- it has a value no greater, and so one below 0 too. By induction over the list, where each column that is left out is shown to
+-- count nothing. So a price step need not keep the others, though the definition of a rank speaks of the whole pool.
 pub count-gains : (k : Key) (xs : List Key) → is_gain k ≡ true →
     count_by (comes_before k) (filter is_gain xs) ≡ count_by (comes_before k) xs
 count-gains k [] g = refl
@@ -143,6 +154,8 @@ places-above prices i place (c ∷ cs) h =
     counted (at_place i) key (keys_from prices (suc place) cs) in
     omega arith
 
+-- Each place of the pool is that of one column at most, by induction over the pool: the places are given in rising order, so a
+-- place that has been given does not come again. From it two places of a sorted list never hold one column, whatever the sort did.
 pub places-once : (prices : List Price) (i place : ℕ) (cs : List Column) → count_by (at_place i) (keys_from prices place cs) ≤ 1
 places-once prices i place [] = omega arith
 places-once prices i place (c ∷ cs) =
@@ -161,6 +174,8 @@ places-once prices i place (c ∷ cs) =
           omega arith
     ]
 
+-- Leaving columns out makes no count greater. It is used where a bound on a count of the whole pool must hold of the columns that a
+-- price step looks at.
 pub count-filter : (p q : Key → Bool) (xs : List Key) → count_by p (filter q xs) ≤ count_by p xs
 count-filter p q [] = omega arith
 count-filter p q (x ∷ xs) =
@@ -176,6 +191,9 @@ count-filter p q (x ∷ xs) =
 abbrev pub no_key : Key
 no_key = record { class = 0; value = pos 0; place = 0 }
 
+-- The counts up to a place of a list, taken together with the lemmas down to `count-take`: one more place adds what stands there;
+-- tests that agree on a front count alike in it; places where nothing passes add nothing; two that pass count two; and a front
+-- never counts more than the whole. They are what the walk through the sorted columns, place by place, is measured with.
 count-more : (p : Key → Bool) (xs : List Key) (t : ℕ) → t < length xs →
     count_by p (take (suc t) xs) ≡ count_by p (take t xs) + cond (p (get_or xs t no_key)) 1 0
 count-more p xs t h = ap (λ n. count_by p (take n xs)) (sym (add-one t)) ∙ sum_by_more (λ x. cond (p x) 1 0) xs t no_key h
@@ -240,6 +258,8 @@ count-take p xs t h =
     omega arith
 
 -- one above the limit of its class comes before no candidate
+-- A column above the limit of its class comes before no candidate: one of its own class has a value that is at most the limit, and
+-- so is less; one of another class is never compared with it.
 no-candidate-after : (limits : List ℤ) (k x : Key) → is_candidate limits k ≡ true → is_candidate limits x ≡ false → comes_before k x ≡ false
 no-candidate-after limits k x g e =
     elim (cases_eq x.class k.class) [
@@ -261,6 +281,9 @@ no-candidate-after limits k x g e =
         let down : int_lt a b ≡ false = grind (arith, ints) in
         rw (down, up) refl
 
+-- The rank of a candidate is the same among the candidates as in the whole pool, by the argument of `count-gains` twice over: first
+-- the columns above the limits are left out, none of which comes before a candidate, then those of value at least 0. So a price
+-- step may bring into order no more columns than a few more than the caps, and still finds the ranks that the definition means.
 pub count-candidates : (limits : List ℤ) (k : Key) (xs : List Key) → is_gain k ≡ true → is_candidate limits k ≡ true →
     count_by (comes_before k) (filter (is_candidate limits) (filter is_gain xs)) ≡ count_by (comes_before k) xs
 count-candidates limits k xs g c = onto (filter is_gain xs) ∙ count-gains k xs g
@@ -284,6 +307,9 @@ count-candidates limits k xs g c = onto (filter is_gain xs) ∙ count-gains k xs
 
 module _ (prices : List Price) (pool : List Column) (caps : List ℕ) (sorted : List Key) (candidates : AreCandidates prices pool caps sorted)
     (up : IsSortedBy is_before sorted) where
+  -- Two places of the sorted list hold columns of different places of the pool. The sort only gives a permutation, so this is shown
+  -- by counting: if both held one place, that place would count twice in the sorted list, therefore twice among the candidates, and
+  -- no more often than in the pool, where it counts once at most.
   apart : (i t : ℕ) → i < t → t < length sorted → (get_or sorted i no_key).place ≡ (get_or sorted t no_key).place → ⊥
   apart i t h k e =
       let place = (get_or sorted t no_key).place in
@@ -313,6 +339,10 @@ module _ (prices : List Price) (pool : List Column) (caps : List ℕ) (sorted : 
       sorted candidates.all (filter_passes (is_candidate candidates.limits) (gain_keys prices pool)))
 
   -- the rank of a column is how many of its class stand before it
+  -- The main theorem of this file: in the sorted candidates, the rank of a column within its class is how many of its class stand
+  -- before it. From right to left: all that stand before and are of its class come before it; nothing that stands after does; a
+  -- permutation counts alike; and leaving out the others changed no rank. So `cover` finds which columns are chosen with one
+  -- counter a class in one walk, where the definition compares each column with the whole pool.
   pub rank-at : (t : ℕ) → t < length sorted →
       rank (keys_of prices pool) (get_or sorted t no_key) ≡ count_by (λ x. x.class == (get_or sorted t no_key).class) (take t sorted)
   rank-at t h =

@@ -86,6 +86,7 @@ number_at-past (z ∷ zs) zero h = absurd (omega arith)
 number_at-past (z ∷ zs) (suc i) h = number_at-past zs i (omega arith)
 
 -- one above a limit that keeps a column comes after it
+-- A limit keeps the columns of its class that are up to it, and each of these comes before a column above it.
 above-limit : (x y : Key) (limit : ℤ) → limit <ℤ x.value → is_at_most x.class limit y ≡ true → comes_before x y ≡ true
 above-limit x y limit above e =
     elim (cases_eq y.class x.class) [
@@ -103,6 +104,9 @@ above-limit x y limit above e =
     ]
 
 -- a column of value below 0 that is no candidate is not chosen
+-- A limit is -1 and leaves out no column of value below 0, or keeps at least as many columns of the class as the cap. A column
+-- above it has all of these before it, so its rank is at least the cap, and it is not chosen. A class without a cap has the limit
+-- 0, which is above every value below 0. So choosing among the candidates misses no column that the definition chooses.
 not-chosen : (prices : List Price) (pool : List Column) (caps : List ℕ) (limits : List ℤ) →
     AreLimits (gain_keys prices pool) caps limits → (x : Key) →
     is_gain x ≡ true → is_candidate limits x ≡ false → is_chosen (keys_of prices pool) caps x ≡ false
@@ -128,6 +132,9 @@ not-chosen prices pool caps limits are x gain out =
           absurd (omega (arith, ints))
     ]
 
+-- What chosen columns have of an item is the same, added up over the candidates, as over all columns of value below 0: each that is
+-- left out is not chosen, and adds nothing. With `chosen-gains` and the permutation of the sort this is the sum over the pool
+-- itself.
 chosen-candidates : (prices : List Price) (pool : List Column) (caps : List ℕ) (item : ℕ) (limits : List ℤ) →
     AreLimits (gain_keys prices pool) caps limits →
     sum_by (chosen_times pool (keys_of prices pool) caps item) (filter (is_candidate limits) (gain_keys prices pool))
@@ -179,6 +186,8 @@ module _ (prices : List Price) (pool : List Column) (caps : List ℕ) (sorted : 
       (keys-there prices items (length caps) (length pool) 0 pool (omega arith) fit))))
 
   -- counted so far: how many columns of the class stand before
+  -- The test of the code is that of the definition: a candidate is chosen exactly if fewer columns of its class stand before it
+  -- than its cap allows, as that number is its rank. The counter of its class has this number by the invariant of the loop.
   pub chosen-at : (t count : ℕ) → t < length sorted → count ≡ count_by (λ x. x.class == (get_or sorted t no_key).class) (take t sorted) →
       is_chosen (keys_of prices pool) caps (get_or sorted t no_key) ≡ nat_lt count (slice_index caps (get_or sorted t no_key).class)
   chosen-at t count h e =
@@ -188,6 +197,9 @@ module _ (prices : List Price) (pool : List Column) (caps : List ℕ) (sorted : 
       ap (λ b. b && nat_lt (rank (keys_of prices pool) key) (slice_index caps key.class)) gain
       ∙ ap (λ n. nat_lt n (slice_index caps key.class)) same
 
+  -- The invariant of the walk: how often an item is covered after t columns is the sum over these, of those that are chosen. One
+  -- more column adds what it has of the item if the counter of its class is below the cap, which by `chosen-at` means that it is
+  -- chosen.
   pub covered-more : (item t count old : ℕ) → t < length sorted →
       count ≡ count_by (λ x. x.class == (get_or sorted t no_key).class) (take t sorted) →
       old ≡ sum_by (chosen_times pool (keys_of prices pool) caps item) (take t sorted) →
@@ -203,6 +215,9 @@ module _ (prices : List Price) (pool : List Column) (caps : List ℕ) (sorted : 
       ap (λ (b : Bool). cond {A = ℕ} b (times item (column_at pool key.place).items) 0) test in
       omega arith
 
+  -- At the end of the walk the sum over the sorted candidates is that over the whole pool, which is `times_chosen`: a permutation
+  -- has the same sum, and the columns that were left out, above a limit or of value at least 0, are not chosen. So `turn` moves
+  -- prices as defined.
   pub covered-all : (item t n : ℕ) → t ≡ length sorted → n ≡ sum_by (chosen_times pool (keys_of prices pool) caps item) (take t sorted) →
       n ≡ times_chosen pool prices caps item
   covered-all item t n end is =
@@ -213,6 +228,8 @@ module _ (prices : List Price) (pool : List Column) (caps : List ℕ) (sorted : 
       chosen-candidates prices pool caps item candidates.limits candidates.are
       ∙ chosen-gains pool (keys_of prices pool) caps item (keys_of prices pool)
 
+  -- The second part of the invariant: the counter of each class is how many columns of the class stood among the first t. A column
+  -- raises the counter of its own class whether it is chosen or not, since a rank counts both.
   pub counted-more : (counts : List ℕ) (t : ℕ) → t < length sorted → (get_or sorted t no_key).class < length counts →
       ((class : ℕ) → class < length counts → get_or counts class 0 ≡ count_by (λ x. x.class == class) (take t sorted)) →
       (class : ℕ) → class < length counts →

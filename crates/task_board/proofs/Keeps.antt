@@ -20,6 +20,8 @@ module _ (size : Extent) where
   nobody v d idle f e p c = let c' : Contains [] p = subst (λ (l : List (ℕ × ℤ)). Contains l p) e c in let l = c'.1 in omega arith
 
   -- a desk with the whole share leaves no part to another
+  -- The shares of all desks add up to the whole, so a second desk with any part would take the sum above it. A desk without a part
+  -- has no entries: this turns each sum and each list over all desks into that of the one desk.
   others_idle : (words : List ℕ) (views : List Sheet) (i : ℕ) (v : Sheet) → IsKept size words views →
       get_elem? views i ≡ some v → v.share ≡ whole
       → (j : ℕ) (w : Sheet) → j ≢ i → get_elem? views j ≡ some w → w.share ≡ 0
@@ -29,6 +31,8 @@ module _ (size : Extent) where
       omega arith
 
   -- and has drawn each number that was drawn
+  -- The state condition counts how often a number was drawn over all desks. The others have drawn nothing, so this desk's own count
+  -- is that sum: one for each number below the smaller of counter and tasks, and none for any other.
   pub known_drawn : (words : List ℕ) (views : List Sheet) (i : ℕ) (v : Sheet) → IsKept size words views →
       get_elem? views i ≡ some v → v.share ≡ whole
       → (x : ℕ) → times x v.drawn ≡ once_below x (min (slice_index words 0) size.tasks)
@@ -36,7 +40,11 @@ module _ (size : Extent) where
       sym (total_alone (λ u. times x u.drawn) views i
       v at (λ j w m e. ap (times x) ((s.desks j w e).empty (others_idle words views i v s at all j w m e)).0)) ∙ s.drawn x
 
-  -- what is known of a desk that has the whole share
+  -- What is known of a desk that has the whole share, and the main theorem of this file: it has drawn an initial part of the tasks,
+  -- each once, all of them where a claim missed, and each of its looks is 0 or a value by which it lowered itself. The state
+  -- condition says the same of all desks together; the others have no entries, and no misses since these are at most their share,
+  -- so what some desk did this one did. The `whole` clauses of each step and `close` rest on it: a desk that has been given back
+  -- all parts need ask nobody.
   pub known : (words : List ℕ) (views : List Sheet) (i : ℕ) (v : Sheet) → IsKept size words views → get_elem? views i ≡ some v → IfWhole v
   known words views i v s at all =
       let d = s.desks i v at in
@@ -77,7 +85,9 @@ module _ (size : Extent) where
   desks_snoc views w old new j u e =
       ⊎_elim (λ (t : get_elem? views j ≡ some u). old j u t) (λ (t : w ≡ u). subst (IsDesk size) t new) (at_snoc views w u j e)
 
-  -- Where no desk's entries changed and no class's word, the two conditions on classes stay
+  -- Where no desk's entries changed and no class's word, the class's word stays the least of 0 and the values by which it was
+  -- lowered. The condition speaks of entries that some desk has and not of who has them: so this one lemma serves claims, looks,
+  -- splits and joins, of which the last two move entries from desk to desk.
   least_kept : (words words' : List ℕ) (views views' : List Sheet) → IsKept size words views →
       ((k : ℕ) → k < size.classes → slice_index words' (k + 1) ≡ slice_index words (k + 1))
       → ((p : ℕ × ℤ) → Noted lowered_in views p → Noted lowered_in views' p) →
@@ -95,6 +105,9 @@ module _ (size : Extent) where
             old.reached;
       }
 
+  -- What was looked at stays explained while words of classes only fall and no entry is lost: its source is still noted, and the
+  -- word is still at most the value that was seen. It asks for no equality, so it serves lowerings too. From it comes what
+  -- `Desk::look` promises: no later look shows a value above an earlier one.
   looks_kept : (words words' : List ℕ) (views views' : List Sheet) →
       ((k : ℕ) → k < size.classes → slice_index words' (k + 1) ≤ slice_index words (k + 1))
       → ((p : ℕ × ℤ) → Noted lowered_in views p → Noted lowered_in views' p)
@@ -117,6 +130,8 @@ module _ (size : Extent) where
         subst P (sym (add-one k)) refl,
   )
 
+  -- A step that leaves one of the lists of the desk as it was, leaves the entries of this list over all desks as they were, both
+  -- ways: it carries over whatever the state condition says of such entries.
   same_lists : (f : Sheet → List (ℕ × ℤ)) (views : List Sheet) (i : ℕ) (v w : Sheet) → get_elem? views i ≡ some v → f w ≡ f v
       → ((p : ℕ × ℤ) → Noted f views p → Noted f (set views i w) p) × ((p : ℕ × ℤ) → Noted f (set views i w) p → Noted f views p)
   same_lists f views i v w at e = (
@@ -125,7 +140,9 @@ module _ (size : Extent) where
         (noted_back f views i w p c)),
   )
 
-  -- one desk changed its drawn numbers, or its count of misses, and the counter rose
+  -- A claim in both its outcomes: one desk changed its drawn numbers or its count of misses, and the counter rose. Looks, lowered
+  -- values, shares and the words of classes are untouched, so their part of the state condition is carried over here, once for
+  -- both; only the three conditions that tie the counter to drawn numbers and misses are left to the two lemmas below.
   claims_one : (words : List ℕ) (views : List Sheet) (i m : ℕ) (v w : Sheet) → IsKept size words views → get_elem? views i ≡ some v →
       m ≡ slice_index words 0 + 1
       → w.share ≡ v.share → w.looks ≡ v.looks → w.lowered ≡ v.lowered → IsDesk size w
@@ -151,6 +168,10 @@ module _ (size : Extent) where
             (s.looks p (look_same.1 p h));
       }
 
+  -- A claim that finds a number n below the tasks. The state condition has each x drawn as often, over all desks, as it lies below
+  -- the counter. The counter passes n alone, and n alone joins a list: at n both sides of the equation rise by one, elsewhere
+  -- neither does. As no number can count twice, `Desk::claim` never gives two desks one task. That no claim missed before follows
+  -- from the counter.
   pub claim_draws : (words : List ℕ) (views : List Sheet) (i m : ℕ) (v : Sheet) → IsKept size words views → get_elem? views i ≡ some v →
       m ≡ slice_index words 0 + 1 → 0 < v.share
       → slice_index words 0 < size.tasks → IsKept size (set words 0 m) (set views i (drew v (slice_index words 0)))
@@ -168,6 +189,10 @@ module _ (size : Extent) where
       (t ∙ ap (λ (k : ℕ). total (λ u. times x u.drawn) views + k) a) c b))
       (omega arith) (λ h. let l = low (omega arith) in absurd (omega arith))
 
+  -- A claim that finds no task left: the counter rises further, but the smaller of counter and tasks stays, so the counts of drawn
+  -- numbers stay too. The rise is charged to the miss: the counter is at most the tasks and all misses. A desk that missed claims
+  -- no more, so its misses stay within its share, and all of them within the whole: this is why the counter never comes near the
+  -- end of its word.
   pub claim_misses : (words : List ℕ) (views : List Sheet) (i m : ℕ) (v : Sheet) → IsKept size words views → get_elem? views i ≡ some v →
       m ≡ slice_index words 0 + 1 → v.over ≡ 0 → 0 < v.share
       → size.tasks ≤ slice_index words 0 → IsKept size (set words 0 m) (set views i (missed v))
@@ -189,7 +214,9 @@ module _ (size : Extent) where
   unwritten (x ∷ xs) zero = refl
   unwritten (x ∷ xs) (suc j) = ap (λ l. x ∷ l) (unwritten xs j)
 
-  -- a look
+  -- A look notes the value of the class's word. That the new entry is 0 or a value by which some desk lowered the class is what the
+  -- state condition says of the word itself, as one word stands for one value alone; and the word is at most the value because it
+  -- is equal. Nothing else changes, so the rest is carried over.
   pub look_keeps : (words : List ℕ) (views : List Sheet) (i k : ℕ) (x : ℤ) (v : Sheet) → IsKept size words views →
       get_elem? views i ≡ some v → 0 < v.share → k < size.classes
       → Stands (slice_index words (k + 1)) x → IsKept size words (set views i (looked v k x))
@@ -237,6 +264,10 @@ module _ (size : Extent) where
       (slice_index (set words j m) j ≡ m) × ((i : ℕ) → i ≢ j → slice_index (set words j m) i ≡ slice_index words i)
   set_word words j m h = (get_or-set_same words j m 0 h, λ i (n : i ≢ j). rw get_or-set_other refl)
 
+  -- A lowering makes the class's word the smaller of itself and the word of x, and x joins the desk's entries in the same step. So
+  -- the word is again the least of 0 and all entries: it is at most the old word and so at most each old entry, at most x, and
+  -- equal to the one or the other. Other classes keep word and entries, and as the word only fell, every earlier look stays above
+  -- it.
   pub lower_keeps : (words : List ℕ) (views : List Sheet) (i k m : ℕ) (x : ℤ) (v : Sheet) → IsKept size words views →
       get_elem? views i ≡ some v → 0 < v.share → k < size.classes
       → Stands m x → IsKept size (set words (k + 1) (min (slice_index words (k + 1)) m)) (set views i (lowered_by v k x))
@@ -317,6 +348,7 @@ module _ (size : Extent) where
   no_note : (l : List (ℕ × ℤ)) (p : ℕ × ℤ) → l ≡ [] → Contains l p → ⊥
   no_note l p e c = let c' : Contains [] p = subst (λ (m : List (ℕ × ℤ)). Contains m p) e c in let h = c'.1 in omega arith
 
+  -- A split changes no list of the desk and the new desk begins with an empty one: over all desks the entries are the same.
   split_lists : (f : Sheet → List (ℕ × ℤ)) (views : List Sheet) (i : ℕ) (v w o : Sheet) → get_elem? views i ≡ some v → f w ≡ f v →
       f o ≡ [] → SameNotes f views (set views i w ++ o ∷ [])
   split_lists f views i v w o at same nil =
@@ -326,6 +358,9 @@ module _ (size : Extent) where
             (noted_snoc_back f mid o p c)),
       )
 
+  -- A join moves entries and loses none: the one desk's list becomes that of both, and the other stays at its place with nothing in
+  -- it. Each entry is found again by asking whose it was: of this desk or of the other one it is in the joined list, of a third one
+  -- it is where it was. So over all desks the entries are the same.
   join_lists : (f : Sheet → List (ℕ × ℤ)) (views : List Sheet) (i j : ℕ) (v w b : Sheet) → get_elem? views i ≡ some v →
       get_elem? views j ≡ some w → ¬ (j ≡ i) → f b ≡ f v ++ f w → f spent ≡ [] → SameNotes f views (set (set views i b) j spent)
   join_lists f views i j v w b at at3 apart both nil =
@@ -351,7 +386,8 @@ module _ (size : Extent) where
             (noted_back f mid j spent p c)),
       )
 
-  -- a desk's lists after a split
+  -- A split takes one part of the share for a desk that has done nothing yet: the sum of the shares is the same, and so are all
+  -- counts and entries. No claim of the desk may have missed, since its misses must stay within a share that has become smaller.
   pub split_keeps : (words : List ℕ) (views : List Sheet) (i : ℕ) (v : Sheet) → IsKept size words views → get_elem? views i ≡ some v →
       v.over ≡ 0 → 1 < v.share
       → IsKept size words (set views i (split_left v) ++ split_right v ∷ [])
@@ -385,6 +421,10 @@ module _ (size : Extent) where
         looks = λ p h. looks_kept words words views (mid ++ o ∷ []) (λ k h. le_refl _) low.0 p (s.looks p (look.1 p h));
       }
 
+  -- A join gives one desk what both had and leaves nothing to the other, so each sum over the desks, of shares, misses and drawn
+  -- numbers, is what it was: what the one gains the other loses. Misses stay within the share since they did so in both parts. With
+  -- splits this makes the share a quantity that no step changes, from which a desk that has all of it can tell that no other is
+  -- left.
   pub join_keeps : (words : List ℕ) (views : List Sheet) (i j : ℕ) (v w : Sheet) → IsKept size words views →
       get_elem? views i ≡ some v → ¬ (j ≡ i) → 0 < v.share
       → get_elem? (set views i (joined v w)) j ≡ some w → IsKept size words (set (set views i (joined v w)) j spent)

@@ -89,6 +89,9 @@ module _ (size : Extent) where
   join_event h i j none e s = s
   join_event h i j (some v) e s = join_with_event h i j v (get_elem? h.views j) e refl s
 
+  -- Each event of the machine keeps the state condition. An event that the desk may not make changes nothing; what the others ask
+  -- of words, shares and numbers are tests of the machine, which are turned here into the premises of the lemmas on the running
+  -- board. So the machine and the contracts of `Desk` rest on the same proofs.
   pub step_keeps : (h : BoardState) (e : Event) → IsSound size h → IsSound size (happens size h e)
   step_keeps h (Split i) s = split_event h i (get_elem? h.views i) refl s
   step_keeps h (Claim i) s = claim_keeps h i (get_elem? h.views i) refl s
@@ -96,6 +99,9 @@ module _ (size : Extent) where
   step_keeps h (Lower i k x) s = lower_event h i k x (get_elem? h.views i) refl s
   step_keeps h (Join i j) s = join_event h i j (get_elem? h.views i) refl s
 
+  -- The law over every list of events, by induction over the list with any sound state before it: no order of the desks' steps is
+  -- left out, and none needs a case of its own. With `start_sound` it is the clause `kept` of `every_run_is_sound`; the others
+  -- follow by `known`.
   pub run_keeps : (es : List Event) (h : BoardState) → IsSound size h → IsSound size (run size es h)
   run_keeps [] h s = s
   run_keeps (e ∷ es) h s = run_keeps es (happens size h e) (step_keeps h e s)
