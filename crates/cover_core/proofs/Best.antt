@@ -78,6 +78,9 @@ Rises-rest x [] r = tt
 Rises-rest x (y ∷ ys) r = r.1
 
 -- each list that rises is among them
+-- By induction over the items that are left, where the list starts at k or later: it begins with k, and its rest is among the lists
+-- from k + 1 on, or it does not begin with k and is itself among these. There are too many such lists to look at any; they are
+-- there so that the best column is a function of the problem, and this lemma says that the function leaves none out.
 pub rising_from-has : (n k : ℕ) (xs : List ℕ) → Rises xs → StartsFrom k xs → AllBelow (k + n) xs → IsIn xs (rising_from n k)
 rising_from-has zero k [] r s b = inl refl
 rising_from-has zero k (x ∷ xs) r s b = let below = b.0 in absurd (omega arith)
@@ -141,6 +144,8 @@ earliest-each P prices (x ∷ xs) c h e =
     ] refl e
 
 -- none comes before the earliest
+-- By induction over the columns: the earliest of the rest comes before all of the rest, and the first column is compared with it
+-- alone; that the order of columns is total and carries over from one comparison to the next does the others.
 pub earliest-first : (prices : List Price) (cs : List Column) (c d : Column) → earliest prices cs ≡ Some c → IsIn d cs → IsFirst prices c d
 earliest-first prices [] c d e i = absurd i
 earliest-first prices (x ∷ xs) c d e i =
@@ -206,6 +211,9 @@ group_columns-each p class group =
 abbrev pub made_of : ℕ → ℕ → List ℕ → Column
 made_of class worth list = record { class = class; worth = worth; items = list }
 
+-- Each list of the class and group with a worth is among the columns that the definition compares. The law of columns is what it
+-- takes: a list with a worth rises and has items of the problem alone. So what holds of the compared columns holds of every list
+-- there is.
 pub group_columns-has : (p : Problem) (class group : ℕ) (list : List ℕ) (worth : ℕ) → HasListedColumns p →
     p.worth class list ≡ Some worth → InGroup group list → IsIn (made_of class worth list) (group_columns p class group)
 group_columns-has p class group list worth listed has in_it =
@@ -242,6 +250,8 @@ IsFirst-value prices a b h = not_greater-value (value prices a) (value prices b)
 pub IsFirst-list : (prices : List Price) (a b : Column) → value prices a ≡ value prices b → IsFirst prices a b → IsNotAfter a.items b.items
 IsFirst-list prices a b same h = not_greater-list (value prices a) (value prices b) (backward_cmp a.items b.items) same h
 
+-- The earliest of all columns of the group is a first least: the order compares values first, so its value is the least, and lists
+-- next, so of those with that value none has a list before its own.
 pub best-first : (p : Problem) → HasListedColumns p → (prices : List Price) (class group : ℕ) (column : Column) → class < length p.caps →
     best_of p prices class group ≡ Some column → IsFirstLeast p prices class group column
 best-first p listed prices class group column below e =
@@ -287,6 +297,8 @@ slice_cmp-apart (x ∷ xs) (y ∷ ys) e =
           ] refl e
     ]
 
+-- Lists that compare as equal are one list: read backwards they agree item by item and end together, and reversing twice gives the
+-- list again. Without this two columns of equal value could both be first, and what pricing answers would depend on the search.
 pub backward_cmp-apart : (xs ys : List ℕ) → backward_cmp xs ys ≡ Equal → xs ≡ ys
 backward_cmp-apart xs ys e =
     sym (reverse-reverse xs) ∙ ap reverse (slice_cmp-apart (reverse xs) (reverse ys) e) ∙ reverse-reverse ys
@@ -305,7 +317,9 @@ same_columns : (a b : Column) → a.class ≡ b.class → a.worth ≡ b.worth �
 same_columns a b class worth items =
     ap (λ k. made_of k a.worth a.items) class ∙ ap (λ n. made_of b.class n a.items) worth ∙ ap (λ l. made_of b.class b.worth l) items
 
--- there is one first least at most
+-- There is one first least at most: each of two has a value no greater than the other's, so the values are equal; then neither list
+-- is after the other, so they are one list, and class and list tell the worth. Whatever finds a first least therefore finds this
+-- column: with it searches of any kind, by any number of workers, must agree, and nothing need be known of how they search.
 pub IsFirstLeast-one : (p : Problem) (prices : List Price) (class group : ℕ) (a b : Column) →
     IsFirstLeast p prices class group a → IsFirstLeast p prices class group b → a ≡ b
 IsFirstLeast-one p prices class group a b fa fb =
@@ -334,6 +348,9 @@ best-only p listed prices class group column below f =
           (IsFirstLeast-one p prices class group b column (best-first p listed prices class group b below is) f)
     ] refl
 
+-- The main theorem of this file: `best_of` is the first least of a class and group, and every first least is `best_of`; it is none
+-- exactly where no list of the group has a worth. One direction is that the earliest of all columns comes first, the other that
+-- there is one alone. So a pricer may promise the function `best_of`, and its caller use what a first least is.
 pub best_is_first_least : (p : Problem) → HasListedColumns p → BestIsFirstLeast p
 best_is_first_least p listed prices class group below = record {
   is_first_least = λ column e. best-first p listed prices class group column below e;
@@ -377,6 +394,9 @@ within-none limit prices c e =
 within-drops : (limit : ℤ) (prices : List Price) (c : Column) → limit <ℤ value prices c → within limit prices (Some c) ≡ None
 within-drops limit prices c h = let test : int_le (value prices c) limit ≡ false = grind (arith, ints) in rw test refl
 
+-- Under a limit the answer is the first least or nothing, and nothing means that all lists of the group have values above the
+-- limit: the least value is one of them. So a search may drop every list that cannot close within its limit, and its answer is
+-- still a proof for all.
 pub within_is_limited : (p : Problem) → HasListedColumns p → WithinIsLimited p
 within_is_limited p listed prices class group limit below =
     let best = best_is_first_least p listed prices class group below in

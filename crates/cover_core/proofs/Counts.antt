@@ -38,6 +38,8 @@ all_items-length p (c ∷ cs) listed h =
     let both : length (c.items ++ all_items cs) ≡ length c.items + length (all_items cs) = length-append c.items (all_items cs) in
     omega arith
 
+-- No plan has more columns than items: no column is empty, so there are at most as many columns as items in all of them; and the
+-- items of all columns, counted by item, are each there once.
 pub has_few_columns : (p : Problem) → HasListedColumns p → HasFewColumns p
 has_few_columns p listed columns plan =
     let below : AllBelow p.items (all_items columns) = all_items-below p columns listed plan.worths in
@@ -105,6 +107,9 @@ counted-plan p q cs count plan = record {
       (plan.caps class (let P : List ℕ → Type 0 = λ caps. class < length caps in subst P count.caps below));
 }
 
+-- The columns of a plan, each taken as worth 1, are a plan of the problem that counts, and it costs their number: so weak duality
+-- there is a bound on how many columns a plan has. What is a column does not change, so the bound on vehicles or drivers holds of
+-- plans with costs.
 pub count_duality : (p : Problem) → HasListedColumns p → CountDuality p
 count_duality p listed q prices zs count prices-length zs-length paid columns plan =
     let below : AllBelow q.items (all_items (counted_columns columns)) =

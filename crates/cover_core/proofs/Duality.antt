@@ -43,7 +43,8 @@ pub all_classes-below : (p : Problem) (columns : List Column) → AreColumns p c
 all_classes-below p [] h = tt
 all_classes-below p (c ∷ cs) h = (h.0.0, all_classes-below p cs h.1)
 
--- the prices of all columns are at most their costs and class prices
+-- The prices of all columns are at most their costs and class prices. Where prices are paid this holds of each column by itself, in
+-- thousandths of a cost unit; by induction over the columns both sides add up.
 pub charges : (p : Problem) (prices : List Price) (zs : List ℤ) (columns : List Column) → IsPaid p prices zs → AreColumns p columns →
     sum_each (price_at prices) (all_items columns) ≤ℤ (pos (1000 * cost columns) +ℤ sum_each (number_at zs) (all_classes columns))
 charges p prices zs [] paid h = omega (arith, ints)
@@ -58,7 +59,11 @@ pub thousandth-le : (z : ℤ) (n : ℕ) → z ≤ℤ pos (1000 * n) → thousand
 thousandth-le (pos m) n h = let k : m ≤ 1000 * n = omega (arith, ints) in omega arith
 thousandth-le (negsuc m) n h = omega arith
 
--- the columns need no law of the problem: their items are known to be there
+-- Weak duality: no plan costs less than the bound of paid prices. The inequality of each column is added up (`charges`), and both
+-- sums are counted anew. Prices by items: each item stands in the plan once, so they are the sum of all prices. Class prices by
+-- classes: no class has more columns than its cap and no class price is below 0, so at most cap times class price is taken. Costs
+-- are whole numbers, so a thousandth may be rounded up. That items are there is a premise, so that it serves columns for which the
+-- law of the problem is not known.
 pub weak_duality-below : (p : Problem) (prices : List Price) (zs : List ℤ) → length prices ≡ p.items →
     length zs ≡ length p.caps → IsPaid p prices zs →
     (columns : List Column) → AllBelow p.items (all_items columns) → IsPlan p columns → bound_of prices zs p.caps ≤ cost columns
@@ -79,6 +84,8 @@ weak_duality-below p prices zs prices-length zs-length paid columns below plan =
     let costs = charges p prices zs columns paid plan.worths in
     thousandth-le _ _ (omega (arith, ints, rent-is p.caps zs zs-length))
 
+-- The same of every problem whose lists with a worth have items that are there. Each printed bound rests on this and on paid prices
+-- alone, and on nothing that was done to find them.
 pub weak_duality : (p : Problem) → HasListedColumns p → WeakDuality p
 weak_duality p listed prices zs prices-length zs-length paid columns plan =
     weak_duality-below p prices zs prices-length zs-length paid columns (all_items-below p columns listed plan.worths) plan
@@ -96,6 +103,9 @@ class_prices_of-at [] k = refl
 class_prices_of-at (z ∷ zs) zero = refl
 class_prices_of-at (z ∷ zs) (suc k) = class_prices_of-at zs k
 
+-- Class prices that are made of least values are paid: a class price is minus the least value or 0, so it is at least 0 and at
+-- least minus the value of any list of the class. So pricing need only find the least value of each class, and need not find it by
+-- looking at all.
 pub least_is_paid : (p : Problem) → LeastIsPaid p
 least_is_paid p prices least same at_most = record {
   charged = λ class below. rw (class_prices_of-at least class) (class_price_of-charged (number_at least class));
@@ -104,6 +114,8 @@ least_is_paid p prices least same at_most = record {
       rw (class_prices_of-at least class) (omega (arith, ints, class_price_of-covers (number_at least class)));
 }
 
+-- Class prices may also be higher than least values ask: it is enough that each is at least 0 and that with the least value of its class
+-- it comes to 0 or more. A list has a value no less than the least one, and so none below minus the class price.
 pub covering_is_paid : (p : Problem) → CoveringIsPaid p
 covering_is_paid p prices class_prices least charged covering at_most = record {
   charged = charged;

@@ -122,6 +122,9 @@ row_positive : (n : ℕ) (C : ℕ → Bool) (v : ℕ) → C v ≡ false → row_
 row_positive n C v out = let most = row_most n C v in let none : one (C v) ≡ pos 0 = rw out refl in omega (arith, ints)
 
 -- the rows of a matching that are not the root have no more of C than in the other way
+-- Row by row: a row has no more of C in the matching than in the other way, and the root has one more there. A row that has a
+-- column of C in the matching holds it, so it is in R, or is a row that both ways agree on; and rows of R have a column of C in the
+-- other way.
 row_less : (n most : ℕ) (to from : ℕ → ℕ) (spare room root fixed : ℕ) (R C : ℕ → Bool) (next : ℕ → ℕ) (firsts : List ℕ) →
     IsHeld n most to from spare room → IsClosed n to from spare room root fixed R C → Leads n most to root fixed R C next firsts →
     (t : ℕ) → t < n → (row_part n C (to t) +ℤ (pos (cond (t == root) 1 0) *ℤ pos 1)) ≤ℤ one (C (next t))
@@ -170,7 +173,10 @@ row_less n most to from spare room root fixed R C next firsts are closed other t
               closed.end_held (subst P e in_c) t from_fixed within e
         ]
 
--- so there is no other way
+-- So there is no other way: a pigeonhole argument, by adding up over all rows. The matching has given out all places of the columns
+-- of C, and the root has none of them. In the other way every row that has one still has one, and the root as well: one place more
+-- than there is. Store and end have many places each, so the four cases of whether they are in R and C compare the numbers of
+-- vehicles that start, end and stay. What searches show with it: there is no cover, or none that comes earlier.
 pub blocked : (n most : ℕ) (to from : ℕ → ℕ) (spare room root fixed : ℕ) (R C : ℕ → Bool) (next : ℕ → ℕ) (firsts : List ℕ) →
     IsHeld n most to from spare room → IsClosed n to from spare room root fixed R C → Leads n most to root fixed R C next firsts → ⊥
 blocked n most to from spare room root fixed R C next firsts are closed other =

@@ -37,7 +37,8 @@ here_not a b apart = go (a == b) refl
     go true e = absurd (apart (grind (arith, nat_tests)))
     go false e = rw e refl
 
--- a node with a row before it stands in a path as often as that row, and once more where it is the first
+-- A node with a row before it stands in a path as often as that row, and once more where it is the first: in a path that follows
+-- the matching the node before it can only be that row, and behind that row stands only this node. By induction along the path.
 times_after : (n : ℕ) (to from : ℕ → ℕ) → AreMatched n to from → (s r : ℕ) → s < n → r < n → from s ≡ r → (t : ℕ) (ts : List ℕ) →
     t < n → FollowsFrom n to t ts →
     times s (t ∷ ts) ≡ here s t + times r (t ∷ ts)
@@ -231,7 +232,10 @@ lists_there net p to from spare tight ((t ∷ ts) ∷ lists) follow firsts =
     follow_holds t [] follows = λ within. follows
     follow_holds t (u ∷ us) follows = ((λ within. follows.1), follow_holds u us follows.2)
 
--- each node stands once in them
+-- Each node stands once in them, by induction over a bound on its number. A node that comes from the store stands at the start of a
+-- path, once, and nowhere else. Any other has a row before it, which is a smaller number since arcs rise, and stands as often as
+-- that one does: once. Without rising arcs a matching could go in circles that no path runs through; this is where they are
+-- excluded.
 once_each : (net : Net) → IsRising net → (p : Potentials) (to from : ℕ → ℕ) (spare : ℕ) → AreMatched net.nodes to from →
     IsTightMatching net p to from spare →
     ((u : ℕ) → u < net.nodes → from u ≤ net.nodes) → (lists : List (List ℕ)) → AllFollow net.nodes to lists →
@@ -275,6 +279,10 @@ follow_count n to [] follow = refl
 follow_count n to ([] ∷ lists) follow = absurd follow.0
 follow_count n to ((t ∷ ts) ∷ lists) follow = omega (arith, follow_count n to lists follow.1)
 
+-- The main theorem of this file: the paths that follow a tight matching in which every column has a row are a cover that meets
+-- complementary slackness, and each node's successor is its column. Arcs of the matching are there and tight, each node stands
+-- once, and the counts of store and end say that there are no more paths than allowed; where fewer run, a vehicle is spare, and so
+-- store and end are equal.
 pub matching_covers : (net : Net) → IsRising net → (p : Potentials) (to from : ℕ → ℕ) (spare room : ℕ) →
     IsHeld net.nodes net.most to from spare room → IsTightMatching net p to from spare →
     ((u : ℕ) → u < net.nodes → from u ≤ net.nodes) → (lists : List (List ℕ)) → AllFollow net.nodes to lists →

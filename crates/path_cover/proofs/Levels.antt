@@ -99,7 +99,10 @@ lists_stay net rising p q stays ((t ∷ ts) ∷ lists) are tight =
       lists_stay net rising p q stays lists are.1 tight.1,
     )
 
--- where no number lies in a band, none lies below it
+-- Where no number lies in a band of a dearest arc's width, none lies below it. Otherwise raise all numbers below the band by 1. An
+-- arc with one end below and one above would be wider than the dearest cost, so tight arcs have both ends on one side and stay
+-- tight, and no arc loses what makes it feasible. So the raised numbers are potentials of the cover too, and higher than the
+-- greatest ones.
 no_band : (net : Net) → IsRising net → (dear : ℕ) → IsDear net dear → (lists : List (List ℕ)) → IsCover net lists → (p : Potentials) →
     AreGreatest net lists p → (level : ℕ) →
     ((x : ℕ) → x ≤ net.nodes → NotInBand level dear (p.tail x)) → ((v : ℕ) → v ≤ net.nodes → NotInBand level dear (p.head v)) →
@@ -150,6 +153,7 @@ one_more a b m more = elim (cases_lt b m) [
     one_most false = omega (arith, ints)
 
 -- where there are no more, none lies in the band
+-- A counting step: where as many numbers lie above the lower edge of a band as above its upper edge, none lies in the band.
 same_above : (level dear : ℕ) (f : ℕ → ℤ) (n : ℕ) → above_in (level + dear) f n ≤ℤ above_in level f n → (x : ℕ) →
     x < n → NotInBand level dear (f x)
 same_above level dear f n same x within near = elim (cases_lt level (depth (f x))) [
@@ -191,7 +195,8 @@ above_high level f (suc n) = let rest = above_high level f n in let last = go (n
     go true = omega (arith, ints)
     go false = omega (arith, ints)
 
--- after k bands there are k numbers, or all
+-- After k bands there are at least k numbers above, or all are. By induction: either the next band has a number in it and the count
+-- rises, or it has none, and then by `no_band` no number is below it.
 levels : (net : Net) → IsRising net → (dear : ℕ) → IsDear net dear → (lists : List (List ℕ)) → IsCover net lists → (p : Potentials) →
     AreGreatest net lists p → (k : ℕ) →
     (pos k ≤ℤ above_of (k * dear) net p) ⊎ AreAbove net p (k * dear)
@@ -233,7 +238,9 @@ levels net rising dear cheap lists cover p greatest (suc k) = elim (levels net r
         int_cases (negsuc m) (negsuc n) =
             elim (cases_lt m n) [ inl below ↦ inr (omega (arith, ints)) | inr above ↦ inl (omega (arith, ints)) ]
 
--- no greatest number is below -(2 n + 2) times the greatest cost of an arc
+-- No greatest number is further below 0 than 2 n + 3 times the greatest cost of an arc: there are 2 n + 2 numbers, so that many
+-- bands cannot each have one of their own. It bounds the numbers of the sweep that finds them, which so stay within 64 bits, by the
+-- network alone.
 pub greatest_high : (net : Net) → IsRising net → (dear : ℕ) → IsDear net dear → (lists : List (List ℕ)) → IsCover net lists →
     (p : Potentials) → AreGreatest net lists p →
     AreAbove net p ((2 * net.nodes + 3) * dear)

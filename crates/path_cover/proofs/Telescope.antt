@@ -59,6 +59,8 @@ rest_rises net rising t (u ∷ us) y within below e =
     (rising.rises t u parts.first within below.0 parts.first_is, rest_rises net rising u us parts.second below.0 below.1 parts.second_is)
 
 -- paths are not empty, rise, and have nodes of the network alone
+-- What set partitioning asks of a problem holds of paths: arcs between nodes rise, so a list with a cost rises and has no node
+-- twice.
 pub paths_listed : (net : Net) → IsRising net → HasListedColumns (paths net)
 paths_listed net rising class [] worth e = absurd (cc)
 paths_listed net rising class (t ∷ ts) worth e =
@@ -81,6 +83,9 @@ rest_gain net p feasible t (u ∷ us) y within below e =
     omega (arith, ints, parts.sum)
 
 -- the gains of a path's nodes are at most its cost and what a path pays
+-- Along a path the potentials telescope: each arc's difference is at most its cost, and the sum of these differences is that of the
+-- gains of its nodes, but for the store, where it begins, and the end. So with gains as prices no path costs less than its nodes
+-- are priced at and what it pays for its place: that potentials are feasible is all that paid prices need.
 pub path_gain : (net : Net) (p : Potentials) → AreFeasible net p → (list : List ℕ) (y : ℕ) → path_cost net list ≡ Some y →
     sum_each (gain p) list ≤ℤ (pos y +ℤ (p.tail net.nodes -ℤ p.head net.nodes))
 path_gain net p feasible [] y e = absurd (cc)
@@ -101,6 +106,8 @@ rest_tight net p t (u ∷ us) y e tight =
     let rest = rest_tight net p u us parts.second parts.second_is tight.1 in
     omega (arith, ints, parts.sum)
 
+-- The same sum with equality where all arcs are tight. With the lemma above and the one below: paths of tight arcs are just those
+-- that cost no more than their prices, which is complementary slackness for one path.
 pub path_tight : (net : Net) (p : Potentials) → (list : List ℕ) (y : ℕ) → path_cost net list ≡ Some y → IsTightPath net p list →
     sum_each (gain p) list ≡ pos y +ℤ (p.tail net.nodes -ℤ p.head net.nodes)
 path_tight net p [] y e tight = absurd (cc)
@@ -128,6 +135,8 @@ tight_rest net p feasible t (u ∷ us) y within below e equal =
       tight_rest net p feasible u us parts.second within' below.1 parts.second_is (omega (arith, ints, parts.sum)),
     )
 
+-- Only there: a sum of arcs, none of which is above its cost, comes to the sum of the costs only if each arc is equal to its own.
+-- So any other cover of the same cost goes over tight arcs too, and the search for the first one may look at these alone.
 pub tight_path : (net : Net) (p : Potentials) → AreFeasible net p → (list : List ℕ) (y : ℕ) → path_cost net list ≡ Some y →
     sum_each (gain p) list ≡ pos y +ℤ (p.tail net.nodes -ℤ p.head net.nodes) → IsTightPath net p list
 tight_path net p feasible [] y e equal = absurd (cc)

@@ -12,6 +12,8 @@ use Rattle.path_cover.specs.Matchings.{IsHeld, IsTightArc, IsTightMatching}
 use Rattle.path_cover.specs.Trees.{Tree, Matching, Aim, IsTree}
 
 -- the seen columns are held by the seen rows
+-- A tree is closed in the sense of the counting argument of `Blocked`: each seen column is held, and by seen rows or rows that may
+-- not be moved. This is all that the argument needs of a search.
 closed : (net : Net) (p : Potentials) (m : Matching) (a : Aim) (tree : Tree) → IsTree net p m a tree →
     IsClosed net.nodes m.to m.from m.spare m.room a.root a.fixed tree.rows tree.columns
 closed net p m a tree is = record {
@@ -29,7 +31,9 @@ closed net p m a tree is = record {
   store_stays = λ in_c some. (is.full net.nodes (omega arith) in_c).stays refl some;
 }
 
--- where nothing is offered, there is no cover
+-- Where nothing is offered, there is no cover. Seen rows have arcs to seen columns alone, and these are all held by seen rows other
+-- than the root, which has none: there is one seen row more than there are places for them, in any cover. So `least_cover` may
+-- answer that there is none, and the counting is all the proof it takes.
 pub stuck_no_cover : (net : Net) → IsRising net → (p : Potentials) (m : Matching) (a : Aim) (tree : Tree) →
     IsHeld net.nodes net.most m.to m.from m.spare m.room → IsTree net p m a tree →
     a.fixed ≡ 0 → net.nodes < a.limit → ((v : ℕ) → v ≤ net.nodes → tree.columns v ≡ false → tree.least v ≡ None) →
@@ -51,7 +55,10 @@ stuck_no_cover net rising p m a tree held is none_fixed no_limit none lists cove
           cc)
     ]
 
--- where what is offered costs more than nothing, no least cover that agrees on the rows before comes earlier
+-- Where what is offered costs more than nothing, no least cover that agrees on the rows before gives the root an earlier column.
+-- Covers of least cost go over tight arcs alone, and the tree has all tight arcs of its rows; the rows before the root are where
+-- the other cover has them too. So the counting of `stuck_no_cover` applies, with tight arcs for arcs: it makes the cover found the
+-- first of all.
 pub stuck_not_before : (net : Net) → IsRising net → (p : Potentials) → AreFeasible net p → (m : Matching) (a : Aim) (tree : Tree) →
     IsHeld net.nodes net.most m.to m.from m.spare m.room → IsTree net p m a tree →
     a.fixed ≡ suc a.root → ((v : ℕ) (d : ℤ) → v ≤ net.nodes → tree.columns v ≡ false → tree.least v ≡ Some d → pos 0 <ℤ d) →
@@ -88,6 +95,9 @@ lowered p tree by = record {
 abbrev pub IsLeast : Net → Tree → ℤ → Type 0
 IsLeast net tree by = (v : ℕ) (d : ℤ) → v ≤ net.nodes → tree.columns v ≡ false → tree.least v ≡ Some d → by ≤ℤ d
 
+-- Lowering the potentials of all that is seen by the least offer keeps them feasible. An arc with both ends seen, or neither, has
+-- the reduced cost that it had; one from an unseen row to a seen column gains; and one from a seen row to an unseen column loses
+-- the lowering, but its reduced cost is an offer, and no offer is less.
 pub lowered_feasible : (net : Net) (p : Potentials) (m : Matching) (a : Aim) (tree : Tree) (by : ℤ) → AreFeasible net p →
     IsTree net p m a tree → net.nodes < a.limit → pos 0 ≤ℤ by → IsLeast net tree by → AreFeasible net (lowered p tree by)
 lowered_feasible net p m a tree by feasible is no_limit some least x v c x_in v_in e = go (tree.rows x) (tree.columns v) refl refl
@@ -133,7 +143,8 @@ same_seen true k there back = sym (there refl)
 same_seen false true there back = back refl
 same_seen false false there back = refl
 
--- the matching stays tight
+-- The matching stays tight: each of its arcs has both ends seen or neither. A seen column's holder is seen, as the tree is closed
+-- under holders; and a seen row offers nothing over its tight arc, while each unseen column is offered more, so its column is seen.
 pub lowered_matching : (net : Net) → IsRising net → (p : Potentials) (m : Matching) (a : Aim) (tree : Tree) (by : ℤ) →
     IsHeld net.nodes net.most m.to m.from m.spare m.room → IsTree net p m a tree →
     IsTightMatching net p m.to m.from m.spare → a.fixed ≡ 0 → net.nodes < a.limit → pos 0 <ℤ by → IsLeast net tree by →
@@ -204,6 +215,9 @@ less_offer (Some z) by d e = (z, refl, some_int (z -ℤ by) d e)
     some_int : (a b : ℤ) → Some a ≡ Some b → a ≡ b
     some_int a b e = let f : Option ℤ → ℤ = λ o. unwrap_or o a in ap f e
 
+-- The tree stays a tree under lowered potentials: the arcs on which it hangs have both ends seen, so they stay tight, and every
+-- offer falls by what was lowered. The least becomes 0, and so the tree can grow: each lowering is followed by a column that is
+-- seen or has a place.
 pub fallen_tree : (net : Net) (p : Potentials) (m : Matching) (a : Aim) (tree : Tree) (by : ℤ) → IsTree net p m a tree →
     IsTree net (lowered p tree by) m a (fallen tree by)
 fallen_tree net p m a tree by is = record {
