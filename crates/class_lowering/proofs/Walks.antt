@@ -17,6 +17,9 @@ column-get [] i d h is = absurd (omega arith)
 column-get (c ∷ cs) i d h is = is ∙ get_or-any (c ∷ cs) i d no_column h
 
 -- one more place
+-- One place more. The invariant of the loop is that lowering along the places left, from the prices reached, gives the prices that
+-- lowering along all places gives from the first ones: so each column is lowered at the prices that the earlier ones left, as the
+-- definition has it.
 pub along-more : (pool : List Column) (asked : List ℤ) (places : List ℕ) (i : ℕ) (now new : List Price) (goal : List Price) →
     i < length places →
     new ≡ lowered_prices now (column_at pool (get_or places i 0)) (number_at asked (column_at pool (get_or places i 0)).class) →

@@ -40,6 +40,9 @@ All-put Q into item link inside all here j =
           subst S (sym (get_or-set_other into item j more [] apart)) (all j)
     ]
 
+-- One more link keeps a class's links true: it is behind those of its item, it comes from an earlier item and its rise is that of
+-- the problem's own worths; all other items keep theirs. Whichever links are put in, a web of links says nothing false of the
+-- problem; which ones they are decides only on what is found.
 pub links-put : (p : Problem) (class item : ℕ) (c new : ClassLinks) (link : Link) → AreLinks p class c → new.single ≡ c.single →
     new.into.items ≡ set c.into.items item (get_or c.into.items item [] ++ link ∷ []) → item < p.items → IsReach item link →
     IsLinkInto p class item link → AreLinks p class new

@@ -18,6 +18,9 @@ fit-push : (n k : ℕ) (cs : List Column) (c : Column) → AreFit n k cs → Are
 fit-push n k [] c are one = one
 fit-push n k (x ∷ xs) c are one = (are.0, fit-push n k xs c are.1 one)
 
+-- One more woven column. What is woven is valued by the problem itself, and pushed only where its value is below minus what its
+-- class asks; links and sums merely proposed the list. So woven columns are columns of the problem and gains, however rough the
+-- sums are.
 pub woven-push : (p : Problem) (prices : List Price) (free : List ℕ) (asked : List ℤ) (class : ℕ) (z : ℤ)
     (cs new : List Column) (c : Column) →
     0 < slice_index free class → z ≡ number_at asked class → IsWoven p prices class z c → new ≡ cs ++ c ∷ [] →

@@ -20,6 +20,9 @@ module _ (counted costed : Problem) (counts : IsCountOf costed counted) where
   bound_there : (kept : Kept) → IsPaidOffer counted kept → kept.bound ≡ bound_of kept.prices.items kept.class_prices costed.caps
   bound_there kept paid = paid.bound ∙ ap (λ (l : List ℕ). bound_of kept.prices.items kept.class_prices l) counts.caps
 
+  -- The first pass counts each column as worth 1, and its offer is paid there. The columns of a plan with costs are a plan of that
+  -- problem too, so the bound is one on how many there are, by the duality of counts; items and caps are those of the problem with
+  -- costs.
   pub count_is_bound : (kept : Kept) → CountDuality costed → IsPaidOffer counted kept → IsCountBoundOf costed kept.bound
   count_is_bound kept duality paid = λ columns plan.
       let P : ℕ → Type 0 = λ n. n ≤ length columns in
@@ -27,6 +30,8 @@ module _ (counted costed : Problem) (counts : IsCountOf costed counted) where
       (duality counted kept.prices.items kept.class_prices counts (prices_there kept paid) (class_prices_there kept paid)
       paid.paid columns plan)
 
+  -- Where the bound on columns is above the places of all classes together there is no plan: a plan would have as many columns as
+  -- the bound says, and no more than the places. So that cause is a proof of it, and not a search that gave up.
   pub has_none : (numbers : Numbers) (bound places : ℕ) (none : HasNoPlan counted numbers bound places) → NoPlanAbove costed →
       IsPaidOffer counted none.count → HasNone costed
   has_none numbers bound places none above paid =

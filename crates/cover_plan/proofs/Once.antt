@@ -46,6 +46,8 @@ all_at : (P : Kept → Type 0) (front : List Kept) (k : Kept) (rest : List Kept)
 all_at P [] k rest h = All-head P k rest h
 all_at P (x ∷ xs) k rest h = all_at P xs k rest (All-tail P x (xs ++ k ∷ rest) h)
 
+-- The first offer of the greatest bound is one offer alone. By induction over both splits of the list of offers: where one split
+-- puts its offer at the front and the other does not, the front has a bound that is less by the one and no less by the other.
 one_split : (b c : List Kept) (k l : Kept) (a d : List Kept) → b ++ k ∷ a ≡ c ++ l ∷ d →
     All (λ (o : Kept). o.bound < k.bound) b → All (λ (o : Kept). o.bound ≤ k.bound) a → All (λ (o : Kept). o.bound < l.bound) c →
     All (λ (o : Kept). o.bound ≤ l.bound) d → k ≡ l
@@ -81,6 +83,8 @@ abbrev planned_as : Kept → List Column → KeptPlan
 planned_as cost columns = record { cost = cost; columns = columns }
 
 -- rounding
+-- Rounding goes through a pool in the order of value and place, which is one order (`one_by_value`), and from there it is a
+-- function.
 pub one_rounding : (p : Problem) (prices : List Price) (pool : List Column) (one other : Rounded) → RoundsTo p prices pool one →
     RoundsTo p prices pool other → one ≡ other
 one_rounding p prices pool one other h k =
@@ -103,6 +107,8 @@ same_fields c d change kind a b i j =
     ∙ (ap (λ (x : ℕ). candidate d.change d.kind x c.b c.i c.j) a ∙ (ap (λ (x : ℕ). candidate d.change d.kind d.a x c.i c.j) b
     ∙ (ap (λ (x : ℕ). candidate d.change d.kind d.a d.b x c.j) i ∙ ap (λ (x : ℕ). candidate d.change d.kind d.a d.b d.i x) j))))
 
+-- Steps that compare as equal are one step: the order of candidates ends with their numbers, and what it compares is all that a
+-- candidate has. So of equally good steps the least is still one, and the threads that look for it cannot disagree.
 level : (c d : Candidate) → candidate_cmp c d ≡ Equal → c ≡ d
 level c d h =
     let j = nat_cmp c.j d.j in
@@ -138,6 +144,7 @@ no_step p old new none step =
     let below = step.2 in
     omega (arith, ints)
 
+-- By induction over the steps: the same number of steps leads to the same columns, as each step is the least of all.
 one_lead : (p : Problem) (n : ℕ) (old a b : List Column) → Leads p n old a → Leads p n old b → a ≡ b
 one_lead p zero old a b h k = h ∙ sym k
 one_lead p (suc n) old a b h k =
@@ -159,6 +166,8 @@ front p n (suc m) old new less h =
           (h.0, new, subst P same h.1, h.2)
     ] refl
 
+-- Exchange steps end after the number allowed, or where no step lowers the cost. Had one run ended before the other, its columns
+-- would be those that the other reached by then, and there the other made one more step that lowers the cost.
 not_fewer : (p : Problem) (steps : ℕ) (old a b : List Column) (h : IsImproved p steps old a) (k : IsImproved p steps old b) →
     h.made < k.made → ⊥
 not_fewer p steps old a b h k less =
@@ -169,6 +178,8 @@ not_fewer p steps old a b h k less =
     let P : List Column → Type 0 = λ mid. IsStep p mid f.1 in
     no_step p a f.1 (h.end some) (subst P same f.3)
 
+-- Improving a plan ends in one way: neither run makes fewer steps than the other, so both make as many, and as many lead to one
+-- plan.
 pub one_improved : (p : Problem) (steps : ℕ) (old a b : List Column) → IsImproved p steps old a → IsImproved p steps old b → a ≡ b
 one_improved p steps old a b h k =
     let not_less : h.made < k.made → ⊥ = not_fewer p steps old a b h k in
@@ -227,6 +238,8 @@ module _ (counted costed : Problem) (numbers : Numbers) (fixed : numbers.climb �
       let P : Kept → Type 0 = λ kept. RoundsTo costed kept.prices.items (after_rounds costed numbers.rounds).pool r in
       subst P (one_kept (all_offers costed numbers.rounds numbers.lower) cost other h k) rounds
 
+  -- By fixed rounds a pass ends in one plan: the kept offers are one, so are the pools, being functions of the problem, so are the
+  -- roundings, and so what the exchange makes of them.
   one_plan : (cost other : Kept) (a b : List Column) → IsRounded costed numbers cost a → IsRounded costed numbers other b → a ≡ b
   one_plan cost other a b h k =
       let first : h.first ≡ k.first =
@@ -260,6 +273,10 @@ module _ (counted costed : Problem) (numbers : Numbers) (fixed : numbers.climb �
       let enough = has.places in
       omega arith
 
+  -- The main theorem of this file: planning by fixed rounds ends in one way alone. Each stage has one answer, and the kinds of
+  -- endings exclude each other: one bound is above the places or is not, and one rounding is whole or leaves an item. So nothing in
+  -- the result depends on the number of workers or on their timing, though none of them is mentioned: what the parts promise leaves
+  -- them no choice.
   pub one_ending : (one other : Ending) → EndsAs counted costed numbers one → EndsAs counted costed numbers other → one ≡ other
   one_ending (planned c k a) (planned d l b) h m =
       ap (λ (x : Kept). planned x k a) (same_kept counted c d h.counts.kept m.counts.kept)

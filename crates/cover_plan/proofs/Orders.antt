@@ -69,6 +69,9 @@ module _ (lt : ℕ → ℕ → Bool) (order : IsStrictWeakOrder lt) (apart : (x 
         | false ↦ λ e. (let t = rw e at there in let more : 0 < times x ys = omega arith in behind y ys x up more)
       ] refl
 
+  -- A list that ascends is told by how often each number stands in it: the first of each list is in the other too, so neither is
+  -- less than the other, and they are one number; the rest follows by induction. So a sort that only promises a permutation in
+  -- order has one result.
   pub one_order : (xs ys : List ℕ) → Ascends lt xs → Ascends lt ys → ((e : ℕ) → times e xs ≡ times e ys) → xs ≡ ys
   one_order [] [] a b same = refl
   one_order [] (y ∷ ys) a b same = absurd (let t = times_self y ys in let s : 0 ≡ times y (y ∷ ys) = same y in omega arith)
@@ -115,6 +118,8 @@ module _ (prices : List Price) (pool : List Column) where
       go Greater e = absurd (let t : is_lt (place_cmp x y) ≡ true =
           ap is_lt (reversed_greater (place_cmp x y) (place_cmp y x) (place_total.antisymm x y) e) in cc)
 
+  -- The places of a pool by value and place are one list, as no two places compare alike. So a step of the method may go through
+  -- columns by value without saying how they are sorted.
   pub one_by_value : (a b : List ℕ) → IsByValue prices pool a → IsByValue prices pool b → a ≡ b
   one_by_value a b one other =
       one_order (comes_before prices pool) (ranks_by place_total (λ (k : ℕ). k)) places_apart a b

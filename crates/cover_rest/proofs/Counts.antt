@@ -86,6 +86,8 @@ free-times heads (suc n) k i from to =
           | false ↦ rw same (omega (arith, before))
         ]
 
+-- What the items of the rest stand for has each item of the problem once: an item in a head stands there alone, and the others are
+-- listed one by one.
 pub bodies-once : (heads : List Begun) (n i : ℕ) → i < n → times i (joined (begun_lists heads)) ≤ 1 → times i (joined (bodies heads n)) ≡ 1
 bodies-once heads n i below once =
     let both = joined-times i (begun_lists heads) (free_lists heads n 0) in
@@ -99,7 +101,8 @@ bodies-once heads n i below once =
     each (suc zero) h = refl
     each (suc (suc t)) h = absurd (omega arith)
 
--- each item of the rest once: so is each item
+-- Each item of the rest once: so is each item. How often an item is written is counted by the items of the rest: times that these
+-- stand in the plan, once each, times how often they stand for it; and that is once in all.
 pub once-written : (i : ℕ) (bs : List (List ℕ)) (cs : List Column) → AllBelow (length bs) (all_items cs) →
     ((x : ℕ) → x < length bs → times x (all_items cs) ≡ 1) → times i (joined bs) ≡ 1 → times i (all_items (written_plan bs cs)) ≡ 1
 once-written i bs cs below once one =
@@ -122,7 +125,8 @@ sum-none m g (suc n) h =
     let rest = sum-none m g n (omega (arith, ints)) in
     rw none (omega (arith, ints, rest))
 
--- where the sum is one and a summand is not nothing, it is all
+-- Where a sum of whole numbers is one and a summand is not nothing, that summand is one and all others are nothing; so a weighted
+-- sum is its weight.
 pub sum-only : (m g : ℕ → ℕ) (n x : ℕ) → x < n → sum_first (λ y. pos (g y)) n ≡ pos 1 → 1 ≤ g x →
     sum_first (λ y. pos (m y) *ℤ pos (g y)) n ≡ pos (m x)
 sum-only m g zero x below one some = absurd (omega arith)
@@ -157,7 +161,8 @@ sum-only m g (suc n) x below one some =
               omega (arith, ints)
         ]
 
--- each item once: so is each item of the rest
+-- Each item once: so is each item of the rest, the same count read backwards. An item is stood for by one item of the rest alone,
+-- so it is written as often as that one stands in the plan.
 pub once-rest : (bs : List (List ℕ)) (cs : List Column) (x i : ℕ) → AllBelow (length bs) (all_items cs) → x < length bs →
     1 ≤ times i (body_at bs x) →
     times i (joined bs) ≡ 1 → times i (all_items (written_plan bs cs)) ≡ 1 → times x (all_items cs) ≡ 1

@@ -96,6 +96,8 @@ module _ (heads : List Begun) (n : ℕ) (may : ℕ → List ℕ → Bool) where
   goes-on class x h xs list at e = let P : Option Begun → Type 0 = λ o. may_go_on may class o xs list ≡ true in subst P at e
 
   -- a list in which a head stands begins with it
+  -- A list of the rest in which a head stands begins with it: no other item of such a list may be a head. Written out it begins
+  -- with the head's own items, in its class, and nothing follows where the head is finished.
   pub holds-head : (class worth k : ℕ) (h : Begun) (list : List ℕ) → slice_get heads k ≡ Some h → 1 ≤ times k list →
       keeps_heads heads bs may class list ≡ true → BeginsWith h (record { class = class; worth = worth; items = written bs list })
   holds-head class worth k h [] at some e = absurd (omega arith)
@@ -125,6 +127,10 @@ module _ (heads : List Begun) (n : ℕ) (may : ℕ → List ℕ → Bool) where
         | Some h ↦ λ is. absurd (none x h is (with-head class worth x h xs is (goes-on class x h xs (written bs (x ∷ xs)) is goes)))
       ] refl
 
+-- One half of the bijection: a plan of the rest, written out, is a plan that keeps the heads. An item of the rest stands for a
+-- head's items or one free item, and all items are stood for once, so writing out covers each item once; each head is an item of
+-- the rest, so some column has it and begins with it. Classes, number and worths do not change: bounds carry over from the rest to
+-- all plans that keep what has begun.
 pub rest-is-kept : (p : Problem) → IsRestKept p
 rest-is-kept p heads may are rest plan =
     let bs : List (List ℕ) = bodies heads p.items in

@@ -36,6 +36,8 @@ one-column i (d ∷ ds) (suc j) c at =
     let rest = one-column i ds j c at in
     omega (arith, both, rest)
 
+-- An item that stands in two columns stands twice in the plan; the lemmas around it say the same of one column, and of heads. They
+-- turn the counts by which plans and heads are defined into the statement that two places are one.
 two-columns : (i : ℕ) (cs : List Column) (j k : ℕ) (c d : Column) → slice_get cs j ≡ Some c → slice_get cs k ≡ Some d → j < k →
     1 ≤ times i c.items → 1 ≤ times i d.items → 2 ≤ times i (all_items cs)
 two-columns i [] j k c d at there up h g = absurd (cc)
@@ -225,7 +227,8 @@ module _ (p : Problem) (listed : HasListedColumns p) (heads : List Begun) (may :
   there-items : (j : ℕ) (c : Column) → slice_get columns j ≡ Some c → AllBelow p.items c.items
   there-items j c at = let is = column-there p columns j c plan.worths at in (listed c.class c.items c.worth is.1).2
 
-  -- an item of a head in a column: the head is what the column begins with
+  -- An item of a head in a column: the head is what the column begins with. The head is kept by some column, which has all its
+  -- items; and an item stands in one column alone, so it is this one.
   begins-here : (i k j : ℕ) (h : Begun) (c : Column) → slice_get heads k ≡ Some h → slice_get columns j ≡ Some c → 1 ≤ times i h.items →
       1 ≤ times i c.items → BeginsWith h c
   begins-here i k j h c at there a b =
@@ -239,7 +242,8 @@ module _ (p : Problem) (listed : HasListedColumns p) (heads : List Begun) (may :
       let Q : Column → Type 0 = λ c. BeginsWith h c in
       subst Q (sym is) begins
 
-  -- what follows a head is in no head
+  -- What follows a head is in no head. Otherwise the column would begin with that head too; of two heads with which one list begins
+  -- the first item is the same, so they are one head, and the item would stand in the column twice.
   follows-free : (k j : ℕ) (h : Begun) (c : Column) → slice_get heads k ≡ Some h → slice_get columns j ≡ Some c →
       (begins : BeginsWith h c) → AllFree heads p.items begins.more
   follows-free k j h c at there begins = λ i some.
@@ -312,7 +316,10 @@ module _ (p : Problem) (listed : HasListedColumns p) (heads : List Begun) (may :
         });
       }
 
-  -- whether the first item of a column is in a head decides
+  -- Each column of a plan that keeps the heads is a list of the rest, written out. Whether its first item is in a head decides:
+  -- then it begins with that head, and the list is the head's number followed by the places of the free items; or it begins with
+  -- none, and all its items are free. In both cases the list rises, as places of free items come in the order of the items, behind
+  -- all heads.
   pub writing : (j : ℕ) (c : Column) → slice_get columns j ≡ Some c → IsWriting p heads may c
   writing j c there = by c.items refl
     where
@@ -384,6 +391,8 @@ free-stands heads (suc n) k x within =
     at (suc x) moved within =
         let rest = moved x (omega (arith, within)) in record { item = rest.item; there = rest.there; stands = rest.stands }
 
+-- Each item of the rest stands for some item of the problem, as no head is empty. It is what lets a count of the problem's items
+-- say something of every item of the rest.
 body-stands : (heads : List Begun) (more : List (List ℕ)) (n x : ℕ) → NoneEmpty heads → AllBelow n (joined (begun_lists heads)) →
     x < length (begun_lists heads ++ more) →
     ((y : ℕ) → y < length more → StandsFor more n y) → StandsFor (begun_lists heads ++ more) n x
@@ -404,6 +413,9 @@ body-stands (h ∷ hs) more n (suc x) some below within free =
     below-rest [] ys below = below
     below-rest (x ∷ xs) ys below = below-rest xs ys below.1
 
+-- The main theorem of this file, and the other half of the bijection: each plan that keeps the heads is a plan of the rest, written
+-- out. Every column is a writing; and each item of the rest stands once in them, since an item that it stands for does. So the rest
+-- leaves out no plan: the least cost and the bounds of the rest are those of all plans that keep what has begun.
 pub kept-is-rest : (p : Problem) → HasListedColumns p → IsKeptRest p
 kept-is-rest p listed heads may are columns plan keeps =
     let bs : List (List ℕ) = bodies heads p.items in

@@ -87,6 +87,8 @@ once-length n xs below once =
     sum_first-same _ _ n (λ i h. ap (λ t. pos t *ℤ pos 1) (once i h)) in
     omega (arith, ints, spread, same, each-one xs, first-ones n)
 
+-- What the items of a rest stand for has each item of the problem once, and none of them stands for nothing; so there are no more
+-- of them than items, and a rest stays within the limits of its problem.
 pub stand-for-all : (p : Problem) (heads : List Begun) → AreHeads p heads → StandForAll p.items (bodies heads p.items)
 stand-for-all p heads are =
     let bs : List (List ℕ) = bodies heads p.items in

@@ -20,6 +20,8 @@ one_further day numbers fixed (planned count cost columns) one other h k =
 one_further day numbers fixed (no_plan bound places) one other h k = h ∙ sym k
 one_further day numbers fixed (not_placed item partial) one other h k = h ∙ sym k
 
+-- A day ends in one way alone: the blocks end in one way, and what is asked of the duties is a function of how the blocks end. It
+-- is one step of `cover_plan` after another; the pieces to be covered are the same because the blocks are.
 pub one_day : (day : DayProblems) (numbers : Numbers) → numbers.climb ≡ false → (one other : DayEnding) → DayEndsAs day numbers one →
     DayEndsAs day numbers other → one ≡ other
 one_day day numbers fixed one other h k =

@@ -38,6 +38,8 @@ playing-few fixed caps place (c ∷ cs) =
 
 -- The columns from a place on are those that the pool has there. So each place in play has its own column, and what is made of it there is
 -- what is made of it on the way through the whole pool.
+-- By induction over the columns that are left; that each place holds the column met there is carried along, as the pool itself
+-- stays whole. So a climb looks once which columns are in play, and each of its price steps may go over their places alone.
 pub gains-playing : (fixed : List Bool) (caps : List ℕ) (prices : List Price) (pool : List Column) (place : ℕ) (cs : List Column) →
     ((i : ℕ) → slice_get pool (place + i) ≡ slice_get cs i) →
     gains_at prices pool (playing_from fixed caps place cs) ≡ gains_from fixed caps prices place cs
@@ -119,6 +121,9 @@ gains-step prices pool places i c h at =
     ∙ ap (gain_before prices (get_or places i 0) (gains_at prices pool (drop (i + 1) places))) at
 
 -- where the value is below 0 the column is one more of those so far, else nothing changes
+-- The invariant of the loop over the places: the columns found so far, followed by what the places left will give, are all there
+-- are to find. A column of value below 0 moves from the second part to the first; the lemma below is the other case, where nothing
+-- moves.
 pub gains-taken : (prices : List Price) (pool : List Column) (places : List ℕ) (i : ℕ) (c : Column) (all so_far now : List Key) →
     i < length places → slice_get pool (get_or places i 0) ≡ Some c →
     value prices c <ℤ pos 0 → now ≡ so_far ++ record { class = c.class; value = value prices c; place = get_or places i 0 } ∷ [] →

@@ -45,6 +45,8 @@ asked-length (x ∷ xs) zero z = refl
 asked-length (x ∷ xs) (suc i) z = ap (λ (n : ℕ). suc n) (asked-length xs i z)
 
 -- what classes ask stays in range
+-- What a class asks is minus the value of a column of value below 0, so it is above 0, and in the range of values. It is 0 where no
+-- column was left without a place. So `choose` gives class prices that may be added to prices without a test.
 pub priced-asked : (k m : ℕ) (caps counts : List ℕ) (keys : List Key) (prices : List ℤ) → All (IsGain k m) keys → AreAsked prices →
     AreAsked (priced_classes caps counts keys prices)
 priced-asked k m caps counts [] prices all are = are
@@ -78,6 +80,9 @@ zero-asked [] h = tt
 zero-asked (z ∷ zs) h = let here : z ≡ pos 0 = h 0 in (omega (arith, ints), omega (arith, ints), zero-asked zs (λ i. h (suc i)))
 
 -- one key more
+-- One key more. The invariant of the walk says what is chosen so far, followed by what the keys left will choose from the counts
+-- reached, is the whole choice; so one step of the loop is one step of the definition, and at the end nothing is left. The two
+-- lemmas below are the same for the sum of values and for what classes ask.
 pub places-more : (caps counts new : List ℕ) (keys : List Key) (i : ℕ) (places more : List ℕ) → i < length keys →
     new ≡ seen counts (get_or keys i no_key) →
     more ≡ cond (has_room caps counts (get_or keys i no_key)) (places ++ (get_or keys i no_key).place ∷ []) places →

@@ -72,7 +72,8 @@ first-one count k test (Some j) x h =
       ] refl
     ] refl
 
--- the first number that passes is the first that is found
+-- The first number that passes is the first that is found: there is one first number alone. It joins two ways of saying it: that of
+-- loops, that no number before passes, and that of the computed verdict.
 pub first-is : (count : ℕ) (test : ℕ → Bool) (o : Option ℕ) → IsFirstOf count test o → first_of count 0 test ≡ o
 first-is count test o h = elim (first_of count 0 test) as (λ r. first_of count 0 test ≡ r → r ≡ o) [
   | None ↦ λ e. elim o as (λ o. IsFirstOf count test o → None ≡ o) [
@@ -199,7 +200,8 @@ over-cap : (p : Problem) (lists : List Column) (class : ℕ) → is_over p lists
     slice_index p.caps class < times class (all_classes lists)
 over-cap p lists class h = grind (arith, nat_tests)
 
--- by the classes
+-- By the classes: where each item stands once and each list has a worth, a class over its cap is the cause, or there is none, and
+-- then the lists with their worths meet all that a plan is. Filling in worths changes neither items nor classes.
 classes-verdict : (p : Problem) (lists : List Column) (o : Option ℕ) → StandOnce p lists → AreFound p lists →
     first_of (length p.caps) 0 (is_over p lists) ≡ o → IsVerdict p lists (by_classes p lists o)
 classes-verdict p lists (Some class) stand found e =
@@ -261,6 +263,8 @@ items-verdict p lists None e =
     worths-verdict p lists (first_worthless p 0 lists)
     (λ item below. once lists item (first-none p.items 0 (is_off lists) e item (omega arith) (omega arith))) refl
 
--- the computed verdict is one
+-- The main theorem of this file: the computed verdict is one, for any lists. It goes by items, then lists, then classes, and each
+-- stage may use that the ones before found nothing: so what is left at the end is a plan, and each cause is the first of its kind.
+-- The checker, which only has to compute, thus decides whether lists from anywhere are a plan.
 pub verdict-is : (p : Problem) (lists : List Column) → IsVerdict p lists (verdict_of p lists)
 verdict-is p lists = items-verdict p lists (first_of p.items 0 (is_off lists)) refl

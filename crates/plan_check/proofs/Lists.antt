@@ -54,6 +54,7 @@ one-column p l a b ca ia cb ib wa wb =
     let make : ℕ → ℕ → List ℕ → Column = λ c w is. record { class = c; worth = w; items = is } in
     ap (λ c. make c a.worth a.items) class ∙ (ap (λ w. make b.class w a.items) worth ∙ ap (λ is. make b.class b.worth is) items)
 
+-- Lists are those of one plan at most: classes and items are given, and the problem gives the worths.
 one-plan : (p : Problem) (lists as' bs : List Column) → HaveSameLists lists as' → HaveSameLists lists bs → AreColumns p as' →
     AreColumns p bs → as' ≡ bs
 one-plan p [] [] [] h k ca cb = refl
@@ -66,6 +67,8 @@ one-plan p (l ∷ ls) (a ∷ as') (b ∷ bs) h k ca cb =
     let head = one-column p l a b h.0 h.1 k.0 k.1 ca.0.1 cb.0.1 in
     cc
 
+-- The lists of a plan have one verdict, that they are this plan: every other verdict names an item that stands once after all, a
+-- list that has a worth, or a class within its cap. So the checker never refuses a plan.
 pub plans-found : (p : Problem) → PlansAreFound p
 plans-found p lists plan (Lawful found) same is_plan verdict =
     let columns = one-plan p lists found.columns plan verdict.0 same verdict.1.worths is_plan.worths in
@@ -86,6 +89,8 @@ plans-found p lists plan (Over class used) same is_plan verdict =
     let over = found.over in
     absurd (omega arith)
 
+-- A plan with paid prices shows that no plan is smaller or cheaper than the bounds: duality says so of the bounds of these prices,
+-- and the given ones are at most those. Nothing is asked of where plan and prices come from.
 pub shows : (p : Problem) → WeakDuality p → CountDuality p → ShowsPlans p
 shows p weak count counted plan prices prices' class_prices class_prices' fewest cheapest is_count is_plan counted_paid paid low low' =
     record {

@@ -38,6 +38,8 @@ all_free-at columns (x ∷ xs) j e h =
     ]
 
 -- a column whose items are free and whose class has a place goes on with a part
+-- So rounding may take columns from the pool in any order: what it has is a part of a plan, and stays one as long as it takes only
+-- what fits. No item stands twice, as a column's own list rises.
 pub part-push : (p : Problem) (columns : List Column) (c : Column) → HasListedColumns p → IsColumn p c →
     (all_free columns c.items && has_place p columns c.class) ≡ true → IsPart p columns → IsPart p (columns ++ c ∷ [])
 part-push p columns c listed is test part =
@@ -140,6 +142,9 @@ no-class p item columns (suc n) e class worth h has =
 
 module _ (p : Problem) (start : List Column) where
   -- the item with the choice that was found
+  -- If there is no choice, the item is stuck, for the choices are all there are: each column it could go into and each class with a
+  -- place. If there is one, the item stands once from then on, the smaller ones still do, and the greater ones are as they were at
+  -- the start.
   with_choice-filled : (item : ℕ) (columns : List Column) (o : Option Choice) → item < p.items → IfChosen (IsAllowed p item columns) o →
       (o ≡ None → choices p item columns ≡ []) → IsFilled p start item columns → times item (all_items columns) ≡ 0 →
       IsFilledOr p start (suc item) (with_choice item columns o)
@@ -206,6 +211,9 @@ module _ (p : Problem) (start : List Column) where
         }
       ] refl
 
+  -- The invariant of the second half of rounding, by induction over the items: those below n stand once, and those from n on as
+  -- often as when it began; or some item is stuck, and stays so. The second part is what lets the code mark free items once, before
+  -- it fills them in.
   pub round_items-filled : (n : ℕ) → n ≤ p.items → IsPart p start → IsFilledOr p start n (round_items p n start)
   round_items-filled zero h part = record { part = part; below = λ j lt. absurd (omega arith); above = λ j le. refl }
   round_items-filled (suc n) h part = round_item-filled n (round_items p n start) (omega arith) (round_items-filled n (omega arith) part)
@@ -217,5 +225,8 @@ module _ (p : Problem) (start : List Column) where
   pub items-rounding : IsPart p start → IsRounding p (round_items p p.items start)
   items-rounding part = filled-rounding (round_items p p.items start) (round_items-filled p.items (omega arith) part)
 
+-- The main theorem of this file: rounding columns in any order gives a plan, or an item that no column takes and no class has a
+-- place for, beside a part of a plan. The columns taken are a part; filling in makes every item stand once; and a part in which
+-- each item stands is a plan.
 pub rounds_to_plan : (p : Problem) → HasListedColumns p → RoundsToPlan p
 rounds_to_plan p listed ordered are = items-rounding p (taken p [] ordered) (taken-part p [] ordered listed are (no_columns p))

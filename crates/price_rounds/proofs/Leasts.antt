@@ -44,6 +44,8 @@ classes_all p prices a (suc n) best low =
     (All-filter (is_kept prices (least_value prices (first_leasts p prices a))) (IsColumn p) (first_leasts p prices a) firsts)
     (classes_all p prices (a + 1) n best (omega arith))
 
+-- What a pool is fed with are columns of the problem: each is the first least of its class and group. So plans that are made of a
+-- pool need no further look at the problem.
 pub priced_are_columns : (p : Problem) (prices : List Price) → BestIsFirstLeast p → AreColumns p (priced_columns p prices)
 priced_are_columns p prices best = from_all p (priced_columns p prices) (classes_all p prices 0 (length p.caps) best (omega arith))
 
@@ -105,6 +107,9 @@ kept_is_paid p kept lists paid offer =
     let P : Kept → Type 0 = λ k. IsPaid p k.prices.items k.class_prices in
     subst P (sym offer.is) (offer_paid p offer.prices lists paid)
 
+-- The kept bound is a bound: any offer has class prices made of the least values of its prices, which are those of all lists; so it
+-- is paid, and weak duality does the rest. That it is the greatest of all offers makes it a good one, and plays no part in the
+-- proof.
 pub kept_is_bound : (p : Problem) (kept : Kept) → LeastIsOfLists p → LeastIsPaid p → WeakDuality p → IsOffer p kept → IsBoundOf p kept.bound
 kept_is_bound p kept lists paid duality offer = λ columns plan.
     let P : Kept → Type 0 = λ k. k.bound ≤ cost columns in

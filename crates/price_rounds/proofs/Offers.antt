@@ -32,7 +32,9 @@ raised_from low high (o ∷ os) above all =
     All-cons (λ (o : Kept). o.bound < high) o os (omega arith)
     (raised_from low high os above (All-tail (λ (o : Kept). o.bound ≤ low) o os all))
 
--- the same after one more offer
+-- The same after one more offer. The invariant of all rounds: what is kept is the first offer of the greatest bound so far. A truly
+-- greater one has all others below it; any other stays behind the kept one. So one offer is kept, and which one does not depend on
+-- how offers are stored.
 pub first_next : (offers : List Kept) (old new : Kept) → IsFirstGreatest offers old →
     IsFirstGreatest (offers ++ new ∷ []) (kept_after old new)
 first_next offers old new is = go (nat_lt old.bound new.bound) refl

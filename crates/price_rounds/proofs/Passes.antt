@@ -102,6 +102,9 @@ first_round_done p start new starts moves kept ready =
       ready = ready;
     }
 
+-- The invariant of price rounds, one round on: prices, pool and kept offer are those that the definition has after so many rounds.
+-- Each round is a function of prices and pool alone (`round_from`), since pricing is one of the prices: no round remembers who
+-- found which column.
 pub next_round_done : (p : Problem) (n : ℕ) (old new : Progress) → HasRounds p n old → Moves p (n + 1) old.prices.items old.pool new →
     new.kept ≡ kept_after old.kept (offer_at p old.prices.items) → IsReady p new → HasRounds p (n + 1) new
 next_round_done p n old new has moves kept ready =
@@ -149,6 +152,8 @@ offered_lower p rounds n old new has kept =
     subst Q all (subst P (sym offer)
     (first_next (round_offers p rounds ++ lowering_offers p rounds n) old.kept (lowering_offer p rounds n) has.kept))
 
+-- The invariant of lowering rounds: the pool is still that of the price rounds, prices are lowered by what pricing finds at them,
+-- and the offers of both kinds of rounds stand in one list, from which the first of the greatest bound is kept.
 pub lowering_done : (p : Problem) (rounds n : ℕ) (old new : Progress) (columns : List Column) → HasLowered p rounds n old →
     columns ≡ priced_columns p old.prices.items →
     new.prices.items ≡ lowered_in_order columns old.prices.items → new.pool ≡ old.pool →

@@ -72,6 +72,8 @@ one-cleaned p c cs new (x ∷ xs) e loose h =
       costs = omega arith;
     }
 
+-- Without the empty columns nothing is lost: an empty one has no item and costs nothing, and one column fewer is within every cap.
+-- So a step may be made as if columns could be empty, and the empty ones be taken away at the end.
 pub cleaned : (p : Problem) (cs : List Column) → AreLoose p cs → IsCleaned p cs (without_empty cs)
 cleaned p [] h = record { worths = tt; holds = λ j. refl; places = λ class. omega arith; costs = refl }
 cleaned p (c ∷ cs) h = one-cleaned p c cs (without_empty cs) c.items refl h.0 (cleaned p cs h.1)
@@ -110,6 +112,9 @@ module _ (p : Problem) (none : NoneOfNothing p) (columns : List Column) (plan : 
   class-there : (a : ℕ) → a < length columns → (column_at columns a).class < length p.caps
   class-there a h = (AreColumns-get p columns a no_column h plan.worths).0
 
+  -- A swap keeps each item in the plan exactly once, for both columns together have the fronts and tails that they had; both
+  -- classes keep their number of columns; and both new lists have a worth. The cost changes by the two new worths less the two old
+  -- ones, as the step says.
   pub swap-good : (a b i j left right : ℕ) → a < b → b < length columns →
       worth_of p (column_at columns a).class (joined (column_at columns a).items i (column_at columns b).items j) ≡ Some left →
       worth_of p (column_at columns b).class (joined (column_at columns b).items j (column_at columns a).items i) ≡ Some right →
@@ -155,6 +160,8 @@ module _ (p : Problem) (none : NoneOfNothing p) (columns : List Column) (plan : 
       omega arith)
       (omega (arith, ints))
 
+  -- A cut keeps the items, and adds one column, of a class that has a place left. That it has one is part of what makes the cut a
+  -- step.
   pub cut-good : (a i k left right : ℕ) → a < length columns → k < length p.caps → has_place p columns k ≡ true →
       worth_of p (column_at columns a).class (take i (column_at columns a).items) ≡ Some left →
       worth_of p k (drop i (column_at columns a).items) ≡ Some right →

@@ -74,6 +74,9 @@ module _ {X : Type 0} (R : X → X → Ordering) (t : IsTotalOrder R) (f : ℕ �
       (λ (d : Contains (flat_map f places) x). let r = up places os h.1 x d in (r.0, Contains-tail y (filter_map (λ o. o) os) r.0 r.1, r.2))
       (Contains-append_cases (f a) (flat_map f places) x c)
 
+  -- The least of the leasts of several lists is the least of all: it is in one of them, and no candidate is before the least of its
+  -- own list, and that not before it. So each column may be looked at by itself, by any thread, and the answer is that of one long
+  -- list.
   pub least_of_leasts : (places : List ℕ) (os : List (Option X)) (r : Option X) → AllZip (λ a o. IsLeast R (f a) o) places os →
       IsLeast R (filter_map (λ o. o) os) r → IsLeast R (flat_map f places) r
   least_of_leasts places os None h l =

@@ -28,6 +28,9 @@ after-cases g k =
     ] refl
 
 -- the places before rise with those after
+-- Where one column vanishes those behind it move up by one. The place before of a place after skips the vanished one: it rises, and
+-- with the two lemmas below it is a bijection between the places after and the places before but for that one. So what stood in an
+-- order stands in the same order, and places need no search.
 pub before-less : (g m n : ℕ) → m < n → place_before g m < place_before g n
 before-less g m n less =
     elim (before-cases g m) [
@@ -100,7 +103,7 @@ before-after g k stays =
 nat_cmp-itself : (m n : ℕ) → m ≡ n → nat_cmp m n ≡ Equal
 nat_cmp-itself m n e = sym (nat_cmp_is m n Equal e)
 
--- and so they compare alike
+-- And so they compare alike: ties between swaps are broken by the places of their columns, and moving up changes no tie.
 pub before-cmp : (g m n : ℕ) → nat_cmp (place_before g m) (place_before g n) ≡ nat_cmp m n
 before-cmp g m n =
     elim (cases_eq m n) [
@@ -145,7 +148,9 @@ module _ {X : Type 0} (q : X → Bool) where
       let fewer = filter-fewer xs g d (omega arith) out in
       elim (q x) as (λ t. length (cond t (x ∷ filter q xs) (filter q xs)) < length (x ∷ xs)) [ true ↦ omega arith | false ↦ omega arith ]
 
-  -- where a filter leaves one fewer, and one is left out, those behind it move up by one
+  -- Where a filter leaves one fewer, and one is left out, those behind it move up by one. Empty columns vanish by a filter of the
+  -- whole plan; since its length tells how many vanished, and one empty place is known, no other can have gone: by induction over
+  -- the list.
   filter-one : (xs : List X) (g k : ℕ) (d : X) → g < length xs → q (get_or xs g d) ≡ false → length (filter q xs) + 1 ≡ length xs →
       get_or (filter q xs) k d ≡ get_or xs (place_before g k) d
   filter-one [] g k d below out = λ one. absurd (omega arith)
@@ -232,7 +237,9 @@ module _ (p : Problem) (columns : List Column) (a b i j : ℕ) (order : a < b) (
   other k k_a k_b = get_or-set_other (set columns a first_made) b k second_made no_column k_b
       ∙ get_or-set_other columns a k first_made no_column k_a
 
-  -- both columns stay
+  -- Both columns stay: nothing has vanished, and every other column is what and where it was. This and the four lemmas below are
+  -- the ways in which a step can end: a swap after which both columns, the first or the second is left, and a cut that leaves a
+  -- front or nothing. Each gives the one description `IsMoved`, on which alone the renewal of kept swaps rests.
   pub swap-stays : length (swapped p columns a b i j) ≡ length columns → IsMoved columns (swapped p columns a b i j) (length columns) a b
   swap-stays len =
       let n = length columns in
@@ -273,6 +280,7 @@ module _ (p : Problem) (columns : List Column) (a b i j : ℕ) (order : a < b) (
         ];
       }
 
+  -- The second column has given all its items to the first, with none in return: its list is empty, so it is the one that vanishes.
   pub second-vanishes : ((j == 0) && (i == length c.items)) ≡ true → length (swapped p columns a b i j) ≡ length columns - 1 →
       IsMoved columns (swapped p columns a b i j) b a a
   second-vanishes test len =
@@ -285,6 +293,7 @@ module _ (p : Problem) (columns : List Column) (a b i j : ℕ) (order : a < b) (
         | inr high ↦ let l = high.0 in let e = high.1 in ((λ f. omega arith), λ f. omega arith)
       ])
 
+  -- The first column has vanished, so the second, which has all items now, stands one place earlier than it did.
   pub first-vanishes : ((i == 0) && (j == length d.items)) ≡ true → length (swapped p columns a b i j) ≡ length columns - 1 →
       IsMoved columns (swapped p columns a b i j) a (b - 1) (b - 1)
   first-vanishes test len =
@@ -332,7 +341,8 @@ module _ (p : Problem) (columns : List Column) (a i class : ℕ) (below : a < le
         stands = λ k inside stays. let e = after-below n k (omega arith) in omega arith;
       }
 
-  -- all of it is cut off
+  -- All of it is cut off: the column becomes one of another class, which is put last; so the old one vanishes, the plan is as long
+  -- as before, and the last place is the changed one.
   pub cut-vanishes : i ≡ 0 → length (parted p columns a i class) ≡ length columns →
       IsMoved columns (parted p columns a i class) a (length columns - 1) (length columns - 1)
   cut-vanishes start len =

@@ -44,6 +44,9 @@ lesser-not_before d (Some b) =
       | false ↦ λ test. not_lt (candidate_cmp d b) test
     ] refl
 
+-- The two halves of one argument: a candidate that is not before what is kept stays so, as what is kept is only exchanged for one
+-- that comes before it; and a candidate that is looked at is not before what is kept then. So nothing need be known of what is kept
+-- at the start but what it is not after.
 least_from-stays : (c : Candidate) (best : Option Candidate) (xs : List Candidate) → IsNotBefore c best → IsNotBefore c (least_from best xs)
 least_from-stays c best [] h = h
 least_from-stays c best (x ∷ xs) h = least_from-stays c (Some (lesser best x)) xs (not_before-lesser c x best h)
@@ -125,7 +128,9 @@ module _ (p : Problem) (columns : List Column) where
       let Q : ℕ → Type 0 = λ n. Contains (swaps_behind p columns a n) c in
       subst Q same (subst P (sym test) at)
 
-  -- what is kept is not after the swaps with other columns than x and y, and those with x and y are looked at: that is all of them
+  -- What is kept is not after the swaps with other columns than x and y, and those with x and y are looked at: that is all of them.
+  -- So after a step the least swap of an untouched column is found from what was kept and its swaps with the two changed columns,
+  -- not from all its swaps.
   pub renewed-least : (x y a : ℕ) (least : Option Candidate) → x < length columns → y < length columns →
       IsLeastOfOthers p columns x y a least →
       IsLeast candidate_cmp (all_swaps_of p columns a)
@@ -195,7 +200,8 @@ swaps_between-renumbered p c d a b k l s at =
     (into-flat_map (λ j. step_for before Swap k l i j (left i j) (right i j)) tails j (renumbered k l s) at_j
     (step_for-renumbered before Swap a b k l i j (left i j) (right i j) s in_j))
 
--- they depend on the two columns, and on where these stand by their numbers alone
+-- Swaps depend on the two columns, and on where these stand by their numbers alone. So columns that a step left as they were have
+-- the swaps of before, under new numbers, with the same changes of cost.
 swaps_of-renumbered : (p : Problem) (from to : List Column) (a b k l : ℕ) (s : Candidate) → column_at from a ≡ column_at to k →
     column_at from b ≡ column_at to l →
     Contains (swaps_of p from a b) s → Contains (swaps_of p to k l) (renumbered k l s)
@@ -281,6 +287,10 @@ module _ (p : Problem) (old new : List Column) (gone x y a : ℕ) (moved : IsMov
       ap (λ t. record m { a = place_after gone m.a; b = cond t x (place_after gone m.b) }) stays
       ∙ ap (λ n. record m { a = n; b = place_after gone m.b }) here
 
+  -- What was the least swap of an untouched column, and is with one of the columns that stay, is under its new numbers not after
+  -- any swap with another untouched column: each of these was a swap before the step (`was-swap`), and was not before the least one
+  -- then; both only changed their numbers, in which they compare as they did. A swap with the vanished column or a changed one is
+  -- told as stale, and not used.
   kept-others : (least : Option Candidate) → IsLeast candidate_cmp (all_swaps_of p old start) least →
       swaps_with x y (moved_least gone x least) ≡ false → IsLeastOfOthers p new x y a (moved_least gone x least)
   kept-others None h test =
@@ -323,6 +333,9 @@ kept-moved p old new gone x y a leasts moved shows inside fresh =
     kept-others p old new gone x y a moved inside not_x not_y (least_at leasts (place_before gone a))
     (shows.shown (place_before gone a) stood) (or-second (a == y) (swaps_with x y least) rest)
 
+-- The main theorem of this file: whichever way a step has moved the columns, the least swaps that were kept before it are of use
+-- after it. With `renewed-least` it keeps the invariant of the exchange, that each column has its least swap with those behind it;
+-- so every step is the least of all steps, as defined, though most swaps are not looked at again.
 pub useful-leasts : (p : Problem) (old new : List Column) (gone x y : ℕ) (leasts : List (Option Candidate)) → IsMoved old new gone x y →
     ShowsLeasts p old leasts → IsUseful p new gone x y leasts
 useful-leasts p old new gone x y leasts moved shows =

@@ -179,6 +179,8 @@ module _ (p : Problem) (none : NoneOfNothing p) (columns : List Column) (plan : 
 listed-none : (p : Problem) → HasListedColumns p → NoneOfNothing p
 listed-none p listed class worth e = (listed class [] worth e).0 refl
 
+-- Each step that is looked at keeps plans: every one is a swap or a cut whose lists have a worth, and those are good by `Goods`.
+-- The rest of the proof only takes apart the lists in which steps are enumerated.
 pub steps_keep_plans : (p : Problem) → HasListedColumns p → StepsKeepPlans p
 steps_keep_plans p listed columns plan c h = all_steps-good p (listed-none p listed) columns plan c h
 
@@ -192,6 +194,8 @@ step-improves p listed old new plan h =
     let Keeps : List Column → Type 0 = λ l. IsPlan p l × (cost l < cost old) in
     subst Keeps (sym h.3) (good.0, less)
 
+-- By induction over the steps: each lowers the cost, a whole number, by at least 1. So after n steps a plan costs at least n less,
+-- and `improve` never makes a plan dearer.
 pub steps_improve : (p : Problem) → HasListedColumns p → StepsImprove p
 steps_improve p listed zero old new plan h =
     let Keeps : List Column → Type 0 = λ l. IsPlan p l × (cost l + 0 ≤ cost old) in

@@ -52,6 +52,8 @@ low_where worth n z few high = omega (arith, ints)
 below_zero : neg_ℤ (pos 30000000000000000) ≤ℤ pos 0
 below_zero = omega (arith, ints)
 
+-- No least value is far below 0: a list rises, so it has each item once at most, and its prices come to no more than those of 3,000
+-- items. It keeps the arithmetic on values within 64 bits.
 pub least_is_bounded : (p : Problem) → BestIsFirstLeast p → BestIsFitting p → LeastIsBounded p
 least_is_bounded p best fitting prices class few within low =
     ⊎_elim (λ (z : least_of p prices class ≡ pos 0). subst (λ (l : ℤ). neg_ℤ (pos 30000000000000000) ≤ℤ l) (sym z) below_zero)

@@ -111,6 +111,8 @@ module _ (p : Problem) (prices : List Price) (v : Sheet) (found : List Found) (i
   chosen = filter_map (kept_at (best_of p prices) prices (groups_of p.items) least_list)
       (range_with_len 0 (length p.caps * groups_of p.items))
 
+  -- What is kept of what was found, in the order of tasks, is `priced_columns`, a function of the problem and the prices. Here the
+  -- parts meet: the least values are those of all first leasts, and a task's column is kept exactly where its first least is.
   chosen_is_priced : chosen ≡ priced_columns p prices
   chosen_is_priced =
       ap (λ a. filter_map (kept_at (best_of p prices) prices (groups_of p.items) least_list)

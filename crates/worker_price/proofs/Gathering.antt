@@ -121,6 +121,9 @@ module _ (best : Best) (prices : List Price) (groups tasks : ℕ) (v : Sheet) (f
       (All-contains (λ (q : ℕ × ℤ). (q.1 ≡ pos 0) ⊎ Contains v.lowered q) v.looks p all.looks c)
 
   -- the least entry of a class is the least value of its best columns, where that is below 0
+  -- The least entry of a class is the least value of its first leasts, where that is below 0. Every task was found, as the desk
+  -- with the whole share drew each once; and by `found_low` no first least is below the least entry, for what its worker had looked
+  -- at is 0 or an entry, and so no less. Which worker found it, and under which limit, does not matter.
   pub least_is : (k : ℕ) (l : ℤ) → k * groups + groups ≤ tasks → IsLeastIn v.lowered k l → IsLeastOver prices (best k) groups l
   least_is k l class least = record {
     most = least.most;
@@ -157,7 +160,8 @@ module _ (best : Best) (prices : List Price) (groups tasks : ℕ) (v : Sheet) (f
         least.reached;
   }
 
-  -- a task's column is kept exactly where its best column is
+  -- A task's column is kept exactly where its best column is: it was found under a limit that is no lower than the one of the least
+  -- value, so that limit hid nothing that would be kept. With `least_is` this is why any number of workers gives the same columns.
   pub kept_is : (f : Found) (l : ℤ) → Contains found f → IsLeastIn v.lowered (f.task / groups) l →
       within (limit_of l) prices f.column ≡ within (limit_of l) prices (best (f.task / groups) (f.task % groups))
   kept_is f l c least =

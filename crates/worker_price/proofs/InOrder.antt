@@ -104,6 +104,8 @@ module _ (best : Best) (prices : List Price) (groups : ℕ) (least : List ℤ) w
       ∙ sym (kept_of_best prices (get_or least k (pos 0)) (best k i) (filter_map (best k) (range_with_len (i + 1) n)))))
 
   -- the tasks of classes, from a class on
+  -- Tasks are numbered class by class, and group by group within a class. So going over slots by their numbers gives the columns in
+  -- the order of the definition, and the order in which workers found them is forgotten.
   pub all_tasks : (k n : ℕ) → filter_map (kept_at best prices groups least) (range_with_len (k * groups) (n * groups))
       ≡ flat_map (λ c. filter (is_kept prices (get_or least c (pos 0))) (filter_map (best c) (range_with_len 0 groups)))
       (range_with_len k n)
@@ -166,7 +168,8 @@ module _ (best : Best) (prices : List Price) (groups : ℕ) (least : List ℤ) w
         | no apart ↦ get_or-set_other slots one.task f.task (kept prices least (one.task / groups) one.column) None apart ∙ p
       ]
 
-  -- once all that was found is in its slot, each slot has its task's best column where it is kept
+  -- Once all that was found is in its slot, each slot has its task's best column where it is kept: each task was found, and a later
+  -- column for the same task would be the same, so no slot depends on the order in which they were filled.
   pub placed_all : (slots : List (Option Column)) (found rest : List Found) (tasks : ℕ) → length slots ≡ tasks →
       length rest ≡ 0 → IsFoundOfAll tasks found
       → ((f : Found) → Contains found f → Contains rest f ⊎ IsPlaced best prices groups least slots f) →

@@ -15,6 +15,8 @@ use Rattle.worker_price.specs.Work.{half, limit_of}
 use Rattle.worker_price.specs.Gathered.{least_lowered}
 
 -- twice a value is at most what was seen, so the value is at most half of it
+-- Rounding half of what was seen down loses nothing: twice a whole number is at most what was seen exactly if the number is at most
+-- that half. With it a limit can be one number, though what is kept is told by twice a value.
 half_above : (v seen : ℤ) → (v +ℤ v) ≤ℤ seen → v ≤ℤ half seen
 half_above (pos a) (pos n) h = omega (arith, ints)
 half_above (pos a) (negsuc n) h = absurd (omega (arith, ints))
@@ -42,6 +44,9 @@ limit_negative v seen h = omega (arith, ints, clamps)
 limit_half : (v seen : ℤ) → v ≤ℤ limit_of seen → v ≤ℤ half seen
 limit_half v seen h = omega (arith, ints, clamps)
 
+-- A limit is lower where what was seen is lower. What a worker sees while others still work is never below the least value at the
+-- end, so no limit is below the limit of that: it is the one property of limits on which the answer rests, for any order of the
+-- workers' steps.
 pub limit_rises : (a b : ℤ) → a ≤ℤ b → limit_of a ≤ℤ limit_of b
 limit_rises a b h = let r = half_rises a b h in omega (arith, ints, clamps)
 
@@ -78,7 +83,8 @@ same_tests true b f g = sym (f refl)
 same_tests false true f g = g refl
 same_tests false false f g = refl
 
--- a value is below 0 and twice it is at most the least exactly where it is within the limit of the least
+-- A column is kept, its value being below 0 and twice it at most the least, exactly where its value is within the limit of the
+-- least value. So keeping columns at the end is the same as pricing once more under a lower limit.
 pub kept_is_within : (v l : ℤ) → (lt_z v (pos 0) && le_z (v +ℤ v) l) ≡ le_z v (limit_of l)
 kept_is_within v l =
     same_tests (lt_z v (pos 0) && le_z (v +ℤ v) l) (le_z v (limit_of l))
@@ -93,7 +99,8 @@ kept_is_within v l =
 pub found_where : (prices : List Price) (c : Column) (limit : ℤ) → value prices c ≤ℤ limit → within limit prices (Some c) ≡ Some c
 found_where prices c limit h = rw (le_true (value prices c) limit h) refl
 
--- what is kept under a lower limit is what is kept of what was found under a higher one
+-- What is kept under a lower limit is what is kept of what was found under a higher one: a limit only hides columns above it, and
+-- these would not be kept. So what a task found under its own limit, whichever that was, is as good as the first least itself.
 pub within_within : (prices : List Price) (l m : ℤ) (b : Option Column) → l ≤ℤ m → within l prices (within m prices b) ≡ within l prices b
 within_within prices l m None h = refl
 within_within prices l m (Some c) h = go (le_z v m) refl (le_z v l) refl
@@ -179,6 +186,9 @@ module _ (prices : List Price) where
       (least_value_reached cs))
       (min_cases (value prices d) (least_value prices cs))
 
+  -- The least of 0 and the values of some columns is one number, as each of two such numbers is reached and the other is not above
+  -- it. So it is enough to show of what workers found that it is the least over the first leasts, and nothing of how they came to
+  -- it.
   pub least_over_unique : (f : ℕ → Option Column) (n : ℕ) (l m : ℤ) → IsLeastOver prices f n l → IsLeastOver prices f n m → l ≡ m
   least_over_unique f n l m a b = same_least l m (lower l m a b) (lower m l b a)
     where
@@ -224,6 +234,8 @@ from_given {Y = Y} f a (suc n) y h =
         ⊎_elim (λ (s : z ≡ y). (a, omega arith, omega arith, e ∙ ap Some s)) later
         (head_cases z (filter_map f (range_with_len (a + 1) n)) y (rw e at k))
 
+-- The computed least value is the least of 0 and the values of all columns that a function gives below n: none is above one of
+-- them, and it is 0 or one of them. The lemmas before it carry membership to and from the list that is computed.
 pub least_over : (prices : List Price) (f : ℕ → Option Column) (n : ℕ) →
     IsLeastOver prices f n (least_value prices (filter_map f (range_with_len 0 n)))
 least_over prices f n = record {
@@ -274,7 +286,8 @@ least_more e es k false t r = rw t (record {
       (λ (c : Contains es (k, least_lowered es k)). inr (in_tail e es (k, least_lowered es k) c)) r.reached;
 })
 
--- the least lowered value of a class is the least of 0 and its entries
+-- The least lowered value of a class is the least of 0 and its entries, by induction over the entries: one of the class may lower
+-- it, one of another class leaves it as it is.
 pub least_lowered_is : (entries : List (ℕ × ℤ)) (k : ℕ) → IsLeastIn entries k (least_lowered entries k)
 least_lowered_is [] k = record { most = zero_most; below = λ x h. in_none _ (k, x) h; reached = inl refl }
 least_lowered_is (e ∷ es) k = least_more e es k (e.0 == k) refl (least_lowered_is es k)
@@ -288,7 +301,8 @@ min_turn x y = omega (arith, ints, clamps)
 zero_first : (l : ℤ) → l ≤ℤ pos 0 → int_min (pos 0) l ≡ l
 zero_first l h = omega (arith, ints, clamps)
 
--- of two lists of entries, the least is the lesser of their leasts
+-- Of two lists of entries, the least is the lesser of their leasts; so it does not matter in which order the desks of the workers
+-- are joined.
 pub least_lowered-append : (xs ys : List (ℕ × ℤ)) (k : ℕ) → least_lowered (xs ++ ys) k ≡ int_min (least_lowered xs k) (least_lowered ys k)
 least_lowered-append [] ys k = sym (zero_first (least_lowered ys k) (least_lowered_is ys k).most)
 least_lowered-append (e ∷ es) ys k =
@@ -318,7 +332,10 @@ least_lowered-other xs k j x apart =
     ∙ (ap (int_min (least_lowered xs k)) one
     ∙ (min_turn (least_lowered xs k) (pos 0) ∙ zero_first (least_lowered xs k) (least_lowered_is xs k).most))
 
--- a value that is found under the limit of a value no less than the least, once it is low enough, is not below the least
+-- A value is not below the least, if it only is not where it is found under the limit of a value seen that is no less than the
+-- least. For suppose it is below: then it is below 0, and twice it is below the value seen, so it is within that limit, was found,
+-- and is not below the least. With this a column that a limit hid cannot have been the least one: the main step of the theorem that
+-- limits hide nothing that counts.
 pub found_low : (l v seen : ℤ) → l ≤ℤ pos 0 → l ≤ℤ seen → (v ≤ℤ limit_of seen → l ≤ℤ v) → l ≤ℤ v
 found_low l v seen most above here =
     by_lt_z v l (λ (low : v <ℤ l). here (limit_above v seen (omega (arith, ints)) (omega (arith, ints)))) (λ h. h)

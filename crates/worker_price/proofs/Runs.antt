@@ -90,6 +90,9 @@ module _ (p : Problem) (prices : List Price) (limits : ℕ → ℤ) (v : Sheet) 
       subst (λ (x : ℤ). limit_of (least_gathered k) ≤ℤ x) (sym r.2) (limit_rises (least_gathered k) r.0 (above_least k r.0 r.1)))
       limit
 
+  -- The same for any run of the board's machine, in which no code takes part: whatever order the steps of the desks had, the least
+  -- gathered value of a class is its least value. A first least within its task's limit was gathered, and one above it cannot be
+  -- the least, by `found_low`.
   pub least_is_least : (k : ℕ) → k < length p.caps → least_gathered k ≡ least_of p prices k
   least_is_least k class =
       least_over_unique prices (best_of p prices k) (groups_of p.items) (least_gathered k) (least_of p prices k)
@@ -132,13 +135,16 @@ module _ (p : Problem) (prices : List Price) (limits : ℕ → ℤ) (v : Sheet) 
       (limit_high k g class group))
       ∙ ap (λ l. filter (is_kept prices l) (first_leasts p prices k)) (least_is_least k class)
 
+  -- What is kept of all that was gathered is what is priced, class by class: each limit is at least that of the least gathered
+  -- value, so it hid no column that is kept. This is the workers' theorem over every list of events.
   pub kept_is_priced : kept_of_gathered p prices limits v.drawn ≡ priced_columns p prices
   kept_is_priced =
       flat_map-range-same (λ k. kept_columns prices (gathered_columns p prices limits v.drawn k))
       (λ k. kept_columns prices (first_leasts p prices k)) 0 (length p.caps)
       (λ k low high. kept_of_class k (omega arith))
 
--- the least value of a class is that of all its lists
+-- The least value of a class is that of all its lists with a worth: each list is in the group of its first item, and no less than
+-- the first least of that group. So prices with class prices made of these values are paid, which is all that a bound needs.
 pub least_of_lists : (p : Problem) → HasListedColumns p → BestIsFirstLeast p → LeastIsOfLists p
 least_of_lists p listed best prices class low = record {
   most = over.most;

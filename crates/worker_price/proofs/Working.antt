@@ -26,6 +26,8 @@ lowerings-append prices groups (x ∷ xs) f =
     ∙ sym (append_assoc (lowering prices (x.task / groups) x.column) (lowerings prices groups xs)
     (lowering prices (f.task / groups) f.column))
 
+-- The invariant of a worker's loop: what its desk has claimed, looked at and lowered is what the tasks found so far say. One more
+-- task adds one claim, one look and at most one lowering, each behind those before, so the three lists grow in step.
 pub worked_more : (best : Best) (prices : List Price) (groups n : ℕ) (seen : ℤ) (before mid here after : Sheet)
     (fs : List Found) (f : Found)
     → HasWorked best prices groups before mid fs → here ≡ drew mid n → f.task ≡ n → FoundUnder best prices groups f (n / groups, seen)
@@ -65,6 +67,8 @@ above_le [] n h = omega arith
 above_le (x ∷ xs) n h = let a = All-head (λ y. y < n) x xs h in let r = above_le xs n (All-tail (λ y. y < n) x xs h) in omega arith
 
 -- a claim leaves less to be claimed
+-- Why a worker ends: each number that a desk claims is above all that it has, and below the number of tasks, so less is left above
+-- the greatest one. It needs nothing of the other workers.
 pub fewer_left : (tasks n : ℕ) (look : ℕ × ℤ) (low : List (ℕ × ℤ)) (mid here after : Sheet) → n < tasks → All (λ x. x < n) mid.drawn →
     here ≡ drew mid n → after ≡ priced here look low → tasks - above after.drawn < tasks - above mid.drawn
 fewer_left tasks n look low mid here after lt all claim is =
