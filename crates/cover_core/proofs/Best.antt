@@ -77,10 +77,10 @@ Rises-rest : (x : ℕ) (xs : List ℕ) → Rises (x ∷ xs) → Rises xs
 Rises-rest x [] r = tt
 Rises-rest x (y ∷ ys) r = r.1
 
--- each list that rises is among them
--- By induction over the items that are left, where the list starts at k or later: it begins with k, and its rest is among the lists
--- from k + 1 on, or it does not begin with k and is itself among these. There are too many such lists to look at any; they are
--- there so that the best column is a function of the problem, and this lemma says that the function leaves none out.
+-- each list that rises is among them By induction over the items that are left, where the list starts at k or later: it begins with
+-- k, and its rest is among the lists from k + 1 on, or it does not begin with k and is itself among these. No code makes these
+-- lists, which are far too many; they make the best column a function of the problem, and this lemma says that the function leaves
+-- none out.
 pub rising_from-has : (n k : ℕ) (xs : List ℕ) → Rises xs → StartsFrom k xs → AllBelow (k + n) xs → IsIn xs (rising_from n k)
 rising_from-has zero k [] r s b = inl refl
 rising_from-has zero k (x ∷ xs) r s b = let below = b.0 in absurd (omega arith)

@@ -283,7 +283,7 @@ no-candidate-after limits k x g e =
 
 -- The rank of a candidate is the same among the candidates as in the whole pool, by the argument of `count-gains` twice over: first
 -- the columns above the limits are left out, none of which comes before a candidate, then those of value at least 0. So a price
--- step may bring into order no more columns than a few more than the caps, and still finds the ranks that the definition means.
+-- step brings the candidates alone into order, and still finds the ranks that the definition means.
 pub count-candidates : (limits : List ℤ) (k : Key) (xs : List Key) → is_gain k ≡ true → is_candidate limits k ≡ true →
     count_by (comes_before k) (filter (is_candidate limits) (filter is_gain xs)) ≡ count_by (comes_before k) xs
 count-candidates limits k xs g c = onto (filter is_gain xs) ∙ count-gains k xs g

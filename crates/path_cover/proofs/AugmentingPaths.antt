@@ -61,6 +61,9 @@ stay_equal net rising p arc = let e : p.head net.nodes -ℤ p.tail net.nodes ≡
     apart_none h t e = omega (arith, ints)
 
 -- a move over a tight arc leaves all arcs tight
+-- A tight arc taken into the matching leaves it tight: the row's new arc is this one, the column that it left may be without a row,
+-- and every other arc is as it was. A vehicle that stays is the arc from the store to the end, whose cost is 0: so it is tight
+-- where store and end are equal.
 pub moved_tight : (net : Net) → IsRising net → (p : Potentials) (free x old v : ℕ) (m : Matching) → net.nodes < free →
     IsTightMatching net p m.to m.from m.spare → IsTightArc net p x v → x ≤ net.nodes → v ≤ net.nodes →
     IsTightMatching net p (moved net.nodes free x old v m).to (moved net.nodes free x old v m).from (moved net.nodes free x old v m).spare
@@ -125,7 +128,10 @@ placed_tight net rising p x v m tight arc row v_in = record {
     go_spare false true is some = tight.stays some
     go_spare false false is some = absurd (cc)
 
--- one step of the walk
+-- One step of the walk: the row that reached the column with a free place moves to it, and so frees its own. That one was reached
+-- by a row nearer to the root, so the same holds again one row on. The invariant only speaks of rows that are nearer: what lies
+-- behind has moved, and is not asked for again, as depths fall at each step. It is also why the walk ends, at the root, which has
+-- no column to free.
 pub walk_back : (net : Net) → IsRising net → (p : Potentials) (a : Aim) (tree : Tree) (m : Matching) (v free : ℕ) → net.nodes < free →
     IsWalk net p a tree m v → tree.via v ≢ a.root →
     IsWalk net p a tree (moved net.nodes free (tree.via v) (tree.by (tree.via v)) v m) (tree.by (tree.via v))

@@ -175,8 +175,8 @@ row_less n most to from spare room root fixed R C next firsts are closed other t
 
 -- So there is no other way: a pigeonhole argument, by adding up over all rows. The matching has given out all places of the columns
 -- of C, and the root has none of them. In the other way every row that has one still has one, and the root as well: one place more
--- than there is. Store and end have many places each, so the four cases of whether they are in R and C compare the numbers of
--- vehicles that start, end and stay. What searches show with it: there is no cover, or none that comes earlier.
+-- than there is. Store and end have many places each, so there are four cases, by whether the store is in R and the end in C, which
+-- compare how many vehicles start, end and stay. What searches show with it: there is no cover, or none that comes earlier.
 pub blocked : (n most : ℕ) (to from : ℕ → ℕ) (spare room root fixed : ℕ) (R C : ℕ → Bool) (next : ℕ → ℕ) (firsts : List ℕ) →
     IsHeld n most to from spare room → IsClosed n to from spare room root fixed R C → Leads n most to root fixed R C next firsts → ⊥
 blocked n most to from spare room root fixed R C next firsts are closed other =

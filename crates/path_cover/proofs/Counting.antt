@@ -54,7 +54,9 @@ test_same n to from are t u t_in u_in = bool_same (u == to t) (t == from u)
     (λ is. let same : t ≡ from u = grind (arith, nat_tests) in let e : to t ≡ u =
     are.back t u t_in u_in (sym same) in grind (arith, nat_tests))
 
--- f over the columns of all rows is f over the columns that have rows
+-- f over the columns of all rows is f over the columns that have rows: the pairs of a matching are summed row by row and column by
+-- column, and the order of the two sums does not matter. With f as 1 on a set of columns it counts how many of them are taken, from
+-- either side.
 pub matched : (n : ℕ) (to from : ℕ → ℕ) → AreMatched n to from → (f : ℕ → ℤ) →
     sum_first (λ t. inside n f (to t)) n ≡ sum_first (λ u. held n f from u) n
 matched n to from are f =

@@ -56,6 +56,9 @@ behind_holds P n other x (y ∷ rest) s rise holds member = elim (member_cases s
       rw no (behind_holds P n other y rest s rise.1 holds.1 more)
 ]
 
+-- What holds of each arc of the paths holds of each node and its successor. The successor is looked for in path after path; a node
+-- stands in its own path once, as this rises, and what follows it there is where its arc goes. It turns covers into the counting
+-- form that `Blocked` takes.
 pub members_hold : (net : Net) → IsRising net → (P : ℕ → ℕ → Type 0) (lists : List (List ℕ)) →
     AreColumns (paths net) (columns_of net lists) → HoldsOnAll P net.nodes lists →
     (s : ℕ) → 1 ≤ times s (all_items (columns_of net lists)) → P s (successor net.nodes lists s)
@@ -142,6 +145,8 @@ lists_tight_arcs net p (list ∷ lists) are tight =
     (path_tight_arcs net p list (path_column net list).worth are.0.1 tight.0, lists_tight_arcs net p lists are.1 tight.1)
 
 -- where the rows of R reach only columns of C, and all of these are held by other rows of R, there is no cover
+-- For the counting argument a cover is another way in which each row has a column: its successor, for the store the first nodes of
+-- paths. The premise that seen rows have arcs to seen columns alone puts all of them into C.
 pub no_cover : (net : Net) → IsRising net → (to from : ℕ → ℕ) (spare room root : ℕ) (R C : ℕ → Bool) →
     IsHeld net.nodes net.most to from spare room → IsClosed net.nodes to from spare room root 0 R C → R root ≡ true →
     ((x v : ℕ) → x ≤ net.nodes → R x ≡ true → IsArc net x v → C v ≡ true) →
@@ -166,6 +171,9 @@ no_cover net rising to from spare room root R C are closed root_in reach lists c
 
 -- Where the rows of R reach only columns of C over tight arcs, and the root, whose column is taken off, reaches only columns of C below
 -- that one, no other least cover that agrees with the matching on all rows before has an earlier column there.
+-- The same argument with tight arcs, which are all that a least cover uses. It supposes that the other cover takes an earlier
+-- column for the root, which then is one of C; the rows before the root have the same columns both ways, so they take as many of C
+-- in the one as in the other.
 pub not_before : (net : Net) → IsRising net → (p : Potentials) → AreFeasible net p →
     (to from : ℕ → ℕ) (spare room root column : ℕ) (R C : ℕ → Bool) →
     IsHeld net.nodes net.most to from spare room → IsClosed net.nodes to from spare room root (suc root) R C →

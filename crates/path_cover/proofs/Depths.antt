@@ -47,7 +47,9 @@ near_step : (x y h r : ℤ) (c d dear far more : ℕ) → h -ℤ y ≡ pos c →
     y ≤ℤ (r +ℤ pos far) → r ≤ℤ (y +ℤ pos far) → (x ≤ℤ (r +ℤ pos more)) × (r ≤ℤ (x +ℤ pos more))
 near_step x y h r c d dear far more c_is d_is c_low d_low more_is high low = (omega (arith, ints), omega (arith, ints))
 
--- a seen row's potential is within a dearest arc of the root's for each row between
+-- A seen row's potential is within a dearest arc of the root's for each row between: from a row one steps to the next nearer the
+-- root over two tight arcs that share a column, and each of these is at most a dearest arc wide. By induction on how many steps
+-- away the row may be.
 near : (net : Net) → IsRising net → (dear : ℕ) → IsDear net dear → (p : Potentials) (m : Matching) (a : Aim) (tree : Tree) →
     IsTree net p m a tree → IsTightMatching net p m.to m.from m.spare →
     (k x : ℕ) → x ≤ net.nodes → tree.rows x ≡ true → tree.depth x ≤ k → IsNear p a.root (k * dear) x

@@ -43,6 +43,8 @@ column_none n from u above =
     let other : (from u == n) ≡ false = grind (arith, nat_tests) in
     rw (test, other) (omega (arith, ints))
 
+-- Where all rows have columns, all columns have rows, by counting both sides: rows and the store have as many places as columns and
+-- the end, and the equations of the matching say so. A column without a row would leave one place too many.
 pub all_held : (n most : ℕ) (to from : ℕ → ℕ) (spare room : ℕ) → IsHeld n most to from spare room → ((t : ℕ) → t < n → to t ≤ n) →
     (u : ℕ) → u < n → from u ≤ n
 all_held n most to from spare room is placed u u_in = elim (cases_lt n (from u)) [

@@ -122,7 +122,8 @@ covers_first net rising falls placing lists seated placed earliest follow firsts
     placing.spare placing.room seated.1.feasible plain.0 plain.1 full lists follow firsts).1
     (λ others cover slack t t_in agree. earliest t t_in others cover slack agree)
 
--- the search's own potentials are numbers of the matching
+-- The search's own potentials are numbers of the matching, and not far below 0: they are the floor that the sweep cannot pass. They
+-- need not be the greatest ones, and may depend on how the search went; the sweep begins at 0 and takes nothing from them.
 pub floor_of : (net : Net) (falls : Falls) (placing : Placing) → IsSeated net falls placing →
     AreLow falls 5000000000000000 → IsFloored net placing
 floor_of net falls placing seated low = (
@@ -178,7 +179,9 @@ slack_tight net rising p q to from spare room held lists cover follow firsts sla
     arcs : HoldsOnAll (IsTightArc net q) net.nodes lists
     arcs = lists_tight_arcs net q lists cover.cover.worths slack.paths
 
--- the greatest numbers of the matching are the greatest potentials of its cover
+-- The greatest numbers of the matching are the greatest potentials of its cover: complementary slackness with the paths asks of
+-- potentials just what the matching does, as its arcs are the arcs of the paths. So the prices are told by the cover alone, and by
+-- nothing of the search.
 pub covers_greatest : (net : Net) → IsRising net → (falls numbers : Falls) (placing : Placing) (lists : List (List ℕ)) →
     IsSeated net falls placing → AllPlaced net.nodes placing →
     AllFollow net.nodes (λ t. get_or placing.to.items t 0) lists →

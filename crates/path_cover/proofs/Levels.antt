@@ -239,8 +239,8 @@ levels net rising dear cheap lists cover p greatest (suc k) = elim (levels net r
             elim (cases_lt m n) [ inl below ↦ inr (omega (arith, ints)) | inr above ↦ inl (omega (arith, ints)) ]
 
 -- No greatest number is further below 0 than 2 n + 3 times the greatest cost of an arc: there are 2 n + 2 numbers, so that many
--- bands cannot each have one of their own. It bounds the numbers of the sweep that finds them, which so stay within 64 bits, by the
--- network alone.
+-- bands cannot each have one of their own. So prices made of them are bounded by the network alone, however far the search had
+-- lowered its own potentials.
 pub greatest_high : (net : Net) → IsRising net → (dear : ℕ) → IsDear net dear → (lists : List (List ℕ)) → IsCover net lists →
     (p : Potentials) → AreGreatest net lists p →
     AreAbove net p ((2 * net.nodes + 3) * dear)

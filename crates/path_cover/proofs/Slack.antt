@@ -30,6 +30,9 @@ list_price net p prices z are (t ∷ ts) below =
     let rest = list_price net p prices z are ts below.1 in
     omega (arith, ints)
 
+-- Feasible potentials pay: with gains as prices, and as class price what the store lies above the end, no path costs less than it
+-- is paid. The arc from store to end, which costs nothing, makes the class price at least 0; the rest is the telescope along a
+-- path.
 pub feasible_is_paid : (net : Net) → FeasibleIsPaid net
 feasible_is_paid net rising p feasible prices z are = record {
   charged = charged;
@@ -103,6 +106,9 @@ paid_all k most z few free =
       | inr past ↦ let same : k ≡ most = omega arith in ap (λ (n : ℕ). pos n *ℤ z) same
     ]
 
+-- The gains of all nodes are what a cover costs and what it pays for places, where it goes over tight arcs, and where either all
+-- places are used or a place costs nothing. For any other cover they are at most that (`cover_total`): so none costs less, and the
+-- bound of the prices is the cost itself.
 slack_total : (net : Net) → IsRising net → (p : Potentials) (lists : List (List ℕ)) → IsCover net lists → IsSlack net p lists →
     sum_first (gain p) net.nodes ≡ pos (cover_cost net lists) +ℤ (pos net.most *ℤ toll net p)
 slack_total net rising p lists cover slack =
@@ -135,6 +141,9 @@ no_toll k most (pos (suc m)) charged equal below =
     absurd (omega (arith, ints))
 no_toll k most (negsuc m) charged equal below = absurd (omega (arith, ints))
 
+-- The converse, on which the first of the least covers rests: a cover that costs no more leaves no room between the two sides, so
+-- each of its arcs is tight, and if it uses fewer places then these are free. So least covers are those that go over tight arcs,
+-- under any one choice of potentials.
 pub least_is_slack : (net : Net) → LeastIsSlack net
 least_is_slack net rising p feasible lists others cover slack other same =
     let here = slack_total net rising p lists cover slack in

@@ -86,6 +86,8 @@ behind-none n s (x ∷ y ∷ rest) none =
     ]
 
 -- over the members of a list that rises, whatever the others have behind them
+-- In a path that rises, what stands behind its nodes is the path without its first node and with the end put last. That it rises
+-- makes a node's place in it the only one, so that looking for what is behind a node finds this.
 list_chain : (f : ℕ → ℤ) (n : ℕ) (others : ℕ → ℕ) (list : List ℕ) → Rises list →
     sum_each (λ s. f (unwrap_or (behind n s list) (others s))) list ≡ chain f n list
 list_chain f n others [] rise = refl
@@ -165,7 +167,9 @@ cover_once net rising lists cover s =
           omega arith
     ]
 
--- successors and firsts together are all nodes, and the end once for each path
+-- Successors and firsts together are all nodes, and the end once for each path, for any sum over them: each node but the first of
+-- its path is the successor of one node, and the last node of each path has the end. This is all that the counting argument needs
+-- to know of a cover.
 pub successors_sum : (net : Net) → IsRising net → (f : ℕ → ℤ) (lists : List (List ℕ)) → IsCover net lists →
     sum_first (λ s. f (successor net.nodes lists s)) net.nodes +ℤ sum_each f (first_nodes lists) ≡ sum_first f net.nodes
     +ℤ (pos (length lists) *ℤ f net.nodes)

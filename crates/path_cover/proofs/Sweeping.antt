@@ -43,7 +43,9 @@ swept_more net placing old mid new a b first second = record {
     go false true n1 s1 n2 s2 e = let same = ap gap (s1 refl) in let two = n2 refl in omega arith
     go false false n1 s1 n2 s2 e = absurd (cc)
 
--- a column's number is pressed
+-- A column's number is pressed. The invariant is that no number is below any potentials of the matching: one that an arc forbids to
+-- be so high is put down only as far as the arc asks, and any potentials, keeping that arc, are as low there. Each move brings the
+-- numbers nearer to a floor at which some potentials lie, so sweeps end; and they end at the greatest potentials, not just at some.
 pub head_pressed : (net : Net) (placing : Placing) (old new : Falls) (x v c : ℕ) → x ≤ net.nodes → v ≤ net.nodes → HasPlaces net.nodes old →
     AreHigh net placing old → IsFloored net placing → net.arc x v ≡ Some c →
     new.tails.items ≡ old.tails.items → get_or old.heads.items v 0 < get_or old.tails.items x 0 - c →
@@ -95,7 +97,8 @@ head_pressed net placing old new x v c x_in v_in places high floor arc tails les
             (high q is x x_in).0 (is.heads v v_in) in
             subst (λ (w : ℕ). q.head w ≤ℤ (pos 0 -ℤ pos least)) (sym same) at_v
 
--- where an arc of the matching is tight for all numbers, what it asks is not below the floor
+-- Where an arc of the matching is tight for all potentials, what it asks of its row is not below the floor: potentials above the
+-- floor keep it too, and none of the numbers is below theirs.
 pub tail_low : (net : Net) (placing : Placing) (numbers : Falls) (x v c : ℕ) → x ≤ net.nodes → v ≤ net.nodes → AreHigh net placing numbers →
     IsFloored net placing → IsTightIn net placing x v → net.arc x v ≡ Some c →
     c + get_or numbers.heads.items v 0 ≤ 5000000000000000
@@ -179,7 +182,8 @@ asked_more P k mid new a b before same here e w below =
       | inr now ↦ (let at : w ≡ k = omega arith in subst (λ (j : ℕ). P new j) (sym at) (here both.1))
     ]
 
--- where nothing moves, all conditions hold
+-- Where nothing moves, all conditions hold: no arc asks a column to be lower, and no arc of the matching a row, so all arcs are
+-- feasible and those of the matching tight. With the invariant the numbers are the greatest potentials there are.
 pub numbers_hold : (net : Net) → IsRising net → (placing : Placing) (numbers : Falls) → IsFloored net placing →
     ((x v : ℕ) → x ≤ net.nodes → v ≤ net.nodes → IsFitting net numbers x v) →
     ((t : ℕ) → t < net.nodes → IsTaut net numbers t (get_or placing.to.items t 0)) →

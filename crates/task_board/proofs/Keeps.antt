@@ -87,7 +87,7 @@ module _ (size : Extent) where
 
   -- Where no desk's entries changed and no class's word, the class's word stays the least of 0 and the values by which it was
   -- lowered. The condition speaks of entries that some desk has and not of who has them: so this one lemma serves claims, looks,
-  -- splits and joins, of which the last two move entries from desk to desk.
+  -- splits and joins, of which the last moves entries from desk to desk.
   least_kept : (words words' : List ℕ) (views views' : List Sheet) → IsKept size words views →
       ((k : ℕ) → k < size.classes → slice_index words' (k + 1) ≡ slice_index words (k + 1))
       → ((p : ℕ × ℤ) → Noted lowered_in views p → Noted lowered_in views' p) →
