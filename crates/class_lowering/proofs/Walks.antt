@@ -16,7 +16,6 @@ pub column-get : (cs : List Column) (i : ℕ) (d : Column) → i < length cs →
 column-get [] i d h is = absurd (omega arith)
 column-get (c ∷ cs) i d h is = is ∙ get_or-any (c ∷ cs) i d no_column h
 
--- one more place
 -- One place more. The invariant of the loop is that lowering along the places left, from the prices reached, gives the prices that
 -- lowering along all places gives from the first ones: so each column is lowered at the prices that the earlier ones left, as the
 -- definition has it.

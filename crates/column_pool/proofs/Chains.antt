@@ -48,9 +48,9 @@ last_in-bucket b (c ∷ cs) k e =
     later zero is some rest = absurd (some is)
     later (suc i) is some rest = rest i is
 
--- the same class and list lie in the same bucket
--- A bucket is computed from class and list alone, so a column that is the same as another lies in its bucket. Nothing more is asked
--- of the hash: how well it spreads columns decides on time, and never on what the pool answers.
+-- The same class and list lie in the same bucket. A bucket is computed from class and list alone, so a column that is the same as
+-- another lies in its bucket. Nothing more is asked of the hash: how well it spreads columns decides on time, and never on what the
+-- pool answers.
 pub is_same-bucket : (column other : Column) → is_same column other ≡ true → bucket_in other ≡ bucket_in column
 is_same-bucket column other e =
     elim (cases_eq other.class column.class) [
@@ -72,10 +72,9 @@ not_same column other apart =
       | false ↦ λ is. refl
     ] refl
 
--- no column of the bucket stands behind its last one
--- A column is known exactly if it is known among the columns up to the last one of its bucket: whatever stands behind that is of
--- other buckets, and so not the same. By induction over the columns, from the front. It begins the walk along a chain at the
--- bucket's head.
+-- No column of the bucket stands behind its last one. A column is known exactly if it is known among the columns up to the last one
+-- of its bucket: whatever stands behind that is of other buckets, and so not the same. By induction over the columns, from the
+-- front. It begins the walk along a chain at the bucket's head.
 pub is_known-last : (column : Column) (cs : List Column) → is_known cs column ≡ is_known (take (last_in (bucket_in column) cs) cs) column
 is_known-last column [] = refl
 is_known-last column (c ∷ cs) =
@@ -161,7 +160,6 @@ take-all : (cs : List Column) → take (length cs) cs ≡ cs
 take-all [] = refl
 take-all (c ∷ cs) = ap (λ l. c ∷ l) (take-all cs)
 
--- the table after one more column
 -- The table after one more column: the bucket's head is the new column, and beside it stands the head from before, as the one
 -- before it in its bucket. Earlier entries speak of the columns in front of them alone, so they stay true as they are: nothing is
 -- moved. That the new column was not known is what keeps all columns distinct.
@@ -233,10 +231,10 @@ pub empty-zero : (ns : List ℕ) (i : ℕ) → length ns ≡ 0 → get_or ns i 0
 empty-zero [] i h = refl
 empty-zero (n ∷ ns) i h = absurd (omega arith)
 
--- one step down a chain: the column at the place is another, and none stands between it and the one before it in its bucket
--- With the invariant that the column is known in the whole pool exactly if it is among the columns up to the place reached, the
--- walk goes down the chain; it ends where a column is the same, or the chain does, and then nothing is left. So a look at one
--- bucket answers for all.
+-- One step down a chain: the column at the place is another, and none stands between it and the one before it in its bucket. With
+-- the invariant that the column is known in the whole pool exactly if it is among the columns up to the place reached, the walk
+-- goes down the chain; it ends where a column is the same, or the chain does, and then nothing is left. So a look at one bucket
+-- answers for all.
 pub is_known-step : (column : Column) (cs : List Column) (at next : ℕ) → at < length cs → bucket_in (column_at cs at) ≡ bucket_in column →
     is_same column (column_at cs at) ≡ false → next ≡ last_in (bucket_in (column_at cs at)) (take at cs) →
     is_known (take (suc at) cs) column ≡ is_known (take next cs) column

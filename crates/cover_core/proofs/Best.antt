@@ -77,8 +77,8 @@ Rises-rest : (x : ℕ) (xs : List ℕ) → Rises (x ∷ xs) → Rises xs
 Rises-rest x [] r = tt
 Rises-rest x (y ∷ ys) r = r.1
 
--- each list that rises is among them By induction over the items that are left, where the list starts at k or later: it begins with
--- k, and its rest is among the lists from k + 1 on, or it does not begin with k and is itself among these. No code makes these
+-- Each list that rises is among them, by induction over the items that are left, where the list starts at k or later: it begins
+-- with k, and its rest is among the lists from k + 1 on, or it does not begin with k and is itself among these. No code makes these
 -- lists, which are far too many; they make the best column a function of the problem, and this lemma says that the function leaves
 -- none out.
 pub rising_from-has : (n k : ℕ) (xs : List ℕ) → Rises xs → StartsFrom k xs → AllBelow (k + n) xs → IsIn xs (rising_from n k)
@@ -143,9 +143,9 @@ earliest-each P prices (x ∷ xs) c h e =
           elim (is_gt (column_cmp prices x b)) as (λ t. P (cond t b x)) [ true ↦ rest | false ↦ h.0 ])
     ] refl e
 
--- none comes before the earliest
--- By induction over the columns: the earliest of the rest comes before all of the rest, and the first column is compared with it
--- alone; that the order of columns is total and carries over from one comparison to the next does the others.
+-- None comes before the earliest. By induction over the columns: the earliest of the rest comes before all of the rest, and the
+-- first column is compared with it alone; that the order of columns is total and carries over from one comparison to the next does
+-- the others.
 pub earliest-first : (prices : List Price) (cs : List Column) (c d : Column) → earliest prices cs ≡ Some c → IsIn d cs → IsFirst prices c d
 earliest-first prices [] c d e i = absurd i
 earliest-first prices (x ∷ xs) c d e i =

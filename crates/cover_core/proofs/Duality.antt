@@ -114,8 +114,8 @@ least_is_paid p prices least same at_most = record {
       rw (class_prices_of-at least class) (omega (arith, ints, class_price_of-covers (number_at least class)));
 }
 
--- Class prices may also be higher than least values ask: it is enough that each is at least 0 and that with the least value of its class
--- it comes to 0 or more. A list has a value no less than the least one, and so none below minus the class price.
+-- Class prices may also be higher than least values ask: it is enough that each is at least 0 and that with the least value of its
+-- class it comes to 0 or more. A list has a value no less than the least one, and so none below minus the class price.
 pub covering_is_paid : (p : Problem) → CoveringIsPaid p
 covering_is_paid p prices class_prices least charged covering at_most = record {
   charged = charged;

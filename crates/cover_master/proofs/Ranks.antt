@@ -70,7 +70,6 @@ eqb-same m n e = grind (arith, nat_tests)
 eqb-apart : (m n : ℕ) → (m ≡ n → ⊥) → (m == n) ≡ false
 eqb-apart m n e = grind (arith, nat_tests)
 
--- one that is sorted before, at another place, comes before exactly if it is of the class
 -- Of two columns at different places of the pool, the one that is sorted before the other counts in the other's rank exactly if it
 -- is of the same class. The sort only says that the later one is not less; equal they cannot be, since the order ends with the
 -- place: so the earlier one is truly less, and within one class that is what the rank counts.
@@ -89,9 +88,8 @@ before-earlier x y sorted apart =
           rw test refl
     ]
 
--- one that is sorted after does not come before
--- Whatever stands after a column in the sorted list is not less, and so never counts in its rank. With the lemma above, a rank can
--- be read off from what stands before a column alone.
+-- One that is sorted after does not come before. Whatever stands after a column in the sorted list is not less, and so never counts
+-- in its rank. With the lemma above, a rank can be read off from what stands before a column alone.
 pub before-later : (x y : Key) → is_before x y ≡ false → comes_before y x ≡ false
 before-later x y sorted =
     elim (cases_eq x.class y.class) [
@@ -257,7 +255,6 @@ count-take p xs t h =
     let whole : count_by p (take (length xs) xs) ≡ count_by p xs = ap (count_by p) all in
     omega arith
 
--- one above the limit of its class comes before no candidate
 -- A column above the limit of its class comes before no candidate: one of its own class has a value that is at most the limit, and
 -- so is less; one of another class is never compared with it.
 no-candidate-after : (limits : List ℤ) (k x : Key) → is_candidate limits k ≡ true → is_candidate limits x ≡ false → comes_before k x ≡ false
@@ -338,7 +335,6 @@ module _ (prices : List Price) (pool : List Column) (caps : List ℕ) (sorted : 
       (All-permutation (λ k. is_candidate candidates.limits k ≡ true) (filter (is_candidate candidates.limits) (gain_keys prices pool))
       sorted candidates.all (filter_passes (is_candidate candidates.limits) (gain_keys prices pool)))
 
-  -- the rank of a column is how many of its class stand before it
   -- The main theorem of this file: in the sorted candidates, the rank of a column within its class is how many of its class stand
   -- before it. From right to left: all that stand before and are of its class come before it; nothing that stands after does; a
   -- permutation counts alike; and leaving out the others changed no rank. So `cover` finds which columns are chosen with one

@@ -85,8 +85,8 @@ number_at-past [] i h = refl
 number_at-past (z ∷ zs) zero h = absurd (omega arith)
 number_at-past (z ∷ zs) (suc i) h = number_at-past zs i (omega arith)
 
--- one above a limit that keeps a column comes after it
--- A limit keeps the columns of its class that are up to it, and each of these comes before a column above it.
+-- One above a limit that keeps a column comes after it. A limit keeps the columns of its class that are up to it, and each of these
+-- comes before a column above it.
 above-limit : (x y : Key) (limit : ℤ) → limit <ℤ x.value → is_at_most x.class limit y ≡ true → comes_before x y ≡ true
 above-limit x y limit above e =
     elim (cases_eq y.class x.class) [
@@ -103,10 +103,10 @@ above-limit x y limit above e =
           absurd (cc)
     ]
 
--- a column of value below 0 that is no candidate is not chosen
--- A limit is -1 and leaves out no column of value below 0, or keeps at least as many columns of the class as the cap. A column
--- above it has all of these before it, so its rank is at least the cap, and it is not chosen. A class without a cap has the limit
--- 0, which is above every value below 0. So choosing among the candidates misses no column that the definition chooses.
+-- A column of value below 0 that is no candidate is not chosen. A limit is -1 and leaves out no column of value below 0, or keeps
+-- at least as many columns of the class as the cap. A column above it has all of these before it, so its rank is at least the cap,
+-- and it is not chosen. A class without a cap has the limit 0, which is above every value below 0. So choosing among the candidates
+-- misses no column that the definition chooses.
 not-chosen : (prices : List Price) (pool : List Column) (caps : List ℕ) (limits : List ℤ) →
     AreLimits (gain_keys prices pool) caps limits → (x : Key) →
     is_gain x ≡ true → is_candidate limits x ≡ false → is_chosen (keys_of prices pool) caps x ≡ false
@@ -185,9 +185,9 @@ module _ (prices : List Price) (pool : List Column) (caps : List ℕ) (sorted : 
       (All-filter is_gain (IsKey (length caps) (length pool)) (keys_of prices pool)
       (keys-there prices items (length caps) (length pool) 0 pool (omega arith) fit))))
 
-  -- counted so far: how many columns of the class stand before
-  -- The test of the code is that of the definition: a candidate is chosen exactly if fewer columns of its class stand before it
-  -- than its cap allows, as that number is its rank. The counter of its class has this number by the invariant of the loop.
+  -- Counted so far: how many columns of the class stand before. The test of the code is that of the definition: a candidate is
+  -- chosen exactly if fewer columns of its class stand before it than its cap allows, as that number is its rank. The counter of
+  -- its class has this number by the invariant of the loop.
   pub chosen-at : (t count : ℕ) → t < length sorted → count ≡ count_by (λ x. x.class == (get_or sorted t no_key).class) (take t sorted) →
       is_chosen (keys_of prices pool) caps (get_or sorted t no_key) ≡ nat_lt count (slice_index caps (get_or sorted t no_key).class)
   chosen-at t count h e =

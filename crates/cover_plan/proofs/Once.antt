@@ -82,7 +82,6 @@ record KeptPlan : Type 0 where
 abbrev planned_as : Kept → List Column → KeptPlan
 planned_as cost columns = record { cost = cost; columns = columns }
 
--- rounding
 -- Rounding goes through a pool in the order of value and place, which is one order (`one_by_value`), and from there it is a
 -- function.
 pub one_rounding : (p : Problem) (prices : List Price) (pool : List Column) (one other : Rounded) → RoundsTo p prices pool one →

@@ -95,7 +95,6 @@ module _ (heads : List Begun) (n : ℕ) (may : ℕ → List ℕ → Bool) where
       (nat_eq h.class class && (not h.finished || is_empty xs)) ≡ true
   goes-on class x h xs list at e = let P : Option Begun → Type 0 = λ o. may_go_on may class o xs list ≡ true in subst P at e
 
-  -- a list in which a head stands begins with it
   -- A list of the rest in which a head stands begins with it: no other item of such a list may be a head. Written out it begins
   -- with the head's own items, in its class, and nothing follows where the head is finished.
   pub holds-head : (class worth k : ℕ) (h : Begun) (list : List ℕ) → slice_get heads k ≡ Some h → 1 ≤ times k list →

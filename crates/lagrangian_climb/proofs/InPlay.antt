@@ -120,10 +120,9 @@ gains-step prices pool places i c h at =
     at_drop_more (gains_at prices pool) places i 0 h
     ∙ ap (gain_before prices (get_or places i 0) (gains_at prices pool (drop (i + 1) places))) at
 
--- where the value is below 0 the column is one more of those so far, else nothing changes
--- The invariant of the loop over the places: the columns found so far, followed by what the places left will give, are all there
--- are to find. A column of value below 0 moves from the second part to the first; the lemma below is the other case, where nothing
--- moves.
+-- Where the value is below 0 the column is one more of those so far, else nothing changes. The invariant of the loop over the
+-- places: the columns found so far, followed by what the places left will give, are all there are to find. A column of value below
+-- 0 moves from the second part to the first; the lemma below is the other case, where nothing moves.
 pub gains-taken : (prices : List Price) (pool : List Column) (places : List ℕ) (i : ℕ) (c : Column) (all so_far now : List Key) →
     i < length places → slice_get pool (get_or places i 0) ≡ Some c →
     value prices c <ℤ pos 0 → now ≡ so_far ++ record { class = c.class; value = value prices c; place = get_or places i 0 } ∷ [] →

@@ -44,9 +44,9 @@ asked-length [] i z = refl
 asked-length (x ∷ xs) zero z = refl
 asked-length (x ∷ xs) (suc i) z = ap (λ (n : ℕ). suc n) (asked-length xs i z)
 
--- what classes ask stays in range
--- What a class asks is minus the value of a column of value below 0, so it is above 0, and in the range of values. It is 0 where no
--- column was left without a place. So `choose` gives class prices that may be added to prices without a test.
+-- What classes ask stays in range. What a class asks is minus the value of a column of value below 0, so it is above 0, and in the
+-- range of values. It is 0 where no column was left without a place. So `choose` gives class prices that may be added to prices
+-- without a test.
 pub priced-asked : (k m : ℕ) (caps counts : List ℕ) (keys : List Key) (prices : List ℤ) → All (IsGain k m) keys → AreAsked prices →
     AreAsked (priced_classes caps counts keys prices)
 priced-asked k m caps counts [] prices all are = are
@@ -79,7 +79,6 @@ pub zero-asked : (zs : List ℤ) → ((i : ℕ) → number_at zs i ≡ pos 0) �
 zero-asked [] h = tt
 zero-asked (z ∷ zs) h = let here : z ≡ pos 0 = h 0 in (omega (arith, ints), omega (arith, ints), zero-asked zs (λ i. h (suc i)))
 
--- one key more
 -- One key more. The invariant of the walk says what is chosen so far, followed by what the keys left will choose from the counts
 -- reached, is the whole choice; so one step of the loop is one step of the definition, and at the end nothing is left. The two
 -- lemmas below are the same for the sum of values and for what classes ask.

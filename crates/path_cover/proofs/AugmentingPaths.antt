@@ -60,7 +60,6 @@ stay_equal net rising p arc = let e : p.head net.nodes -ℤ p.tail net.nodes ≡
     apart_none : (h t : ℤ) → h -ℤ t ≡ pos 0 → h ≡ t
     apart_none h t e = omega (arith, ints)
 
--- a move over a tight arc leaves all arcs tight
 -- A tight arc taken into the matching leaves it tight: the row's new arc is this one, the column that it left may be without a row,
 -- and every other arc is as it was. A vehicle that stays is the arc from the store to the end, whose cost is 0: so it is tight
 -- where store and end are equal.

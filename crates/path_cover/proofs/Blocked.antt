@@ -121,7 +121,6 @@ row_most n C v =
 row_positive : (n : ℕ) (C : ℕ → Bool) (v : ℕ) → C v ≡ false → row_part n C v ≤ℤ pos 0
 row_positive n C v out = let most = row_most n C v in let none : one (C v) ≡ pos 0 = rw out refl in omega (arith, ints)
 
--- the rows of a matching that are not the root have no more of C than in the other way
 -- Row by row: a row has no more of C in the matching than in the other way, and the root has one more there. A row that has a
 -- column of C in the matching holds it, so it is in R, or is a row that both ways agree on; and rows of R have a column of C in the
 -- other way.

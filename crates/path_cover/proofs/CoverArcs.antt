@@ -144,9 +144,9 @@ lists_tight_arcs net p [] are tight = tt
 lists_tight_arcs net p (list ∷ lists) are tight =
     (path_tight_arcs net p list (path_column net list).worth are.0.1 tight.0, lists_tight_arcs net p lists are.1 tight.1)
 
--- where the rows of R reach only columns of C, and all of these are held by other rows of R, there is no cover
--- For the counting argument a cover is another way in which each row has a column: its successor, for the store the first nodes of
--- paths. The premise that seen rows have arcs to seen columns alone puts all of them into C.
+-- Where the rows of R reach only columns of C, and all of these are held by other rows of R, there is no cover. For the counting
+-- argument a cover is another way in which each row has a column: its successor, for the store the first nodes of paths. The
+-- premise that seen rows have arcs to seen columns alone puts all of them into C.
 pub no_cover : (net : Net) → IsRising net → (to from : ℕ → ℕ) (spare room root : ℕ) (R C : ℕ → Bool) →
     IsHeld net.nodes net.most to from spare room → IsClosed net.nodes to from spare room root 0 R C → R root ≡ true →
     ((x v : ℕ) → x ≤ net.nodes → R x ≡ true → IsArc net x v → C v ≡ true) →

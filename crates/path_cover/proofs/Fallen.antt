@@ -53,9 +53,9 @@ fallen_list n by old new seen old_count new_count seen_is each i = elim (cases_l
       rw (a, b, c) refl
 ]
 
--- the potentials are lowered where rows and columns are seen
--- The code adds to how far seen numbers are below 0, entry by entry; the law speaks of potentials as functions. They are the same
--- function at every place, also past the end of the lists, where nothing is seen. All else that follows is said of the functions.
+-- The potentials are lowered where rows and columns are seen. The code adds to how far seen numbers are below 0, entry by entry;
+-- the law speaks of potentials as functions. They are the same function at every place, also past the end of the lists, where
+-- nothing is seen. All else that follows is said of the functions.
 pots_lowered : (net : Net) (by : ℕ) (old new : Falls) (grown growth : Growth) → HasPlaces net.nodes old → IsSized net.nodes grown →
     IsLoweredBy net.nodes by old new grown growth →
     potentials_of new ≡ lowered (potentials_of old) (tree_of grown) (pos by)
@@ -134,7 +134,6 @@ less_offer (Some d) by most = let less = most d refl in ap Some (diff d by less)
     diff : (d by : ℕ) → by ≤ d → pos (d - by) ≡ pos d -ℤ pos by
     diff d by less = omega (arith, ints)
 
--- the tree after lowering
 -- The tree after lowering: on functions it is a tree (`fallen_tree`), the kept numbers are these functions, and the offers agree
 -- for every unseen column, since the least of them is what is taken off, so that the subtraction of the code never stops at 0
 -- there.
@@ -165,7 +164,6 @@ tree_lowered net m a v by old new grown growth places sized is nearest tree =
     subst (λ (l : List ℕ). IsTree net p m a (tree_from growth.rows.items growth.columns.items growth.by.items growth.via.items least l))
     (sym is.depth) with_via
 
--- no offer is great
 -- No offer is great, so taking it off is safe in 64 bits: an offer is an arc's cost, plus how far the column is below 0, less how
 -- far the row is; costs are cheap, and a column that is not seen is no lower than when the search began.
 pub offer_small : (net : Net) → IsCheap net →
@@ -186,9 +184,9 @@ offer_small net cheap falls placing growth target n v by m is n_is nearest =
         (n + 2) * dear ≤ 750000000000 → h ≤ level → level ≤ 5000000000000000 → by < 1000000000000000000
     small by cost h t level dear n e c_low few low most = omega (arith, ints)
 
--- a tree whose offers cost something, where potentials are not to be lowered
--- Where the root may take earlier columns alone, potentials must stay, for the covers of least cost are told by them. So where even
--- the least offer costs something the search is over, and the tree that is left shows why.
+-- A tree whose offers cost something, where potentials are not to be lowered. Where the root may take earlier columns alone,
+-- potentials must stay, for the covers of least cost are told by them. So where even the least offer costs something the search is
+-- over, and the tree that is left shows why.
 pub stuck_here : (net : Net) (falls : Falls) (placing : Placing) (growth : Growth) (target : Target) (n v by : ℕ) (m : Matching) →
     IsTreed net falls placing growth target m → n ≡ net.nodes →
     IsNearest growth.columns.items growth.least.items (n + 1) v by → 0 < by → target.limit ≤ n →
@@ -212,12 +210,11 @@ times_mono zero b k less = omega arith
 times_mono (suc a) zero k less = absurd (omega arith)
 times_mono (suc a) (suc b) k less = let rest = times_mono a b k (omega arith) in omega arith
 
--- lowered potentials are not far below the level
--- The main theorem of this file: after a lowering by the least offer all that a search keeps still holds. Feasible potentials and
--- the tight matching are those of `Trees`. New is that no number falls far, however often a search lowers. The row that made the
--- least offer now has a tight arc to a column that is not seen, and so is no more than one arc's cost below the level of the start;
--- all seen rows hang together by tight arcs, at most two for each seen column (`deep_rows`); so none is more than one search's fall
--- below the level.
+-- Lowered potentials are not far below the level. The main theorem of this file: after a lowering by the least offer all that a
+-- search keeps still holds. Feasible potentials and the tight matching are those of `Trees`. New is that no number falls far,
+-- however often a search lowers. The row that made the least offer now has a tight arc to a column that is not seen, and so is no
+-- more than one arc's cost below the level of the start; all seen rows hang together by tight arcs, at most two for each seen
+-- column (`deep_rows`); so none is more than one search's fall below the level.
 pub lowered_treed : (net : Net) → IsRising net → IsCheap net →
     (old new : Falls) (placing : Placing) (grown growth : Growth) (target : Target) (n v by : ℕ) (m : Matching) →
     IsTreed net old placing grown target m → n ≡ net.nodes → n < target.limit → target.fixed ≡ 0 → 0 < by →

@@ -57,10 +57,9 @@ opened_at v tree = record {
 some_nat : (a b : ℕ) → Some a ≡ Some b → a ≡ b
 some_nat a b e = let f : Option ℕ → ℕ = λ o. unwrap_or o a in ap f e
 
--- a column whose offer is 0 is seen
--- Seeing a column takes three steps, for it becomes part of the tree before the rows that hold it do. Between them stands an
--- opening: a tree but for one column whose holders may not be seen yet. Here it begins: the column's least offer is 0, so the arc
--- from the row that made it is there and tight.
+-- A column whose offer is 0 is seen. Seeing a column takes three steps, for it becomes part of the tree before the rows that hold
+-- it do. Between them stands an opening: a tree but for one column whose holders may not be seen yet. Here it begins: the column's
+-- least offer is 0, so the arc from the row that made it is there and tight.
 pub open_column : (net : Net) (p : Potentials) (m : Matching) (a : Aim) (tree : Tree) (v : ℕ) → IsTree net p m a tree → v ≤ net.nodes →
     tree.columns v ≡ false → tree.least v ≡ Some (pos 0) →
     (v < net.nodes → m.from v ≤ net.nodes) → (v ≡ net.nodes → m.room ≡ 0) → IsOpening net p m a (opened_at v tree) v
@@ -125,10 +124,10 @@ pub record IsOfferedToo (net : Net) (p : Potentials) (a : Aim) (x : ℕ) (old ne
       ((old.least w ≡ Some d) × (new.via w ≡ old.via w)) ⊎
       ((new.via w ≡ x) × ((c : ℕ) × (net.arc x w ≡ Some c) × (d ≡ pos c +ℤ (p.tail x -ℤ p.head w))))
 
--- a row that holds the column is reached
--- In the middle of an opening one row that holds the column is seen and makes its offers. The row hangs on the column, one deeper
--- than the row that the column was reached from: depths only grow away from the root, and seen columns keep the row that reached
--- them, so the walk back from any column ends. Offers only fall, and each that is kept is still one that a seen row makes.
+-- A row that holds the column is reached. In the middle of an opening one row that holds the column is seen and makes its offers.
+-- The row hangs on the column, one deeper than the row that the column was reached from: depths only grow away from the root, and
+-- seen columns keep the row that reached them, so the walk back from any column ends. Offers only fall, and each that is kept is
+-- still one that a seen row makes.
 pub reach_row : (net : Net) (p : Potentials) (m : Matching) (a : Aim) (old new : Tree) (v x : ℕ) → IsOpening net p m a old v →
     x ≤ net.nodes → old.rows x ≡ false → a.fixed ≤ x →
     (x < net.nodes → m.to x ≡ v) → (x ≡ net.nodes → v < net.nodes → m.from v ≡ net.nodes) → (x ≡ net.nodes → v ≡ net.nodes → 0 < m.spare) →
@@ -269,7 +268,6 @@ reach_row net p m a old new v x is x_in unseen movable row store stays rows bys 
           deeper = omega arith;
         }
 
--- where the rows of the column are seen, the tree is one again
 -- Once all rows that hold the column and may be moved are seen, the opening is a tree again. With the two lemmas above this carries
 -- the tree over each step of a search that finds no free place.
 pub close_column : (net : Net) (p : Potentials) (m : Matching) (a : Aim) (tree : Tree) (v : ℕ) → IsOpening net p m a tree v →
@@ -300,7 +298,6 @@ close_column net p m a tree v is holder ends stays = record {
   kept = is.kept;
 }
 
--- a column with a free place whose offer is 0: the walk back begins
 -- A column with a free place whose offer is 0: the walk back begins. Of a tree it needs only the tight arcs from rows to the
 -- columns that they reached, and that rows other than the root hold the column by which they were reached; these let each row give
 -- its column to the next.

@@ -152,7 +152,6 @@ one_more a b m more = elim (cases_lt b m) [
     one_most true = omega (arith, ints)
     one_most false = omega (arith, ints)
 
--- where there are no more, none lies in the band
 -- A counting step: where as many numbers lie above the lower edge of a band as above its upper edge, none lies in the band.
 same_above : (level dear : ℕ) (f : ℕ → ℤ) (n : ℕ) → above_in (level + dear) f n ≤ℤ above_in level f n → (x : ℕ) →
     x < n → NotInBand level dear (f x)

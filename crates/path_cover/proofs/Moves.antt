@@ -38,9 +38,9 @@ count_past i w k f (suc n) past =
     let last : one (put i w f n == k) ≡ one (f n == k) = ap (λ (x : ℕ). one (x == k)) same in
     omega (arith, ints)
 
--- how many have a value, after one change
--- A count over all rows moves by one entry where one row changes: what it had is taken off, and what it has now is added. The
--- places of store and end are such counts, so this one lemma does the arithmetic of all moves below.
+-- How many have a value, after one change. A count over all rows moves by one entry where one row changes: what it had is taken
+-- off, and what it has now is added. The places of store and end are such counts, so this one lemma does the arithmetic of all
+-- moves below.
 pub count_put : (i w k : ℕ) (f : ℕ → ℕ) (n : ℕ) → i < n →
     sum_first (λ t. one (put i w f t == k)) n +ℤ one (f i == k) ≡ sum_first (λ t. one (f t == k)) n +ℤ one (w == k)
 count_put i w k f zero within = absurd (omega arith)
@@ -74,11 +74,10 @@ same_or_not a b = go (a == b) refl
     go true e = inl (grind (arith, nat_tests))
     go false e = inr (λ is. absurd (let bad : (a == b) ≡ true = grind (arith, nat_tests) in let two : true ≡ false = sym bad ∙ e in cc))
 
--- a trip off a trip
--- Below are the moves of which a change of the matching is made: four that take a row off its column, and four that give a free
--- column to a free row, each for row and store, column and end. Between taking and giving, units of the store are in hand, and the
--- condition counts them: so each move by itself keeps it, and any chain of moves that ends with empty hands is a matching again
--- (`but_held`).
+-- A trip off a trip. Below are the moves of which a change of the matching is made: four that take a row off its column, and four
+-- that give a free column to a free row, each for row and store, column and end. Between taking and giving, units of the store are
+-- in hand, and the condition counts them: so each move by itself keeps it, and any chain of moves that ends with empty hands is a
+-- matching again (`but_held`).
 pub take_row : (n most : ℕ) (to from : ℕ → ℕ) (spare room hand free x v : ℕ) → IsHeldBut n most to from spare room hand →
     n < free → x < n → v < n → to x ≡ v →
     IsHeldBut n most (put x free to) (put v free from) spare room hand

@@ -85,9 +85,9 @@ behind-none n s (x ∷ y ∷ rest) none =
       ]
     ]
 
--- over the members of a list that rises, whatever the others have behind them
--- In a path that rises, what stands behind its nodes is the path without its first node and with the end put last. That it rises
--- makes a node's place in it the only one, so that looking for what is behind a node finds this.
+-- Over the members of a list that rises, whatever the others have behind them. In a path that rises, what stands behind its nodes
+-- is the path without its first node and with the end put last. That it rises makes a node's place in it the only one, so that
+-- looking for what is behind a node finds this.
 list_chain : (f : ℕ → ℤ) (n : ℕ) (others : ℕ → ℕ) (list : List ℕ) → Rises list →
     sum_each (λ s. f (unwrap_or (behind n s list) (others s))) list ≡ chain f n list
 list_chain f n others [] rise = refl

@@ -58,9 +58,8 @@ rest_rises net rising t (u ∷ us) y within below e =
     let parts = both_some (net.arc t u) (rest_cost net u us) y e in
     (rising.rises t u parts.first within below.0 parts.first_is, rest_rises net rising u us parts.second below.0 below.1 parts.second_is)
 
--- paths are not empty, rise, and have nodes of the network alone
--- What set partitioning asks of a problem holds of paths: arcs between nodes rise, so a list with a cost rises and has no node
--- twice.
+-- Paths are not empty, rise, and have nodes of the network alone. What set partitioning asks of a problem holds of paths: arcs
+-- between nodes rise, so a list with a cost rises and has no node twice.
 pub paths_listed : (net : Net) → IsRising net → HasListedColumns (paths net)
 paths_listed net rising class [] worth e = absurd (cc)
 paths_listed net rising class (t ∷ ts) worth e =
@@ -82,10 +81,10 @@ rest_gain net p feasible t (u ∷ us) y within below e =
     let rest = rest_gain net p feasible u us parts.second within' below.1 parts.second_is in
     omega (arith, ints, parts.sum)
 
--- the gains of a path's nodes are at most its cost and what a path pays
--- Along a path the potentials telescope: each arc's difference is at most its cost, and the sum of these differences is that of the
--- gains of its nodes, but for the store, where it begins, and the end. So with gains as prices no path costs less than its nodes
--- are priced at and what it pays for its place: that potentials are feasible is all that paid prices need.
+-- The gains of a path's nodes are at most its cost and what a path pays. Along a path the potentials telescope: each arc's
+-- difference is at most its cost, and the sum of these differences is that of the gains of its nodes, but for the store, where it
+-- begins, and the end. So with gains as prices no path costs less than its nodes are priced at and what it pays for its place: that
+-- potentials are feasible is all that paid prices need.
 pub path_gain : (net : Net) (p : Potentials) → AreFeasible net p → (list : List ℕ) (y : ℕ) → path_cost net list ≡ Some y →
     sum_each (gain p) list ≤ℤ (pos y +ℤ (p.tail net.nodes -ℤ p.head net.nodes))
 path_gain net p feasible [] y e = absurd (cc)

@@ -11,9 +11,8 @@ use Rattle.path_cover.proofs.Blocked.{IsClosed, either}
 use Rattle.path_cover.specs.Matchings.{IsHeld, IsTightArc, IsTightMatching}
 use Rattle.path_cover.specs.Trees.{Tree, Matching, Aim, IsTree}
 
--- the seen columns are held by the seen rows
--- A tree is closed in the sense of the counting argument of `Blocked`: each seen column is held, and by seen rows or rows that may
--- not be moved. This is all that the argument needs of a search.
+-- The seen columns are held by the seen rows. A tree is closed in the sense of the counting argument of `Blocked`: each seen column
+-- is held, and by seen rows or rows that may not be moved. This is all that the argument needs of a search.
 closed : (net : Net) (p : Potentials) (m : Matching) (a : Aim) (tree : Tree) → IsTree net p m a tree →
     IsClosed net.nodes m.to m.from m.spare m.room a.root a.fixed tree.rows tree.columns
 closed net p m a tree is = record {

@@ -154,8 +154,8 @@ record IsWorthless (p : Problem) (from spot : ℕ) (lists : List Column) : Type 
   pub none : HasWorth p list → ⊥
   pub before : HaveWorths p lists gap
 
--- The first list without a worth is found by induction over the lists, of which each one before has a worth. Counting on from a number is what lets the
--- place in the rest of the lists be the place in all of them.
+-- The first list without a worth is found by induction over the lists, of which each one before has a worth. Counting on from a
+-- number is what lets the place in the rest of the lists be the place in all of them.
 worthless : (p : Problem) (from spot : ℕ) (lists : List Column) → first_worthless p from lists ≡ Some spot → IsWorthless p from spot lists
 worthless p from spot [] e = absurd (cc)
 worthless p from spot (c ∷ cs) e =

@@ -138,7 +138,6 @@ put_at-puts p item columns rise worth (New class) allowed =
     let is = allowed.3 in
     record { holds = λ j. omega (arith, held-push j columns new); costs = omega (arith, ints) }
 
--- with a free item put in, a part of a plan stays one
 -- With a free item put in, a part of a plan stays one. Whether it goes into a column or alone into a new one, the columns hold what
 -- they held and this item once more, which none of them had; a column keeps its class, and a new one is of a class with a place
 -- left. That the new list has a worth is what made it a choice.

@@ -47,7 +47,6 @@ one_but-less item (suc n) h =
           rw test (omega (arith, ints))
     ]
 
--- a list of items below n, none of them twice and this one not at all, is shorter than n
 -- A counting lemma: a list of items below n, none twice and one of them not at all, is shorter than n. Each item is counted by how
 -- often it stands there, at most once, and one of the n items adds nothing.
 shorter : (item n : ℕ) (xs : List ℕ) → item < n → AllBelow n xs → ((j : ℕ) → times j xs ≤ 1) → times item xs ≡ 0 → length xs < n
@@ -90,10 +89,10 @@ times-length class (c ∷ cs) =
       | false ↦ omega arith
     ]
 
--- a part that lacks an item leaves room in each class with as many places as items
--- An item is stuck only where its classes are full. Where a class has as many places as there are items, a full one has as many
--- columns, none of them empty, so as many items as there are, none twice; but this item is not among them. So where each item has
--- such a class rounding leaves none: with it made days and roomy days are never refused for want of places.
+-- A part that lacks an item leaves room in each class with as many places as items. An item is stuck only where its classes are
+-- full. Where a class has as many places as there are items, a full one has as many columns, none of them empty, so as many items
+-- as there are, none twice; but this item is not among them. So where each item has such a class rounding leaves none: with it made
+-- days and roomy days are never refused for want of places.
 pub not_stuck : (p : Problem) (item : ℕ) (columns : List Column) → HasListedColumns p → HasRoomForEach p → IsStuck p item columns → ⊥
 not_stuck p item columns listed room stuck =
     let own : HasOwnRoom p item = room item stuck.there in

@@ -37,9 +37,9 @@ all_free-at columns (x ∷ xs) j e h =
           all_free-at columns xs j both.1 (omega arith)
     ]
 
--- a column whose items are free and whose class has a place goes on with a part
--- So rounding may take columns from the pool in any order: what it has is a part of a plan, and stays one as long as it takes only
--- what fits. No item stands twice, as a column's own list rises.
+-- A column whose items are free and whose class has a place goes on with a part. So rounding may take columns from the pool in any
+-- order: what it has is a part of a plan, and stays one as long as it takes only what fits. No item stands twice, as a column's own
+-- list rises.
 pub part-push : (p : Problem) (columns : List Column) (c : Column) → HasListedColumns p → IsColumn p c →
     (all_free columns c.items && has_place p columns c.class) ≡ true → IsPart p columns → IsPart p (columns ++ c ∷ [])
 part-push p columns c listed is test part =
@@ -141,10 +141,9 @@ no-class p item columns (suc n) e class worth h has =
     ]
 
 module _ (p : Problem) (start : List Column) where
-  -- the item with the choice that was found
-  -- If there is no choice, the item is stuck, for the choices are all there are: each column it could go into and each class with a
-  -- place. If there is one, the item stands once from then on, the smaller ones still do, and the greater ones are as they were at
-  -- the start.
+  -- The item with the choice that was found. If there is no choice, the item is stuck, for the choices are all there are: each
+  -- column it could go into and each class with a place. If there is one, the item stands once from then on, the smaller ones still
+  -- do, and the greater ones are as they were at the start.
   with_choice-filled : (item : ℕ) (columns : List Column) (o : Option Choice) → item < p.items → IfChosen (IsAllowed p item columns) o →
       (o ≡ None → choices p item columns ≡ []) → IsFilled p start item columns → times item (all_items columns) ≡ 0 →
       IsFilledOr p start (suc item) (with_choice item columns o)

@@ -27,10 +27,9 @@ after-cases g k =
       | false ↦ λ test. inr (grind (arith, nat_tests), refl)
     ] refl
 
--- the places before rise with those after
--- Where one column vanishes those behind it move up by one. The place before of a place after skips the vanished one: it rises, and
--- with the two lemmas below it is a bijection between the places after and the places before but for that one. So what stood in an
--- order stands in the same order, and places need no search.
+-- The places before rise with those after. Where one column vanishes those behind it move up by one. The place before of a place
+-- after skips the vanished one: it rises, and with the two lemmas below it is a bijection between the places after and the places
+-- before but for that one. So what stood in an order stands in the same order, and places need no search.
 pub before-less : (g m n : ℕ) → m < n → place_before g m < place_before g n
 before-less g m n less =
     elim (before-cases g m) [

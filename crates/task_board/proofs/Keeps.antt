@@ -19,9 +19,9 @@ module _ (size : Extent) where
   nobody : (v : Sheet) → IsDesk size v → v.share ≡ 0 → (f : Sheet → List (ℕ × ℤ)) → (f v ≡ []) → (p : ℕ × ℤ) → Contains (f v) p → ⊥
   nobody v d idle f e p c = let c' : Contains [] p = subst (λ (l : List (ℕ × ℤ)). Contains l p) e c in let l = c'.1 in omega arith
 
-  -- a desk with the whole share leaves no part to another
-  -- The shares of all desks add up to the whole, so a second desk with any part would take the sum above it. A desk without a part
-  -- has no entries: this turns each sum and each list over all desks into that of the one desk.
+  -- A desk with the whole share leaves no part to another. The shares of all desks add up to the whole, so a second desk with any
+  -- part would take the sum above it. A desk without a part has no entries: this turns each sum and each list over all desks into
+  -- that of the one desk.
   others_idle : (words : List ℕ) (views : List Sheet) (i : ℕ) (v : Sheet) → IsKept size words views →
       get_elem? views i ≡ some v → v.share ≡ whole
       → (j : ℕ) (w : Sheet) → j ≢ i → get_elem? views j ≡ some w → w.share ≡ 0
@@ -30,9 +30,9 @@ module _ (size : Extent) where
       let sum = s.shares in
       omega arith
 
-  -- and has drawn each number that was drawn
-  -- The state condition counts how often a number was drawn over all desks. The others have drawn nothing, so this desk's own count
-  -- is that sum: one for each number below the smaller of counter and tasks, and none for any other.
+  -- A desk with the whole share has drawn each number that was drawn. The state condition counts how often a number was drawn over
+  -- all desks. The others have drawn nothing, so this desk's own count is that sum: one for each number below the smaller of
+  -- counter and tasks, and none for any other.
   pub known_drawn : (words : List ℕ) (views : List Sheet) (i : ℕ) (v : Sheet) → IsKept size words views →
       get_elem? views i ≡ some v → v.share ≡ whole
       → (x : ℕ) → times x v.drawn ≡ once_below x (min (slice_index words 0) size.tasks)

@@ -120,7 +120,6 @@ module _ (best : Best) (prices : List Price) (groups tasks : ℕ) (v : Sheet) (f
       (λ (d : Contains v.lowered p). least.below p.1 (subst (λ (i : ℕ). Contains v.lowered (i, p.1)) class d))
       (All-contains (λ (q : ℕ × ℤ). (q.1 ≡ pos 0) ⊎ Contains v.lowered q) v.looks p all.looks c)
 
-  -- the least entry of a class is the least value of its best columns, where that is below 0
   -- The least entry of a class is the least value of its first leasts, where that is below 0. Every task was found, as the desk
   -- with the whole share drew each once; and by `found_low` no first least is below the least entry, for what its worker had looked
   -- at is 0 or an entry, and so no less. Which worker found it, and under which limit, does not matter.

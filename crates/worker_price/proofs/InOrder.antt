@@ -103,9 +103,9 @@ module _ (best : Best) (prices : List Price) (groups : ℕ) (least : List ℤ) w
       ∙ (ap (cons_option (within (limit_of (get_or least k (pos 0))) prices (best k i))) (class_tasks k (i + 1) n (omega arith))
       ∙ sym (kept_of_best prices (get_or least k (pos 0)) (best k i) (filter_map (best k) (range_with_len (i + 1) n)))))
 
-  -- the tasks of classes, from a class on
-  -- Tasks are numbered class by class, and group by group within a class. So going over slots by their numbers gives the columns in
-  -- the order of the definition, and the order in which workers found them is forgotten.
+  -- The tasks of classes, from a class on. Tasks are numbered class by class, and group by group within a class. So going over
+  -- slots by their numbers gives the columns in the order of the definition, and the order in which workers found them is
+  -- forgotten.
   pub all_tasks : (k n : ℕ) → filter_map (kept_at best prices groups least) (range_with_len (k * groups) (n * groups))
       ≡ flat_map (λ c. filter (is_kept prices (get_or least c (pos 0))) (filter_map (best c) (range_with_len 0 groups)))
       (range_with_len k n)

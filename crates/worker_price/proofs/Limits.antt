@@ -14,9 +14,9 @@ use Rattle.worker_price.specs.Priced.{least_value}
 use Rattle.worker_price.specs.Work.{half, limit_of}
 use Rattle.worker_price.specs.Gathered.{least_lowered}
 
--- twice a value is at most what was seen, so the value is at most half of it
--- Rounding half of what was seen down loses nothing: twice a whole number is at most what was seen exactly if the number is at most
--- that half. With it a limit can be one number, though what is kept is told by twice a value.
+-- Twice a value is at most what was seen, so the value is at most half of it. Rounding half of what was seen down loses nothing:
+-- twice a whole number is at most what was seen exactly if the number is at most that half. With it a limit can be one number,
+-- though what is kept is told by twice a value.
 half_above : (v seen : ℤ) → (v +ℤ v) ≤ℤ seen → v ≤ℤ half seen
 half_above (pos a) (pos n) h = omega (arith, ints)
 half_above (pos a) (negsuc n) h = absurd (omega (arith, ints))

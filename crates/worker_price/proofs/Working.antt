@@ -66,9 +66,8 @@ above_le : (xs : List ℕ) (n : ℕ) → All (λ x. x < n) xs → above xs ≤ n
 above_le [] n h = omega arith
 above_le (x ∷ xs) n h = let a = All-head (λ y. y < n) x xs h in let r = above_le xs n (All-tail (λ y. y < n) x xs h) in omega arith
 
--- a claim leaves less to be claimed
--- Why a worker ends: each number that a desk claims is above all that it has, and below the number of tasks, so less is left above
--- the greatest one. It needs nothing of the other workers.
+-- A claim leaves less to be claimed. Why a worker ends: each number that a desk claims is above all that it has, and below the
+-- number of tasks, so less is left above the greatest one. It needs nothing of the other workers.
 pub fewer_left : (tasks n : ℕ) (look : ℕ × ℤ) (low : List (ℕ × ℤ)) (mid here after : Sheet) → n < tasks → All (λ x. x < n) mid.drawn →
     here ≡ drew mid n → after ≡ priced here look low → tasks - above after.drawn < tasks - above mid.drawn
 fewer_left tasks n look low mid here after lt all claim is =
