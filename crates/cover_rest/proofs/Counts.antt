@@ -101,8 +101,8 @@ bodies-once heads n i below once =
     each (suc zero) h = refl
     each (suc (suc t)) h = absurd (omega arith)
 
--- Each item of the rest once: so is each item. How often an item is written is counted by the items of the rest: times that these
--- stand in the plan, once each, times how often they stand for it; and that is once in all.
+-- Each item of the rest once: so is each item. How often an item is written is a sum over the items of the rest: how often each
+-- stands in the plan, which is once, times how often it stands for the item; and that is once in all.
 pub once-written : (i : ℕ) (bs : List (List ℕ)) (cs : List Column) → AllBelow (length bs) (all_items cs) →
     ((x : ℕ) → x < length bs → times x (all_items cs) ≡ 1) → times i (joined bs) ≡ 1 → times i (all_items (written_plan bs cs)) ≡ 1
 once-written i bs cs below once one =

@@ -32,6 +32,8 @@ record IsFreeAt (bs : List (List ℕ)) (x i : ℕ) : Type 0 where
   pub within : x < length bs
   pub body : body_at bs x ≡ i ∷ []
 
+-- Where an item in no head stands among the free ones: at the place that is the number of free items before it. By induction over
+-- the items, counted on from k, so that the items before k are out of the way.
 free-at : (heads : List Begun) (n k d : ℕ) → d < n → has_begun heads (k + d) ≡ false →
     IsFreeAt (free_lists heads n k) (free_count heads k d) (k + d)
 free-at heads zero k d h free = absurd (omega arith)
@@ -119,6 +121,9 @@ module _ (heads : List Begun) (n : ℕ) where
   pub rest-free : (x : ℕ) (xs : List ℕ) → AllFree heads n (x ∷ xs) → AllFree heads n xs
   rest-free x xs free = λ i h. free i (omega (arith, h))
 
+  -- Putting places for items and writing out again gives the list: a free item's place stands for that item alone. It is the other
+  -- way round of `written`, for lists that touch no head, and so the core of the bijection between lists of the problem and lists
+  -- of the rest.
   pub places-written : (xs : List ℕ) → AllFree heads n xs → written bs (places heads xs) ≡ xs
   places-written [] free = refl
   places-written (x ∷ xs) free =
@@ -134,6 +139,8 @@ module _ (heads : List Begun) (n : ℕ) where
       true-both (nat_lt (place heads x) (length bs)) (all_below (length bs) (places heads xs))
       (is-below (place heads x) (length bs) is.within) (places-below xs (rest-free x xs free))
 
+  -- Places of free items rise as the items do, since they count the free items before: a list that rises is one of the rest that
+  -- rises.
   pub places-rise : (xs : List ℕ) → AllFree heads n xs → Rises xs → rises (places heads xs) ≡ true
   places-rise [] free up = refl
   places-rise (x ∷ []) free up = refl

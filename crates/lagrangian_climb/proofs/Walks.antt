@@ -45,8 +45,8 @@ asked-length (x ∷ xs) zero z = refl
 asked-length (x ∷ xs) (suc i) z = ap (λ (n : ℕ). suc n) (asked-length xs i z)
 
 -- What classes ask stays in range. What a class asks is minus the value of a column of value below 0, so it is above 0, and in the
--- range of values. It is 0 where no column was left without a place. So `choose` gives class prices that may be added to prices
--- without a test.
+-- range of values. It is 0 where no column was left without a place. So what `choose` gives may be added to the values of columns
+-- within 64 bits.
 pub priced-asked : (k m : ℕ) (caps counts : List ℕ) (keys : List Key) (prices : List ℤ) → All (IsGain k m) keys → AreAsked prices →
     AreAsked (priced_classes caps counts keys prices)
 priced-asked k m caps counts [] prices all are = are

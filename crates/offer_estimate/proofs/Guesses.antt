@@ -54,8 +54,8 @@ first-old es old new below is = record {
 
 -- One more guess: the new one where it is greater, else the old one. The invariant of the loop over guesses, and the theorem of
 -- this file: the best so far is the first of the greatest bound among those looked at. A guess that is truly greater comes with
--- nothing greater or equal before it; one that is only equal stays behind the first. So the answer is one guess alone and depends
--- on their order, which is that of the classes, and on no other.
+-- nothing greater or equal before it; one that is only equal stays behind the first. So the answer is one guess alone: of equal
+-- ones the first, in the order of the classes.
 pub first-better : (es : List Estimate) (old new best : Estimate) → (old.bound <ℤ new.bound → best ≡ new) →
     (new.bound ≤ℤ old.bound → best ≡ old) →
     IsFirstGreatest es old → IsFirstGreatest (es ++ new ∷ []) best

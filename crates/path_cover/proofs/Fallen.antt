@@ -213,8 +213,8 @@ times_mono (suc a) (suc b) k less = let rest = times_mono a b k (omega arith) in
 -- Lowered potentials are not far below the level. The main theorem of this file: after a lowering by the least offer all that a
 -- search keeps still holds. Feasible potentials and the tight matching are those of `Trees`. New is that no number falls far,
 -- however often a search lowers. The row that made the least offer now has a tight arc to a column that is not seen, and so is no
--- more than one arc's cost below the level of the start; all seen rows hang together by tight arcs, at most two for each seen
--- column (`deep_rows`); so none is more than one search's fall below the level.
+-- more than one arc's cost below the level of the start; all seen rows hang together by tight arcs, none more steps away from the
+-- root than columns are seen (`deep_rows`); so none is more than one search's fall below the level.
 pub lowered_treed : (net : Net) → IsRising net → IsCheap net →
     (old new : Falls) (placing : Placing) (grown growth : Growth) (target : Target) (n v by : ℕ) (m : Matching) →
     IsTreed net old placing grown target m → n ≡ net.nodes → n < target.limit → target.fixed ≡ 0 → 0 < by →

@@ -44,8 +44,8 @@ classes_all p prices a (suc n) best low =
     (All-filter (is_kept prices (least_value prices (first_leasts p prices a))) (IsColumn p) (first_leasts p prices a) firsts)
     (classes_all p prices (a + 1) n best (omega arith))
 
--- What a pool is fed with are columns of the problem: each is the first least of its class and group. So plans that are made of a
--- pool need no further look at the problem.
+-- What a pool is fed with are columns of the problem: each is the first least of its class and group. So a pool has columns of the
+-- problem alone, which is all that rounding asks of it.
 pub priced_are_columns : (p : Problem) (prices : List Price) → BestIsFirstLeast p → AreColumns p (priced_columns p prices)
 priced_are_columns p prices best = from_all p (priced_columns p prices) (classes_all p prices 0 (length p.caps) best (omega arith))
 

@@ -103,8 +103,8 @@ first_round_done p start new starts moves kept ready =
     }
 
 -- The invariant of price rounds, one round on: prices, pool and kept offer are those that the definition has after so many rounds.
--- Each round is a function of prices and pool alone (`round_from`), since pricing is one of the prices: no round remembers who
--- found which column.
+-- Each round is a function of prices and pool alone (`round_from`), since what pricing gives is a function of the prices: no round
+-- remembers who found which column.
 pub next_round_done : (p : Problem) (n : ℕ) (old new : Progress) → HasRounds p n old → Moves p (n + 1) old.prices.items old.pool new →
     new.kept ≡ kept_after old.kept (offer_at p old.prices.items) → IsReady p new → HasRounds p (n + 1) new
 next_round_done p n old new has moves kept ready =

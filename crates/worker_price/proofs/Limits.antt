@@ -44,9 +44,9 @@ limit_negative v seen h = omega (arith, ints, clamps)
 limit_half : (v seen : ℤ) → v ≤ℤ limit_of seen → v ≤ℤ half seen
 limit_half v seen h = omega (arith, ints, clamps)
 
--- A limit is lower where what was seen is lower. What a worker sees while others still work is never below the least value at the
--- end, so no limit is below the limit of that: it is the one property of limits on which the answer rests, for any order of the
--- workers' steps.
+-- A lower value seen gives no higher limit. What a worker sees while others still work is never below the least value at the end,
+-- so no limit is below the limit of that: it is the one property of limits on which the answer rests, for any order of the workers'
+-- steps.
 pub limit_rises : (a b : ℤ) → a ≤ℤ b → limit_of a ≤ℤ limit_of b
 limit_rises a b h = let r = half_rises a b h in omega (arith, ints, clamps)
 
@@ -332,10 +332,10 @@ least_lowered-other xs k j x apart =
     ∙ (ap (int_min (least_lowered xs k)) one
     ∙ (min_turn (least_lowered xs k) (pos 0) ∙ zero_first (least_lowered xs k) (least_lowered_is xs k).most))
 
--- A value is not below the least, if it only is not where it is found under the limit of a value seen that is no less than the
--- least. For suppose it is below: then it is below 0, and twice it is below the value seen, so it is within that limit, was found,
--- and is not below the least. With this a column that a limit hid cannot have been the least one: the main step of the theorem that
--- limits hide nothing that counts.
+-- A value that is not below the least wherever it is within the limit of a value seen, which is itself not below the least, is
+-- never below it. For suppose it is: then it is below 0, and twice it is below the value seen, so it is within that limit, and not
+-- below the least. With this a column that a limit hid cannot have been the least one: the main step of the theorem that limits
+-- hide nothing that counts.
 pub found_low : (l v seen : ℤ) → l ≤ℤ pos 0 → l ≤ℤ seen → (v ≤ℤ limit_of seen → l ≤ℤ v) → l ≤ℤ v
 found_low l v seen most above here =
     by_lt_z v l (λ (low : v <ℤ l). here (limit_above v seen (omega (arith, ints)) (omega (arith, ints)))) (λ h. h)
