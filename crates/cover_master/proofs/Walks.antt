@@ -282,7 +282,8 @@ module _ (prices : List Price) (pool : List Column) (caps : List ℕ) (sorted : 
         | inr past ↦ let none : get_or counts class 0 ≡ 0 = get_or-past counts class past in omega arith
       ]
 
-  -- a chosen column has an item at most once
+  -- A chosen column has an item at most once, so no count is above the number of columns walked through, and the pool's size keeps
+  -- counts within 32 bits.
   pub few-more : (items item t old new : ℕ) (b : Bool) → t < length sorted → AreFit items (length caps) pool → old ≤ t →
       new ≡ old + cond b (times item (column_at pool (get_or sorted t no_key).place).items) 0 → new ≤ t + 1
   few-more items item t old new false h fit most is = omega arith

@@ -38,7 +38,8 @@ stuck_first net rising falls placing target stuck after_root lists cover slack a
     (λ v d v_in unseen e. (is.halted v d v_in unseen e).1) lists cover slack
     (λ s below. agree s below ∙ is.seat.kept.to s (omega (arith, below, root_in)))
 
--- where rows up to one keep their columns, it stays so
+-- Where rows up to one keep their columns, it stays so that no least cover comes earlier there: the statement only speaks of the
+-- columns of rows before this one, and of its own.
 pub earliest_kept : (net : Net) (falls : Falls) (old new : Placing) (t : ℕ) →
     ((s : ℕ) → s ≤ t → get_or new.to.items s 0 ≡ get_or old.to.items s 0) → IsEarliest net falls old t → IsEarliest net falls new t
 earliest_kept net falls old new t same is lists cover slack agree =

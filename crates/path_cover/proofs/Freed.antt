@@ -48,7 +48,7 @@ taken_tight net p free t v m outside t_in tight = record {
     spare_before false true e some = some
     spare_before false false e some = absurd (cc)
 
--- the row's place is taken off
+-- The row's place is taken off: what is left is a tight matching that lacks this one row, and a search from it may begin.
 pub freed : (net : Net) (falls : Falls) (old mid : Placing) (free t v : ℕ) (m : Matching) → IsSeat net falls old m → net.nodes < free →
     t < net.nodes → v ≡ get_or old.to.items t 0 → v ≤ net.nodes →
     IsTaken net.nodes free t v old mid → IsSeat net falls mid (taken net.nodes free t v m)
@@ -100,7 +100,8 @@ freed_other net old mid free t v s t_in apart out =
     ap (λ (l : List ℕ). get_or l s 0) out.0
     ∙ (ap (λ (b : Bool). get_or (cond b (set old.to.items t free) old.to.items) s 0) row ∙ get_or-set_other old.to.items t s free 0 apart)
 
--- and the row gets it back
+-- And the row gets it back where the search was stuck: the same matching as before, since a stuck search has moved no row. So
+-- trying for an earlier column costs nothing if there is none.
 pub restored : (net : Net) → IsRising net → (falls : Falls) (old mid new : Placing) (free t v : ℕ) (m : Matching) → IsSeat net falls old m →
     net.nodes < free → t < net.nodes → v ≡ get_or old.to.items t 0 → v ≤ net.nodes →
     IsTaken net.nodes free t v old mid → IsPlaced net.nodes t v mid new → IsSeated net falls new

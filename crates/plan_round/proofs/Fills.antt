@@ -24,7 +24,8 @@ module _ (p : Problem) (start : List Column) where
       ap (λ k. round_items p k start) (add-one n) ∙ ap (round_item p n) e ∙
       ap (λ b. cond b (with_choice n columns (first_cheapest None (choices p n columns))) (whole columns)) is
 
-  -- an item that is left stays left
+  -- An item that is left stays left: the definition goes on over the items, and changes nothing any more. So the code may end at
+  -- the first one.
   pub left-stays : (n m item : ℕ) (columns : List Column) → round_items p n start ≡ left item columns → n ≤ m →
       round_items p m start ≡ left item columns
   left-stays n zero item columns e h = let same : 0 ≡ n = omega arith in ap (λ k. round_items p k start) same ∙ e

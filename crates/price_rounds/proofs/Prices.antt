@@ -45,6 +45,8 @@ greatest_low (x ∷ xs) = omega (arith, ints, clamps, greatest_low xs)
 pub greatest_begins : (prices : List Price) → int_max (pos 0) (greatest_of prices) ≡ greatest_of prices
 greatest_begins prices = omega (arith, ints, clamps, greatest_low prices)
 
+-- The loop goes forward and the definition from the back: the greatest so far, joined with that of the prices left, is the greatest
+-- of all. One step moves a price from the second to the first.
 pub greatest_goes_on : (g x m rest all from : ℤ) → m ≡ int_max x g → from ≡ int_max x rest → int_max g from ≡ all → int_max m rest ≡ all
 greatest_goes_on g x m rest all from a b e = omega (arith, ints, clamps)
 

@@ -63,7 +63,9 @@ is_lt-Less Less e = refl
 is_lt-Less Equal e = cc
 is_lt-Less Greater e = cc
 
--- the least so far of some candidates, and one more of them
+-- The least so far of some candidates, and one more of them: the new one where it comes before, else the old one; as the order is
+-- total, what was not before the old least is not before a lesser one either. By it any split of the candidates into ranges, looked
+-- at one after another, gives their least.
 least-push : (xs : List Candidate) (best : Option Candidate) (c : Candidate) → IsLeast candidate_cmp xs best →
     IsLeast candidate_cmp (xs ++ c ∷ []) (Some (lesser best c))
 least-push xs None c h =

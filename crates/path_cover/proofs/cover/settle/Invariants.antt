@@ -3,6 +3,8 @@ use Rattle.path_cover.specs.Firsts.{AllPlaced}
 use Rattle.path_cover.specs.Searching.{IsSeated, IsSized}
 use Rattle.path_cover.proofs.cover.settle.Given as goal
 
+-- The row takes ever earlier columns over tight arcs, while rows before it keep theirs and the matching stays full and tight; that
+-- ends, since its column is a number that falls.
 abbrev pub invariant-loop-t : goal.invariant-loop-t
 invariant-loop-t g l = record {
   seated : IsSeated (g.A.Arcs.net l.arcs) l.falls l.placing;
