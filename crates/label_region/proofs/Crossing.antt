@@ -35,6 +35,9 @@ module _ (R : RattleType) where
   places-Common y null_ptr ps κ = tt
   places-Common y (block_ptr b o) ps κ = (tt, row-Common y b o ps κ)
 
+  -- The owner of the places may go to another thread where its labels may: apart from its fields, which are no more than a mark, it
+  -- owns the row, and what a row owns is tied to no thread as no label in it is (`places-Keyless`, place by place). For a shared
+  -- reference the same is shown of what is lent (`cells_sync`): a label that threads may share is lent alike in each of them.
   pub cells_send : IsSend R → IsSend (cells-type.the_row R)
   cells_send s =
       let C = cells-type.the_type R in let all : AllSend (fields C) = (search sendable, tt) in
@@ -47,6 +50,9 @@ module _ (R : RattleType) where
       record { shared = λ d b o κ. ((struct_sync (shape C) (search sendable, tt)).shared (to C d) b o κ, places-Common y d.at d.slots κ) }
 
   module _ (A : RattleType) (g : Ghosts A.Denot) where
+    -- The right to free may go to another thread where the allocator's memory may be freed from any: what a deed owns is the
+    -- allocator's token for the row, of which `FreesAnywhere` says that it is tied to no thread. No label is owned, so nothing is
+    -- asked of labels. A shared reference to a deed lends nothing and may be anywhere (`deed_sync`).
     pub deed_send : FreesAnywhere A.Denot g → IsSend (deed-type.the_row R A g)
     deed_send f =
         let D = deed-type.the_type R A g in let all : AllSend (fields D) = (search sendable, tt) in

@@ -36,13 +36,18 @@ module _ {X : Type 0} where
   pub labels_are : (n : ℕ) (ps : List (Option X)) (xs : List X) → take n ps ≡ map Some xs → labels_of n ps ≡ xs
   labels_are n ps xs e = ap values e ∙ values-map xs
 
+  -- How a row of places is read as a list of labels: where the first n places are found to hold the labels `xs`, they are filled and
+  -- `xs` is the list that contracts see. Each of the steps below (a label changed, put behind, copied) shows first what the first n
+  -- places hold after it, and gets both the invariant of `Block` and its view from that one fact, by this lemma and `labels_are`.
   pub filled_by : (n : ℕ) (ps : List (Option X)) (xs : List X) → n ≤ length ps → take n ps ≡ map Some xs → IsFilledTo n ps
   filled_by n ps xs within e = record { within = within; filled = e ∙ ap (λ (l : List X). map Some l) (sym (labels_are n ps xs e)) }
 
   pub length-labels_of : (n : ℕ) (ps : List (Option X)) → IsFilledTo n ps → length (labels_of n ps) ≡ n
   length-labels_of n ps h = sym (length-map (labels_of n ps) Some) ∙ sym (ap length h.filled) ∙ length-take-le n ps h.within
 
-  -- what a place holds is the label at its index
+  -- What a place holds is the label at its index: the first n places are the labels, each in a `Some`, so looking up a place below n
+  -- and looking up the list give the same. With `place_filled`, that such a place is not empty, it is why `Block.get` may read the
+  -- place.
   pub place_is : (n : ℕ) (ps : List (Option X)) (i : ℕ) → IsFilledTo n ps → i < n → get_or ps i None ≡ slice_get (labels_of n ps) i
   place_is n ps i h lt = sym (get_or-take n ps i None lt) ∙ ap (λ (l : List (Option X)). get_or l i None) h.filled
       ∙ get_or-map (labels_of n ps) i
@@ -81,7 +86,9 @@ module _ {X : Type 0} where
       labels_of (n + 1) (set ps n (Some x)) ≡ labels_of n ps ++ x ∷ []
   labels_of-push n ps x h lt = labels_are (n + 1) (set ps n (Some x)) (labels_of n ps ++ x ∷ []) (push_first n ps x h lt)
 
-  -- one label more is copied
+  -- The step of the loop that copies labels to wider memory: where the first i places are the same on both sides and the next one
+  -- holds a label, they are the same up to i + 1 after it was written. Only the places that were copied are spoken of, so it does
+  -- not matter what the wider memory held. With `copied_filled` and `labels_of-copied` the block holds the same labels after `grow`.
   pub copied_more : (i : ℕ) (from to : List (Option X)) (x : X) → take i to ≡ take i from → i < length from → i < length to →
       get_or from i None ≡ Some x
       → take (i + 1) (set to i (Some x)) ≡ take (i + 1) from

@@ -5,7 +5,9 @@ use Rattle.label_region.proofs.Counts.{back_fits, back_has_room, back_push, back
 use Rattle.label_region.proofs.Labels.{live_parts}
 
 module _ {X : Type 0} where
-  -- a live number joins those given back, for which there is room
+  -- The numbers that were given back are all different and all used before; a live number is used and not among them. So they are
+  -- fewer than the numbers used (`back_has_room`), for each of which the list has memory, and one more of them fits without asking
+  -- for memory. `give_back` cannot fail for this reason.
   pub back_room_left : (s : Shelf X) (room back_room id : ℕ) → IsHeld s room back_room → IsLive s id → length s.back < back_room
   back_room_left s room back_room id held live =
       let parts = live_parts s id live in let left = back_has_room (length s.cells) id s.back held.back parts.0 parts.1 in
@@ -16,6 +18,10 @@ module _ {X : Type 0} where
       let parts = live_parts s id live in let left = back_has_room (length s.cells) id s.back held.back parts.0 parts.1 in
       let few = held.few in omega arith
 
+  -- Giving a live number back keeps what the region's memory is held to. The list of numbers back gets one longer and one label more
+  -- is spare, so both sides of each bound on the spare grow by one; `AreBack` stays since the number was live, hence used before and
+  -- not yet back. The lemmas after it say the same of each other step of a region: clearing, using a number again or first, and more
+  -- memory.
   pub held_given_back : (s : Shelf X) (room back_room id : ℕ) → IsHeld s room back_room → IsLive s id →
       IsHeld (shelf s.cells (s.back ++ id ∷ []) (s.spare + 1)) room back_room
   held_given_back s room back_room id held live =

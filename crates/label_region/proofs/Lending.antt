@@ -41,6 +41,10 @@ module _ {M : Type 1} {𝓤 : Ura M} (𝓛 : Logic 𝓤) (l : Lft) (R : RattleTy
       Lends-both 𝓛 (place_own R b o p) (row_own R b next ps) (place_lent R b o p) (row_lent R b next ps) l
       (Lends-place b o p) (Lends-row b next ps)
 
+  -- What the owner of a row has, all its places, can be lent for as long as labels of its kind may live: under a shared reference
+  -- each place that holds a label lends this label, and an empty place lends nothing. The proof goes over the row from its first
+  -- byte, place by place; the bound on the row's bytes is no memory and is lent as a fact. With the laws above (what is lent can be
+  -- copied, and used for a shorter time) it makes a shared reference to `Cells` one to its labels, on which `get` rests.
   pub Lends-places : (at : Ptr) (ps : List (Option R.Denot)) → Lends 𝓛 (places_own R at ps) (places_lent R at ps) l
   Lends-places null_ptr ps = Lends-false 𝓛 (said ffalse) l
   Lends-places (block_ptr b o) ps =

@@ -104,6 +104,10 @@ module _ (E : El) {M : Type 1} {𝓤 : Ura M} (𝓛 : Logic 𝓤) (b : ℕ) wher
   Rest o (p ∷ ps) zero = Row (o + w) ps
   Rest o (p ∷ ps) (suc i) = fsep (place_own (R E) b o p) (Rest (o + w) ps i)
 
+  -- From a row one place is taken out and the rest of the row is kept beside it, so that a walk over the machine's steps has exactly
+  -- the bytes that it reads or writes. The place's address is given as its index times the width of a label and the row's first
+  -- byte, as the machine reckons it; the proof goes down the row, and each place passed adds one width. `put_in` is the way back,
+  -- with whatever the place holds then.
   pub take_out : (ps : List (Place E)) (i o at : ℕ) → i < length ps → at ≡ i * w + o
       → ent 𝓤 (sem 𝓛 (Row o ps)) (sep 𝓤 (sem 𝓛 (place_own (R E) b at (get_or ps i None))) (sem 𝓛 (Rest o ps i)))
   take_out [] i o at lt e = absurd (omega arith)
@@ -129,6 +133,8 @@ module _ (E : El) {M : Type 1} {𝓤 : Ura M} (𝓛 : Logic 𝓤) (b : ℕ) wher
       use2 𝓛 (‵ (Row (o + w) (set ps i p))) (put_in ps i (o + w) at p (omega arith) (omega (arith, suc-mul i w))) $
       move ! (1 ∷ 0 ∷ []) $ fjoin ! $ done !
 
+  -- A place that holds a label is room for one: labels are copied and never dropped, so what stood there may be forgotten and its
+  -- bytes are raw memory again. Therefore a write need not ask what the place held, and `deallocate` need not go through the places.
   pub emptied : (p : Place E) (o : ℕ) → ent 𝓤 (sem 𝓛 (place_own (R E) b o p)) (sem 𝓛 (place_own (R E) b o None))
   emptied None o = id⊢ 𝓤 (sem 𝓛 (place_own (R E) b o None))
   emptied (Some x) o =
@@ -138,6 +144,9 @@ module _ (E : El) {M : Type 1} {𝓤 : Ura M} (𝓛 : Logic 𝓤) (b : ℕ) wher
       pick ! (λ v. learn ! (λ good. split ! $ use1 𝓛 (‵ (froom (elτ E) b o)) (𝓛.laws.at_room (elτ E) b o v) $ as_raw ! (elτ E) b o $
       keep ! (0 ∷ []) $ done !))
 
+  -- Memory for n labels is a row of n empty places: the room of an array is that of its first element and of the others, and an
+  -- empty place is such room. The induction is over n with any first byte. `row_room` is the way back for a row of any places, once
+  -- each is emptied; by the two memory from the allocator becomes a row in `allocate`, and the row becomes memory in `deallocate`.
   pub empty_row : (n o : ℕ) → ent 𝓤 (H.room (ty_array (elτ E) n) b o) (sem 𝓛 (Row o (replicate n None)))
   empty_row zero o = qed 𝓛 (‵ (froom (ty_array (elτ E) 0) b o) ∷ []) ∵ keep ! [] $ done !
   empty_row (suc n) o =
@@ -154,6 +163,8 @@ module _ (E : El) {M : Type 1} {𝓤 : Ura M} (𝓛 : Logic 𝓤) (b : ℕ) wher
       use1 𝓛 (‵ (froom (ty_array (elτ E) (length ps)) b (o + w))) (row_room ps (o + w)) $ move ! (1 ∷ 0 ∷ []) $
       by ! (𝓛.laws.room_cons (elτ E) (length ps) b o)
 
+  -- Of a row that is lent each place is lent: what is lent may be dropped, so the other places are left out of account, and nothing
+  -- has to be put back, unlike in `take_out`. `get` hands out the reference to a label by it.
   pub seen : (κ : Lft) (ps : List (Place E)) (i o at : ℕ) → i < length ps → at ≡ i * w + o
       → ent 𝓤 (sem 𝓛 (row_lent (R E) b o ps κ)) (sem 𝓛 (place_lent (R E) b at (get_or ps i None) κ))
   seen κ [] i o at lt e = absurd (omega arith)

@@ -131,7 +131,10 @@ abbrev pub AreRanked : {L : Type 0} → List (Node L) → Type 0
 AreRanked [] = Unit {0}
 AreRanked {L} (n ∷ ns) = ((m : Node L) → In m ns → n.before ≤ m.before) × AreRanked ns
 
--- after all insertions each node has a better one
+-- After all insertions each candidate has one that is better: at least as good, and of a smaller value or a rank that is not later.
+-- The proof is an induction over the new nodes with any nodes that are there before, none of which is later than a new one. A node
+-- that is not put in has one before it that is at least as good, hence better; a node that is taken out gives way to one of a
+-- smaller value; and "better" is transitive (`Better-trans`), so what replaced a node may be replaced in turn.
 pub inserted-covers : {L : Type 0} (w : Labelling L) (good : L → L → Bool) (value_at : L → ℤ) (close : L → Option ℤ) →
     IsKept w (GoodAs good) → IsValued w (GoodAs good) value_at close → (new old : List (Node L)) → AreRanked new →
     ((m n : Node L) → In m old → In n new → m.before ≤ n.before) →

@@ -48,7 +48,10 @@ take-between (x ∷ xs) (suc from) (suc end) h =
 abbrev pub AreEnded : {L : Type 0} → Labelling L → (L → Bool) → ℕ → List (Node L) → Type 0
 AreEnded w test item nodes = AllSound (λ a. passed test (w.extend a item) ≡ None) nodes
 
--- nodes of which nothing goes on add nothing
+-- Nodes none of which has an extension that passes the test may be passed over: the level after them is the level before them. The
+-- level so far is a fold over the candidates of the nodes up to a place; those of the nodes between are none, so the candidates are
+-- the same list. That passing over changes the time alone follows from it: the contract of the search speaks of the fold over all
+-- nodes.
 pub level-skipped : {L : Type 0} (w : Labelling L) (test : L → Bool) (good : L → L → Bool) (value_at : L → ℤ)
     (nodes : List (Node L)) (item from end : ℕ) → from ≤ end → AreEnded w test item (take (end - from) (drop from nodes)) →
     level_so_far (limited w test) good value_at nodes item from ≡ level_so_far (limited w test) good value_at nodes item end
@@ -71,7 +74,10 @@ one-skipped w test good value_at nodes item place none =
     let P : ℕ → Type 0 = λ k. AreEnded w test item (take k (drop place nodes)) in
     level-skipped w test good value_at nodes item place (place + 1) (omega arith) (subst P one none)
 
--- nothing goes on from a level that ends with an item that nothing follows
+-- The reasons for which a level may be passed over follow: this one, where the labelling says that the item never follows the
+-- level's item, and the next two, where it says so of labels above some value and the level's least is above it. What is known of
+-- a level's labels (sound, their last item, at least the level's least) makes each reason one of every label, as `level-skipped`
+-- asks.
 pub ended-follows : {L : Type 0} (w : Labelling L) (test : L → Bool) (value_at : L → ℤ) (sound : L → Type 0) (last : L → ℕ) (item : ℕ)
     (l : Level) (ns : List (Node L)) →
     AllSound (IsOfLevel sound last value_at l) ns → NoneFollows w sound last test l.item item → AreEnded w test item ns
@@ -121,7 +127,10 @@ pub AllSound-both : {L : Type 0} (p q : L → Type 0) (ns : List (Node L)) → A
 AllSound-both p q [] h k = tt
 AllSound-both p q (n ∷ ns) h k = ((h.0, k.0), AllSound-both p q ns h.1 k.1)
 
--- an item that nothing reaches has the start alone
+-- Where no node at all goes on with an item, its level is made of the start alone, and the nodes need not be gone through: all
+-- extensions are none, and the fold over the candidates is the one over the start. With the two lemmas after it, which find this
+-- from the labelling's word and from a value that no label of the nodes is below, it gives `made` in the contract of `make_item`
+-- where the item is passed over as a whole.
 pub level-unreached : {L : Type 0} (w : Labelling L) (test : L → Bool) (good : L → L → Bool) (value_at : L → ℤ) (nodes : List (Node L))
     (item : ℕ) → AreEnded w test item nodes →
     fold (insert_node good value_at) [] (node_of item 0 ((limited w test).start item)) ≡ level_of (limited w test) good value_at nodes item
@@ -164,6 +173,10 @@ pub record IsNextLevel {L : Type 0} (sound : L → Type 0) (last : L → ℕ) (v
   pub level : AllSound (IsOfLevel sound last value_at l) (take (l.end - from) (drop from nodes))
   pub rest : AreLevels sound last value_at l.end (drop l.end nodes) (drop (i + 1) levels)
 
+-- One step of the walk over the levels. The nodes are one list, in which each level has only its end; the invariant of the walk is
+-- that the nodes from a place on are those of the levels from an index on, one after another. The lemma takes the first of them off:
+-- its nodes stand from the place to its end, and from that end on are those of the levels after it. When no levels are left no nodes
+-- are (`levels-end`), so the walk has gone through all.
 pub levels-step : {L : Type 0} (sound : L → Type 0) (last : L → ℕ) (value_at : L → ℤ) (nodes : List (Node L)) (levels : List Level)
     (from i : ℕ) (l : Level) →
     i < length levels → l ≡ get_or levels i l → from ≤ length nodes →
@@ -188,7 +201,9 @@ levels-end {L = L} sound last value_at nodes levels from i past all =
     let P : List Level → Type 0 = λ ls. AreLevels sound last value_at from (drop from nodes) ls in
     subst P (drop_all i levels past) all
 
--- one level more
+-- A level that is put behind the others, with its nodes behind theirs, leaves the nodes level by level. The proof goes over the
+-- levels before it from any first place; each takes its nodes from the front, where nothing was changed, and at the end exactly the
+-- new nodes are left, as the new level's end says. `keep_level` keeps its invariant of the levels by it.
 pub levels-more : {L : Type 0} (sound : L → Type 0) (last : L → ℕ) (value_at : L → ℤ) (place : ℕ) (nodes new : List (Node L))
     (levels : List Level) (l : Level) →
     AreLevels sound last value_at place nodes levels → l.end ≡ place + length nodes + length new →
@@ -228,6 +243,9 @@ ends-next {L = L} w sound count last s st item place (n ∷ ns) h =
     (λ a e. (s.steps n.label a item h.0 e, (st.steps n.label a item e).2)))
     (ends-next w sound count last s st item (place + 1) ns h.1)
 
+-- All labels of a level that was made are sound and name its item as their last one. It holds of each candidate, by the laws of
+-- starts and of steps, and the insertions only drop candidates. This is what makes a whole level one that ends with an item, so that
+-- the labelling can be asked once for the level and not for each label.
 pub made-ends : {L : Type 0} (w : Labelling L) (good : L → L → Bool) (value_at : L → ℤ) (sound : L → Type 0) (count : ℕ) (last : L → ℕ) →
     IsSafe w sound → IsStepwise w count last →
     (nodes : List (Node L)) (item : ℕ) → AllSound sound nodes → AllSound (EndsAt sound last item) (level_of w good value_at nodes item)

@@ -92,6 +92,9 @@ none-after : {L : Type 0} (w : Labelling L) (xs : List ℕ) (b : L) → label_af
 none-after w [] b e = cc
 none-after w (x ∷ xs) b e = cc
 
+-- A list has a label in a group exactly where it has one and its first item is of the group, and then it is the same label: the test
+-- stands at the start alone, and all further steps are those of the labelling. This is the one half, and `onto-group` the other;
+-- together they carry the tie between closings and worths over to a group.
 pub from-group : {L : Type 0} (w : Labelling L) (group : ℕ) (xs : List ℕ) (b : L) → label_of (of_group w group) xs ≡ Some b →
     (label_of w xs ≡ Some b) × InGroup group xs
 from-group w group [] b e = absurd (cc)
@@ -153,7 +156,9 @@ of_range-tied {L = L} w close prices group worth_of tied = record {
 below-end : (x count end : ℕ) → x < count → count ≤ end → is_between 0 end x ≡ true
 below-end x count end below few = grind (arith, nat_tests)
 
--- where a range has all items, all lists are left
+-- Where a range begins with item 0 and has all items, no list is left out by its first item, so each list has the label that it has
+-- without a range. The test is at the first item alone: where no list starts with it both labels are none, and where one does the
+-- item is below the count. So a search over all groups is a search by range, too.
 pub of_range-all : {L : Type 0} (w : Labelling L) (count end : ℕ) (last : L → ℕ) → IsStepwise w count last → count ≤ end → (xs : List ℕ) →
     label_of (of_range w 0 end) xs ≡ label_of w xs
 of_range-all w count end last steps few [] = refl
@@ -176,7 +181,10 @@ of_range-tied-all w count end last close prices worth_of steps few tied = record
   from = λ list a v e c. tied.from list a v (sym (of_range-all w count end last steps few list) ∙ e) c;
 }
 
--- the first least of the lists that close is a first least column
+-- What a search finds as a list is what the problem asks for as a column: the list that closes first is the first least column of
+-- its class and group, and the value with which it closes is the column's. A tie says that the lists that close are those that are
+-- columns, and that they close with their values; so "least" and "first" of the one reading are those of the other, each by `onto`
+-- of the tie.
 pub first_least : {L : Type 0} (w : Labelling L) (close : L → Option ℤ) (p : Problem) (prices : List Price) (class group : ℕ) →
     IsTiedInGroup w close prices group (p.worth class) → class < length p.caps →
     (column : Column) (least : ℤ) → column.class ≡ class → p.worth class column.items ≡ Some column.worth →
@@ -226,7 +234,10 @@ valued-by w good test value_at close from v = record {
   closes = λ a b z h. v.closes a b z (from a b h);
 }
 
--- where the kept labels are a cover and none closes below minus the class price, the prices of each list are paid
+-- Labels that are a cover prove that prices are paid, without a search. A column's list has a label that closes with its value; some
+-- label of the cover is at least as good and so closes with no more; and none of the cover closes below minus the class price. So
+-- the column's value is at least minus the class price, which is to say that its prices are paid. The check of a certificate's marks
+-- rests on it.
 pub cover-pays : {L : Type 0} (w : Labelling L) (good : L → L → Type 0) (value_at : L → ℤ) (close : L → Option ℤ) (kept : L → Type 0)
     (prices : List Price) (worth_of : List ℕ → Option ℕ) (class_price : ℤ) →
     IsKept w good → IsValued w good value_at close → IsTied w close prices worth_of → IsCover w good kept →
@@ -244,7 +255,10 @@ pub labels-pay : {L : Type 0} (w : Labelling L) (good : L → L → Type 0) (val
 labels-pay w good value_at close k v kept prices worth_of class_price =
     cover-pays w good value_at close (Contains kept) prices worth_of class_price k v
 
--- the first least list as a column is the best column within a limit
+-- The step from the search to the contract of pricing: where a list that closes first is found within the limit, its column is the
+-- best one of the class and group within the limit. Its worth is that of the tie, it is the first least column by `first_least`, and
+-- within a limit the first least is the answer (`WithinIsLimited`). With `none-best`, where all lists close above the limit, no case
+-- is left.
 pub found-best : {L : Type 0} (w : Labelling L) (close : L → Option ℤ) (p : Problem) (prices : List Price) (class group : ℕ) (limit : ℤ) →
     WithinIsLimited p → class < length p.caps → IsTiedInGroup w close prices group (p.worth class) → (list : List ℕ) (least : ℤ) →
     IsLeastClosed w close list least → least ≤ℤ limit → worth_column p class list ≡ within limit prices (best_of p prices class group)

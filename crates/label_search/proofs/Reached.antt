@@ -40,6 +40,10 @@ place-In [] i h = absurd (omega arith)
 place-In (x ∷ hs) zero h = (x, inl refl, refl)
 place-In (x ∷ hs) (suc i) h = let (g, has, is) = place-In hs i (omega arith) in (g, inr has, is)
 
+-- Of two places of kept lists that stand in order, the earlier one holds a list that is not after the other's. The search compares
+-- places, which are numbers, instead of lists; this lemma, and `before-sorted` behind it, turn the one comparison into the other.
+-- The proof walks both places down together until the earlier one is 0, where the head of an ordered list comes before every other
+-- one.
 pub place-sorted : {L : Type 0} (hs : List (Held L)) (i j : ℕ) → AreSorted hs → i ≤ j → j < length hs →
     IsNotAfter (place_list hs i) (place_list hs j)
 place-sorted [] i j s h below = absurd (omega arith)
@@ -53,6 +57,9 @@ place-sorted (x ∷ hs) (suc i) (suc j) s h below = place-sorted hs i j s.1 (ome
 empty-first : (zs : List ℕ) → IsNotAfter [] zs
 empty-first zs = elim (reverse zs) as (λ l. is_gt (slice_cmp nat_cmp [] l) ≡ false) [ [] ↦ refl | (y ∷ ys) ↦ refl ]
 
+-- The same of the ranks that nodes have: rank 0 is the list of no items, from which a list of one item is made, and rank i + 1 is
+-- the node at place i. The empty list comes first of all, so the order of ranks is the order of the lists that are extended. On it
+-- rests that ties can be decided by the rank of the node before.
 pub before-sorted : {L : Type 0} (hs : List (Held L)) (r s : ℕ) → AreSorted hs → r ≤ s → s ≤ length hs →
     IsNotAfter (list_before hs r) (list_before hs s)
 before-sorted hs zero s sorted h below = empty-first (list_before hs s)
@@ -73,7 +80,10 @@ pub AllEarly-from : {L : Type 0} (k : ℕ) (ms : List (Node L)) → ((m : Node L
 AllEarly-from k [] h = tt
 AllEarly-from k (m ∷ ms) h = (h m (inl refl), AllEarly-from k ms (λ x has. h x (inr has)))
 
--- the lists of a level come in order, since their nodes do
+-- The lists of a level come in the order of ties, since their nodes come in the order of the nodes that they extend. Each list of
+-- the level is a list before it and the level's item behind; lists are compared from their last items backwards, so the common last
+-- item falls away and the order of the lists before decides (`IsNotAfter-append`), which is that of their ranks. This gives `sorted`
+-- of the invariant.
 pub helds_at-sorted : {L : Type 0} (hs : List (Held L)) (item : ℕ) (ms : List (Node L)) → AreSorted hs → AreRanked ms →
     ((m : Node L) → In m ms → (m.before ≤ length hs) × (m.item ≡ item)) → AreSorted (helds_at hs ms)
 helds_at-sorted hs item [] s r h = tt
@@ -90,7 +100,8 @@ helds_at-sorted {L = L} hs item (n ∷ ns) s r h = (
   helds_at-sorted hs item ns s r.1 (λ m has. h m (inr has)),
 )
 
--- the candidates of a level
+-- The candidates of a level: the list of its item alone, and the extension of each kept list by the item, before any dominance. They
+-- are made from the labels of the nodes so far, in the order of the nodes.
 abbrev pub candidates : {L : Type 0} → Labelling L → ℕ → List (Held L) → List (Node L)
 candidates w item hs = node_of item 0 (w.start item) ++ next_from w item 0 (held_labels hs)
 
@@ -113,13 +124,17 @@ next_from-ranked {L = L} w item gs (r ∷ rest) =
     let n = from-next w item (gs ++ r ∷ []) rest y (subst Q (sym longer) hy) in
     omega (arith, n.above))
 
+-- The candidates of a level come in rising order of the nodes that they extend: the start has rank 0, and the extensions are made
+-- node by node, each with a rank above those of the earlier ones. An insertion can therefore trust that what stands in the level
+-- already is not later than the new node, so that in a tie the node that is there wins. No list is looked at for it.
 pub candidates-ranked : {L : Type 0} (w : Labelling L) (item : ℕ) (hs : List (Held L)) → AreRanked (candidates w item hs)
 candidates-ranked {L = L} w item hs =
     AreRanked-append (node_of item 0 (w.start item)) (next_from w item 0 (held_labels hs)) (node_of-ranked item 0 (w.start item))
     (let none : List (Held L) = [] in next_from-ranked w item none hs)
     (λ x y hx hy. let (made, item_is, before_is) = from-node_of item 0 (w.start item) x hx in omega arith)
 
--- what a candidate is
+-- What a candidate is: its last item is the level's, and it is either the start or the extension of a kept list, which its rank
+-- names. The proofs below go through this record alone and never through the lists of candidates again.
 pub record IsCandidate {L : Type 0} (w : Labelling L) (item : ℕ) (hs : List (Held L)) (c : Node L) : Type 0 where
   pub item_is : c.item ≡ item
   pub early : c.before ≤ length hs
@@ -139,12 +154,17 @@ from-candidates {L = L} w item hs c has =
           record { item_is = n.item_is; early = omega (arith, n.below); made = inr (n.from, n.there, n.made, n.list) }
     ]
 
+-- A node that is left in a level after the insertions was one of its candidates: insertions drop nodes and never change one. So what
+-- is known of all candidates is known of the level.
 pub level-from : {L : Type 0} (w : Labelling L) (good : L → L → Bool) (value_at : L → ℤ) (item : ℕ) (hs : List (Held L)) (m : Node L) →
     In m (fold (insert_node good value_at) [] (candidates w item hs)) → IsCandidate w item hs m
 level-from w good value_at item hs m has =
     elim (inserted-from good value_at (candidates w item hs) [] m has) [ inl none ↦ absurd none | inr c ↦ from-candidates w item hs m c ]
 
--- each candidate's list is beaten by one of the level
+-- Dominance in a level loses nothing that counts: for each candidate the level keeps a list that beats the candidate's, that is, one
+-- at least as good that has a smaller value or does not come later in the order of ties. The insertions give a node that is at least
+-- as good and has a smaller value or an earlier rank (`inserted-covers`); as the kept lists are in order an earlier rank is an
+-- earlier list, and it stays so with the level's item behind both. This is all that the steps of the invariant need of dominance.
 pub level-beats : {L : Type 0} (w : Labelling L) (good : L → L → Bool) (value_at : L → ℤ) (close : L → Option ℤ) →
     IsKept w (GoodAs good) → IsValued w (GoodAs good) value_at close → (item : ℕ) (hs : List (Held L)) → AreSorted hs →
     (c : Node L) → In c (candidates w item hs) →
@@ -184,13 +204,19 @@ pub label_after-none : {L : Type 0} (w : Labelling L) (o : Option L) → label_a
 label_after-none w None = refl
 label_after-none w (Some a) = refl
 
+-- The label of a list with an item behind it is the list's label extended by the item, so a label that is made step by step is that
+-- of its list. The proof goes over the list's first part with any label to start from, since labels are made from the front.
 pub label_of-more : {L : Type 0} (w : Labelling L) (xs : List ℕ) (a : L) (item : ℕ) → label_of w xs ≡ Some a →
     label_of w (xs ++ item ∷ []) ≡ w.extend a item
 label_of-more w [] a item e = absurd (cc)
 label_of-more w (x ∷ xs) a item e =
     label_after-append w (w.start x) xs (item ∷ []) ∙ ap (λ o. label_after w o (item ∷ [])) e ∙ label_after-none w (w.extend a item)
 
--- what holds of the held labels of the lists below an item
+-- The invariant of the search: what holds of the kept labels and their lists when the levels of all items below q are made. `starts`
+-- and `steps` say that no list is lost: each list of one item, and each kept list with one item more, is beaten by a kept one.
+-- Nothing is asked of lists that were dropped, since the laws of dominance carry over to all that follows them. `sorted` says that
+-- the kept lists stand in the order of ties, `lasts` that each ends with the item that its label names, which is below q, and
+-- `sound` that its label is its own.
 pub record IsReached {L : Type 0} (w : Labelling L) (good : L → L → Bool) (value_at : L → ℤ) (last : L → ℕ) (q : ℕ)
     (hs : List (Held L)) : Type 0 where
   pub starts : (item : ℕ) (b : L) → item < q → w.start item ≡ Some b →
@@ -201,7 +227,10 @@ pub record IsReached {L : Type 0} (w : Labelling L) (good : L → L → Bool) (v
   pub lasts : (h : Held L) → In h hs → (last h.1 < q) × EndsWith (last h.1) h.0
   pub sound : (h : Held L) → In h hs → label_of w h.0 ≡ Some h.1
 
--- a held label of a level
+-- What is new in a level: each of its lists ends with the level's item, its label says so, and its label is that of the list. A node
+-- of the level is a candidate, so it is a start or the extension of a kept list whose label is its own; one step more keeps that. It
+-- is what `lasts` and `sound` of the invariant need for the level, and with `lasts` no list of the level can be extended by an item
+-- of the levels so far.
 pub new-held : {L : Type 0} (w : Labelling L) (good : L → L → Bool) (value_at : L → ℤ) (count : ℕ) (last : L → ℕ) →
     IsStepwise w count last →
     (q : ℕ) (hs : List (Held L)) → ((h : Held L) → In h hs → label_of w h.0 ≡ Some h.1) → (h : Held L) →
@@ -230,6 +259,10 @@ new-held {L = L} w good value_at count last st q hs sound h has =
           ],
     )
 
+-- One level more keeps the invariant. A start or an extension by an item below q was beaten before and still is, as nothing is taken
+-- out of earlier levels. One by q itself is a candidate of the new level, where `level-beats` answers. A list of the new level has
+-- no extension by q or an earlier item, because items rise. The order holds across the seam too: an earlier list ends with an item
+-- below q, and lists are compared from their last items.
 pub reached-step : {L : Type 0} (w : Labelling L) (good : L → L → Bool) (value_at : L → ℤ) (close : L → Option ℤ)
     (count : ℕ) (last : L → ℕ) →
     IsKept w (GoodAs good) → IsValued w (GoodAs good) value_at close → IsStepwise w count last → (q : ℕ) (hs : List (Held L)) →
@@ -324,6 +357,10 @@ level_of-is {L = L} w good value_at nodes item =
     ap (λ l. fold (insert_node good value_at) [] (node_of item 0 (w.start item) ++ l))
     (next_nodes-is w item 0 nodes ∙ ap (next_from w item 0) (sym labels))
 
+-- The main theorem of the file: the nodes that the search has made for the items below q meet the invariant, for every q. The proof
+-- is an induction on q. Nodes name the nodes that they extend by rank, so the lists of earlier nodes stay what they are when a level
+-- is put behind them (`helds_from-level`); the lists of all nodes are then those so far and those of the level, and `reached-step`
+-- applies. At the count of items the invariant speaks of all lists, and what follows draws the answer of a search from it.
 pub reached : {L : Type 0} (w : Labelling L) (good : L → L → Bool) (value_at : L → ℤ) (close : L → Option ℤ) (count : ℕ) (last : L → ℕ) →
     IsKept w (GoodAs good) → IsValued w (GoodAs good) value_at close → IsStepwise w count last → (q : ℕ) →
     IsReached w good value_at last q (helds_from [] (nodes_below w good value_at q))
@@ -344,6 +381,9 @@ reached {L = L} w good value_at close count last k v st (suc q) =
     let P : List (Held L) → Type 0 = λ l. IsReached w good value_at last (suc q) l in
     subst P (sym whole) (reached-step w good value_at close count last k v st q hs before)
 
+-- When all levels are made the kept lists are a cover of the labelling in which labels carry their lists, with `Beats` as the order:
+-- the bound on items in the invariant falls away, since no start or step takes an item beyond the count. In this form `covers` and
+-- `first_of_all` of cover_core apply, which hold for each labelling that keeps its dominance.
 pub reached-cover : {L : Type 0} (w : Labelling L) (good : L → L → Bool) (value_at : L → ℤ) (count : ℕ) (last : L → ℕ) →
     IsStepwise w count last →
     (hs : List (Held L)) → IsReached w good value_at last count hs → IsCover (held w) (Beats (GoodAs good) value_at) (λ h. In h hs)
@@ -360,7 +400,9 @@ reached-cover {L = L} w good value_at count last st hs r = record {
       (h, there, subst P list beats);
 }
 
--- the first of the kept nodes' lists is the first least of all lists
+-- The list that closes first among the kept nodes is the first least of all lists: none closes with less, and none with the same
+-- value comes before it. Each list is beaten by a kept one, which closes with a smaller value, or with no greater one and no later
+-- list; so the best of the kept ones is the best of all. The contract of the search rests on it where a list is found.
 pub first_of_nodes : {L : Type 0} (w : Labelling L) (good : L → L → Bool) (value_at : L → ℤ) (close : L → Option ℤ)
     (count : ℕ) (last : L → ℕ) →
     IsKept w (GoodAs good) → IsValued w (GoodAs good) value_at close → IsStepwise w count last → (list : List ℕ) (least : ℤ) →
@@ -372,7 +414,8 @@ first_of_nodes {L = L} w good value_at close count last k v st list least first 
     first_of_all w (GoodAs good) value_at close (λ h. In h hs) k v
     (reached-cover w good value_at count last st hs (reached w good value_at close count last k v st count)) list least first
 
--- where no kept node closes, no list does
+-- Where no kept node closes, no list does: a list that closes is beaten by a kept one that is at least as good, and this would close
+-- too. The contract of the search rests on it where nothing is found.
 pub none_of_nodes : {L : Type 0} (w : Labelling L) (good : L → L → Bool) (value_at : L → ℤ) (close : L → Option ℤ)
     (count : ℕ) (last : L → ℕ) →
     IsKept w (GoodAs good) → IsValued w (GoodAs good) value_at close → IsStepwise w count last →

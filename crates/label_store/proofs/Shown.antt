@@ -6,7 +6,9 @@ use Rattle.std.proofs.lemmas.List.Elements.{filter_map-append}
 use Rattle.label_region.specs.Shelf.{IsLive, Shelf, label_at}
 use Rattle.label_store.specs.Stocks.{AreLive, AreOnce, IsNotIn, IsStocked, shown}
 
--- lists without a number twice
+-- Both lists of a stock name cells of one region by number. This section is about numbers alone: no number stands twice in the two
+-- lists together, and this stays so when one is put behind the second list (`once-more`) or taken out of it (`once-both-less`). From
+-- it follows that a cell that is given back or written anew is the cell of one place only.
 pub not-in-left : (id : ℕ) (xs ys : List ℕ) → IsNotIn id (xs ++ ys) → IsNotIn id xs
 not-in-left id [] ys h = tt
 not-in-left id (x ∷ xs) ys h = (h.0, not-in-left id xs ys h.1)
@@ -48,7 +50,8 @@ apart-at [] i z h b = absurd (omega arith)
 apart-at (x ∷ xs) zero z h b = h.0
 apart-at (x ∷ xs) (suc i) z h b = ((λ e. not-there x xs i z h.0 (omega arith) (sym e)), apart-at xs i z h.1 (omega arith))
 
--- the number at a place of the second list is in neither list without that place
+-- The number that is taken out of the made labels is that of no kept label, and of no other made one (`apart-at`). So when its cell
+-- is given back to the region, each label that stays is in a cell of its own and is seen as before.
 pub apart-kept : (kept made : List ℕ) (i z : ℕ) → AreOnce (kept ++ made) → i < length made → IsNotIn (slice_index_or made i z) kept
 apart-kept [] made i z h b = tt
 apart-kept (x ∷ xs) made i z h b = ((λ e. not-there x made i z (not-in-right x xs made h.0) b (sym e)), apart-kept xs made i z h.1 b)
@@ -83,6 +86,9 @@ module _ {X : Type 0} where
       let rest = shown-length s ids h.1 in
       ap (λ (l : List X). length l) (shown-cons s id ids x.0 x.1) ∙ (omega (arith, rest))
 
+  -- The list that contracts see is the list of the cells' labels, place by place: a number that is not live would be left out and
+  -- move all after it, but all numbers of a stock are live, so there are as many labels as numbers (`shown-length`) and place i
+  -- shows the cell of the number at place i. `kept_at` and `made_at` rest on it.
   pub shown-at : (s : Shelf X) (ids : List ℕ) (i z : ℕ) → AreLive s ids → i < length ids →
       slice_get (shown s ids) i ≡ label_at s (slice_index_or ids i z)
   shown-at s [] i z h b = absurd (omega arith)
@@ -110,7 +116,9 @@ module _ {X : Type 0} where
   live-both s [] ys h k = k
   live-both s (x ∷ xs) ys h k = (h.0, live-both s xs ys h.1 k)
 
-  -- where a number is not in the list, a change of it shows nothing
+  -- The frame of the region: where two regions show the same under every number but one, and a list of numbers does not have this
+  -- one, the list shows the same labels in both, and its numbers stay live (`live-same`). Each operation of a stock changes one
+  -- cell; the lemmas below only have to say that its number is in neither list, or in which place.
   pub shown-same : (s t : Shelf X) (id : ℕ) (ids : List ℕ) → ((x : ℕ) → x ≢ id → label_at t x ≡ label_at s x) →
       IsNotIn id ids → shown t ids ≡ shown s ids
   shown-same s t id [] same h = refl
@@ -126,7 +134,8 @@ module _ {X : Type 0} where
       let here : label_at s x ≡ label_at t x = sym (same x (λ e. h.0 (sym e))) in
       (subst (λ (o : Option X). IsSome o) here l.0, live-same s t id xs same h.1 l.1)
 
-  -- a number that is free is in no list of live ones
+  -- A number that is free in the region stands in neither list, because all numbers of the lists are live. The region says of the
+  -- number for a new label no more than that it was free; this is how it is known to be new to the stock, too.
   pub free-not-in : (s : Shelf X) (id : ℕ) (ids : List ℕ) → label_at s id ≡ None → AreLive s ids → IsNotIn id ids
   free-not-in s id [] free l = tt
   free-not-in s id (x ∷ xs) free l = (
@@ -148,7 +157,10 @@ module _ {X : Type 0} where
   pub shown-both : (s : Shelf X) (xs ys : List ℕ) → shown s (xs ++ ys) ≡ shown s xs ++ shown s ys
   shown-both s xs ys = filter_map-append (label_at s) xs ys
 
-  -- a label put in under a free number
+  -- Putting a label in keeps the invariant of the stock: the number was free, so it is in neither list; the old numbers stay live by
+  -- the frame, the new one is live as its cell has the label, and no number stands twice. `put-kept` and `put-made` say what is then
+  -- seen: the kept labels as before, and the made ones with the new label behind. `put-loose` is for a push that fails after the
+  -- cell was filled.
   pub put-stocked : (s t : Shelf X) (id : ℕ) (x : X) (kept made : List ℕ) → IsStocked s kept made →
       label_at s id ≡ None → label_at t id ≡ Some x →
       ((y : ℕ) → y ≢ id → label_at t y ≡ label_at s y) → IsStocked t kept (made ++ id ∷ [])
@@ -202,7 +214,9 @@ module _ {X : Type 0} where
   live-less s (id ∷ ids) zero h = h.1
   live-less s (id ∷ ids) (suc i) h = (h.0, live-less s ids i h.1)
 
-  -- a label taken out
+  -- Taking a made label out keeps the invariant: its number stands in one place only, so without that place it is in neither list,
+  -- and giving its cell back changes nothing that is seen of the others. `out-kept` and `out-made` then give the contract of
+  -- `take_out`: the kept labels as before, and the made ones without that place.
   pub out-stocked : (s t : Shelf X) (kept made : List ℕ) (i id : ℕ) → IsStocked s kept made → i < length made →
       id ≡ slice_index_or made i id →
       ((y : ℕ) → y ≢ id → label_at t y ≡ label_at s y) → IsStocked t kept (take i made ++ drop (i + 1) made)

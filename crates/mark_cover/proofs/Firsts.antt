@@ -37,6 +37,9 @@ get-any {L = L} p (x ∷ xs) zero a h is =
     let head : p x ≡ true = subst P (sym same) is in rw head refl
 get-any p (x ∷ xs) (suc k) a h is = let rest = get-any p xs k a h is in or-true (p x) (list_any p xs) rest
 
+-- The searches run tests; the contract speaks of marks that stand there and of open lists. This section is the way between the two:
+-- a test over all marks passes exactly where some mark is at least as good, an open list fails it exactly where no mark is, and a
+-- mark is low exactly where it closes below minus its class price. From here on the first gap is found by what the tests answered.
 pub met-from : {L : Type 0} (m : Marking L) (marks : List L) (b : L) → is_met m marks b ≡ true → IsMet m marks b
 met-from m marks b h = let (k, a, at, good) = any-get (λ x. m.good x b) marks h in (a, (k, at), good)
 
@@ -93,7 +96,9 @@ pub low-not : {L : Type 0} (m : Marking L) (class_prices : List ℤ) (a : L) →
     ClosesBelow m class_prices a → ⊥
 low-not m class_prices a h below = below-none (number_at class_prices (m.class_of a)) (m.close a) below.0 h below.1 below.2
 
--- marks with a gap are no cover
+-- Each kind of gap contradicts one part of a cover: an open list of one item that is not met the starts, an open extension the
+-- steps, and a mark that closes too low the closings. So where marks are a cover no gap is found; it is the half `onto` of the
+-- contract of `first_gap`.
 pub gap-no-cover : {L : Type 0} (m : Marking L) (marks : List L) (class_prices : List ℤ) (gap : Gap) → IsGap m marks class_prices gap →
     IsMarkCover m marks class_prices → ⊥
 gap-no-cover m marks class_prices (First class item) is cover = is.3 (cover.starts class item is.1 is.0 is.2)
@@ -106,6 +111,10 @@ three-ways a b = grind arith
 two-ways : (a b : ℕ) → (a ≤ b) ⊎ (b < a)
 two-ways a b = grind arith
 
+-- The first gap of the first kind: the search goes over the classes and, in each, over the items, so at its answer all earlier
+-- classes are met throughout and the earlier items of this class are met. Any other gap of the kind that came before would be an
+-- open list that failed the test, though it passed; gaps of the other kinds come later by their kind. An open list has an item of
+-- the problem (`IsPlaced`), so none lies past the loop's end.
 pub start-first : {L : Type 0} (m : Marking L) (marks : List L) (class_prices : List ℤ) (gap : Gap) → IsPlaced m →
     IsFirstStart m marks (Some gap) → IsFirstGap m marks class_prices gap
 start-first {L = L} m marks class_prices (First class item) placed found =
@@ -148,6 +157,9 @@ no-step m marks class_prices placed none place item is =
     let there = (placed.steps is.0 is.2 item is.3).1 in
     unmet-test m marks (m.extend is.0 item) is.2 is.3 is.4 (none place is.0 is.1 item there)
 
+-- The first gap of the second kind: no start is unmet, so no gap of the first kind is there to come before, and among the extensions
+-- the earliest mark with one that is not met is found, and of it the earliest item, by the same argument as for starts. The mark at
+-- a place is one mark, so what was tested of it is what the other gap speaks of.
 pub step-first : {L : Type 0} (m : Marking L) (marks : List L) (class_prices : List ℤ) (gap : Gap) → IsPlaced m →
     IsFirstStart m marks None → IsFirstStep m marks (Some gap) →
     IsFirstGap m marks class_prices gap
@@ -182,6 +194,8 @@ step-first {L = L} m marks class_prices (Next place item) placed none found =
           ];
     }
 
+-- The first gap of the third kind: with all starts and steps met only marks that close too low can be gaps, and the search finds the
+-- first of them by its place.
 closing-first : {L : Type 0} (m : Marking L) (marks : List L) (class_prices : List ℤ) (gap : Gap) → IsPlaced m → IsFirstStart m marks None →
     IsFirstStep m marks None →
     IsFirstClosing m marks class_prices (Some gap) → IsFirstGap m marks class_prices gap
@@ -203,6 +217,9 @@ closing-first {L = L} m marks class_prices (Close place) placed none steps found
           ];
     }
 
+-- Where all three searches find nothing, the marks are a cover: each part of a cover says of all classes, items and marks what one
+-- search has tested of those that are there, and by `IsPlaced` there are no open lists with others. Together with the gaps above
+-- this makes `first_gap` answer nothing exactly where the marks are a cover.
 closing-cover : {L : Type 0} (m : Marking L) (marks : List L) (class_prices : List ℤ) → IsPlaced m → IsFirstStart m marks None →
     IsFirstStep m marks None →
     IsFirstClosing m marks class_prices None → IsMarkCover m marks class_prices
@@ -247,7 +264,8 @@ more {L = L} P marks place a at here before k b below has =
           subst P (get-same (slice_get marks place) a b at (subst Q same has)) here
     ]
 
--- the items up to its last one extend no mark
+-- A mark has no extension by its own last item or an earlier one, as a later item is put behind a list. So the search may begin
+-- behind a mark's last item, and in the search by items a mark need not be looked at before its own item has passed.
 pub past-last : {L : Type 0} (m : Marking L) (marks : List L) (a : L) (k : ℕ) → IsPlaced m → k ≤ m.last a →
     is_unmet m marks (m.extend a k) ≡ false
 past-last m marks a k placed order =
@@ -269,7 +287,9 @@ between-more {L = L} m marks low place b a at here before k x from below has =
           subst P (get-same (slice_get marks place) a x at (subst Q same has)) here
     ]
 
--- an open list that ends with an item of a class is met among all marks, where it is among those of the class and item
+-- An open list need be compared with the marks of its class and last item alone: a mark that is at least as good has the same class
+-- and last item, so among all marks there is one exactly where there is one in this cell. This makes the check of a grouped list of
+-- marks fast, and is where the search by cells meets the test over all marks.
 pub cell-passes : {L : Type 0} (m : Marking L) (cell marks : List L) (class item : ℕ) (o : Option L) →
     ((b : L) → o ≡ Some b → (m.class_of b ≡ class) × (m.last b ≡ item)) →
     ((b : L) → m.class_of b ≡ class → m.last b ≡ item → is_met m cell b ≡ is_met m marks b) → is_unmet m cell o ≡ false →
@@ -291,7 +311,10 @@ places-more {L = L} m marks item low place a at here before k x from below has =
           subst P (get-same (slice_get marks place) a x at (subst Q same has)) here
     ]
 
--- the extensions by an item of all marks of a class are met, where those of its marks with an earlier last item are
+-- The steps of the fast search, item by item: the extensions by an item of all marks of a class are met where those of the marks
+-- between two places are. The marks with an earlier last item stand there, by the order of the list, and the others have no
+-- extension by the item (`past-last`). The lemmas after it add one item and one class more, until all extensions of all marks are
+-- met. Where one is not, the search starts anew mark by mark, since only this order tells the first gap.
 pub met-by : {L : Type 0} (m : Marking L) (marks : List L) (class item low end : ℕ) → IsPlaced m →
     ((k : ℕ) (a : L) → slice_get marks k ≡ Some a → m.class_of a ≡ class → m.last a < item → (low ≤ k) × (k < end)) →
     ((k : ℕ) (a : L) → low ≤ k → k < end → slice_get marks k ≡ Some a → is_unmet m marks (m.extend a item) ≡ false) →

@@ -81,6 +81,10 @@ level-is {L = L} m class n marks new placed there old inserted = record {
   alone = inserted.alone (λ a b first second good. absurd (stands-none a first));
 }
 
+-- One item more in a class keeps the invariant of the making: every start and every extension of a mark by an item so far is met,
+-- and no mark is at least as good as another. Extensions by the new item are candidates of the new level, so they are met there; the
+-- marks of the level have no extension by an item so far. Marks of different last items are never at least as good as one another,
+-- so it suffices that within the level none is.
 pub class-step : {L : Type 0} (m : Marking L) (class n : ℕ) (marks new : List L) → IsOrdered m → IsPlaced m → AreOfClass m class n marks →
     IsLevel m class n marks new →
     AreOfClass m class (n + 1) (marks ++ new)

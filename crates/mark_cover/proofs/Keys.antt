@@ -21,7 +21,9 @@ late-from c i c' i' h = grind (arith, nat_tests)
 late-onto : (c i c' i' : ℕ) → (c' < c) ⊎ ((c' ≡ c) × (i' ≤ i)) → is_before c i c' i' ≡ false
 late-onto c i c' i' h = grind (arith, nat_tests)
 
--- the orders go together
+-- Marks are ordered by class and last item; marks of one class and item are equal in this order and stand in any order among
+-- themselves. "Not before" is transitive, and what is not after an early mark is early itself. These two are all that the search for
+-- a place and the test of neighbours need of the order.
 late-through : (c1 i1 c2 i2 c3 i3 : ℕ) → is_before c2 i2 c1 i1 ≡ false → is_before c3 i3 c2 i2 ≡ false → is_before c3 i3 c1 i1 ≡ false
 late-through c1 i1 c2 i2 c3 i3 h k =
     late-onto c3 i3 c1 i1 (elim (late-from c2 i2 c1 i1 h) [
@@ -55,7 +57,9 @@ below-next k n h = grind arith
 not-past : (k n : ℕ) → n ≤ k → (n < k) ⊎ (k ≡ n)
 not-past k n h = grind arith
 
--- one step of the search for a place
+-- One step of the search for a place by halving, in a list that is grouped by class and last item: where the mark in the middle
+-- stands before the class and item, so do all marks up to it; where it does not, none from it on does (`late-step`). So the bounds
+-- of the search keep their meaning, and at the end the marks below the place are exactly those before the class and item.
 pub early-step : {L : Type 0} (m : Marking L) (marks : List L) (class item middle : ℕ) (a : L) → AreGrouped m marks →
     slice_get marks middle ≡ Some a →
     stands_before m a class item ≡ true → AreEarly m marks class item (middle + 1)
@@ -82,7 +86,9 @@ late-step {L = L} m marks class item middle a grouped at is = λ k b above has.
           subst Q e is
     ]
 
--- neighbours in order are all in order
+-- A list in which no mark stands before its left neighbour is grouped throughout. The proof goes from one mark to any later one by
+-- induction on the gap between them, over the neighbour in between; there is such a mark, since the later place is in the list. So
+-- one pass over neighbours tests whether the fast search may be used.
 far-grouped : {L : Type 0} (m : Marking L) (marks : List L) → AreStepGrouped m marks (length marks) → (gap i : ℕ) (a b : L) →
     slice_get marks i ≡ Some a → slice_get marks (i + 1 + gap) ≡ Some b → stands_before m b (m.class_of a) (m.last a) ≡ false
 far-grouped m marks steps zero i a b at there =
@@ -155,7 +161,8 @@ three-parts : (all front rest middle tail : Bool) → all ≡ (front || rest) �
 three-parts all front rest true tail h1 h2 h3 h4 = grind arith
 three-parts all front rest false tail h1 h2 h3 h4 = grind arith
 
--- of a list the middle tells whether an element passes, where none does before and behind it
+-- Whether some element of a list passes a test is told by a middle part alone, where none before and none behind it passes. The list
+-- is cut into three parts, "some" of the whole is "some" of one of them, and two are known to have none.
 pub middle-any : {L : Type 0} (p : L → Bool) (xs : List L) (low high : ℕ) → low ≤ high →
     ((k : ℕ) (a : L) → k < low → slice_get xs k ≡ Some a → p a ≡ false) →
     ((k : ℕ) (a : L) → high ≤ k → slice_get xs k ≡ Some a → p a ≡ false) →
@@ -176,7 +183,8 @@ middle-any {L = L} p xs low high order before behind =
     three-parts (list_any p xs) (list_any p (take low xs)) (list_any p (drop low xs)) (list_any p (take (high - low) (drop low xs)))
     (list_any p (drop (high - low) (drop low xs))) whole front rest tail
 
--- a mark before a class and item, or one that is not before the next item, is not at least as good as one that ends with it
+-- A mark that is at least as good as another has its class and last item. So a mark that stands before the other's class and item,
+-- or from the next item on, is not at least as good; these are all marks outside the group.
 pub early-differs : {L : Type 0} (m : Marking L) → IsOrdered m → (a b : L) (class item : ℕ) → m.class_of b ≡ class → m.last b ≡ item →
     stands_before m a class item ≡ true → m.good a b ≡ false
 early-differs m ordered a b class item of_class last is =
@@ -209,7 +217,9 @@ late-differs m ordered a b class item of_class last is =
       | false ↦ λ good. refl
     ] refl
 
--- the group of a class and item
+-- The test over all marks is the one over the group of an open list's class and last item: the places of the group are found by
+-- halving, marks before and behind it are not at least as good (`early-differs`, `late-differs`), and `middle-any` leaves the group.
+-- It is why looking at the marks of one class and item alone gives the answers that the contract states of all marks.
 pub group-any : {L : Type 0} (m : Marking L) (marks : List L) (class item low high : ℕ) → IsOrdered m → low ≤ high →
     AreEarly m marks class item low → AreLate m marks class (item + 1) high →
     (b : L) → m.class_of b ≡ class → m.last b ≡ item →
@@ -230,7 +240,9 @@ no-group {L = L} m marks class item low high ordered order early late b of_class
       | inr above ↦ late-differs m ordered a b class item of_class last (late k a (omega arith) at)
     ])
 
--- the marks of a class with an earlier last item stand between these places
+-- Which marks may have an extension by an item: those of the class with an earlier last item, and they stand from the first mark of
+-- the class to the first one that is not before the item. The two places are found by halving; `between-class` says that all marks
+-- in between are of the class, so no more is looked at than is needed.
 pub sources-between : {L : Type 0} (m : Marking L) (marks : List L) (class item from end : ℕ) → AreEarly m marks class 0 from →
     AreLate m marks class item end →
     (k : ℕ) (a : L) → slice_get marks k ≡ Some a → m.class_of a ≡ class → m.last a < item → (from ≤ k) × (k < end)

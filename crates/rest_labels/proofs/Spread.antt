@@ -37,7 +37,8 @@ length-placed_all [] ps sp = refl
 length-placed_all (b ∷ bs) [] sp = refl
 length-placed_all (b ∷ bs) (p ∷ ps) sp = length-placed_all bs ps (placed b p sp) ∙ length-placed b p sp
 
--- an item that does not stand in a list
+-- This section: prices that were placed elsewhere do not touch an item. Each item of the rest has its price put on the first of the
+-- items that it stands for; an item that does not stand in that list keeps the price it had, through all further ones.
 placed-other : (b : List ℕ) (p : Price) (sp : List Price) (u : ℕ) → times u b ≡ 0 → price_at (placed b p sp) u ≡ price_at sp u
 placed-other [] p sp u h = refl
 placed-other (t ∷ ts) p sp u h = price_at-other sp t u p (apart t h)
@@ -80,7 +81,8 @@ no-prices sp (x ∷ xs) h =
     let here = h x (has-first x xs) in
     omega (arith, ints)
 
--- items that stand once have the price of the first
+-- Of the items that one item of the rest stands for, the first bears the whole price and the others cost nothing; as none stands
+-- twice, the list costs just that price.
 placed-price : (t : ℕ) (ts : List ℕ) (p : Price) (sp : List Price) → t < length sp → ((u : ℕ) → times u (t ∷ ts) ≤ 1) →
     ((u : ℕ) → 1 ≤ times u (t ∷ ts) → price_at sp u ≡ pos 0) →
     price_of (set sp t p) (t ∷ ts) ≡ p.0
@@ -96,6 +98,9 @@ placed-price t ts p sp below once free =
         let two : 1 + times u ts ≤ 1 = subst (λ b. cond b 1 0 + times u ts ≤ 1) here (once u) in
         absurd (omega arith)
 
+-- After the prices of all items of the rest are placed, what the x-th one stands for costs the price of x. The induction is over the
+-- lists with any prices that are there before, as long as the items that are still to come are free of them: for the first list the
+-- later ones change nothing, as no item stands in two lists; for a later list the first one's item is none of its own.
 body-price : (bs : List (List ℕ)) (ps sp : List Price) (x : ℕ) → length bs ≤ length ps → AllBelow (length sp) (joined bs) →
     ((u : ℕ) → times u (joined bs) ≤ 1) →
     ((u : ℕ) → 1 ≤ times u (joined bs) → price_at sp u ≡ pos 0) → x < length bs → body_at bs x ≢ [] →
@@ -130,6 +135,8 @@ length-blank : (n : ℕ) → length (replicate n nothing) ≡ n
 length-blank zero = refl
 length-blank (suc n) = ap (λ m. suc m) (length-blank n)
 
+-- From one item of the rest to a list: written out, the list is what its items stand for, one behind another, so its price is the
+-- sum of theirs, each of which is the price of the item.
 list-price : (n : ℕ) (bs : List (List ℕ)) (ps sp : List Price) → ((x : ℕ) → x < length bs → price_of sp (body_at bs x) ≡ price_at ps x) →
     (list : List ℕ) → all_below (length bs) list ≡ true →
     price_of sp (written bs list) ≡ price_of ps list
@@ -151,6 +158,10 @@ past-none n (x ∷ xs) u h below =
     let rest = past-none n xs u h below.1 in
     rw other (omega arith)
 
+-- The main lemma: with prices spread over the first items, a written-out list costs as much as the list of the rest, for all lists.
+-- It starts from prices of nothing, and what the items of the rest stand for is each item once (`StandForAll`), as `body-price`
+-- asks. So labels of the problem itself price the lists of the rest, and no search of its own is needed: the value with which a
+-- written-out list closes is the value of the list of the rest.
 pub spread-alike : (n : ℕ) (bs : List (List ℕ)) (ps : List Price) → length bs ≤ length ps → StandForAll n bs →
     AreAlike bs ps (placed_all bs ps (replicate n nothing))
 spread-alike n bs ps long all = list-price n bs ps (placed_all bs ps (replicate n nothing)) (λ x there.
@@ -172,6 +183,8 @@ blank-within : (m n : ℕ) → AllWithin m (replicate n nothing)
 blank-within m zero = tt
 blank-within m (suc n) = (omega (arith, ints), omega (arith, ints), blank-within m n)
 
+-- Prices keep their range when they are spread: each item has a price of the rest, or nothing, or what it had, and never a sum of
+-- several. So the numbers of labels under spread prices fit where those of the rest do.
 pub placed-within : (m : ℕ) (bs : List (List ℕ)) (ps sp : List Price) → AllWithin m ps → AllWithin m sp → AllWithin m (placed_all bs ps sp)
 placed-within m [] ps sp h k = k
 placed-within m (b ∷ bs) [] sp h k = k

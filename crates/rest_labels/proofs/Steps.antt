@@ -35,7 +35,9 @@ drop-all [] (suc i) h = refl
 drop-all (x ∷ xs) zero h = absurd (omega arith)
 drop-all (x ∷ xs) (suc i) h = drop-all xs i (omega arith)
 
--- where no items are left the label is that of all
+-- The loop that puts the items of a body behind a label, one by one, has as its invariant that the label so far, with the items that
+-- are left behind it, gives the label of the whole. At the end none are left, and where there is no label in between there is none
+-- of the whole (`none-left`); so the loop may stop there.
 pub at-end : {L : Type 0} (w : Labelling L) (o : Option L) (xs : List ℕ) (i : ℕ) (whole : Option L) → length xs ≤ i →
     label_after w o (drop i xs) ≡ whole → o ≡ whole
 at-end w o xs i whole end e = sym (after-nothing w o (drop i xs) (drop-all xs i end)) ∙ e
@@ -56,7 +58,9 @@ last-at (x ∷ y ∷ rest) h =
     let same : suc (length (y ∷ rest) - 1) ≡ length (x ∷ y ∷ rest) - 1 = omega arith in
     last-at (y ∷ rest) (omega arith) ∙ ap (λ i. Some (get_or (x ∷ y ∷ rest) i 0)) same
 
--- the label of a list of the rest that ends with an item has the last of what that stands for
+-- A label of a list of the rest is one of the written-out list, so its last item is not the last item of the rest but the last of
+-- what that stands for. This is what `RestSound` says of a label, and by it a search that asks the labels below for their last item
+-- gets the item that the body ends with.
 pub ends-with : (bs : List (List ℕ)) (x y last : ℕ) (list : List ℕ) → list ≡ body_at bs y → x ≡ y → 1 ≤ length list →
     ((t : ℕ) → last_of (body_at bs x) ≡ Some t → last ≡ t) →
     last ≡ get_or list (length list - 1) 0

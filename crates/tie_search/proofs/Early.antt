@@ -34,7 +34,8 @@ module _ {L : Type 0} (w : Labelling L) (end : ℕ) where
 abbrev IsLate : ℕ → List ℕ → Type 0
 IsLate end xs = (ys : List ℕ) × (y : ℕ) × (xs ≡ ys ++ y ∷ []) × (end ≤ y)
 
--- a rising list has only items before the end, or its last one is not before it
+-- A rising list either has only items before an end, or its last item is not before it, as the last one is the greatest. So the
+-- lists that a search before an end leaves out are exactly those that end late, and one look at the last item tells them apart.
 early-or-late : (end : ℕ) (xs : List ℕ) → Rises xs → AllBelow end xs ⊎ IsLate end xs
 early-or-late end [] h = inl tt
 early-or-late end (x ∷ []) h =

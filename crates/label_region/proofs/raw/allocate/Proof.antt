@@ -118,6 +118,8 @@ module _ (E : El) (Z : Al) {M : Type 1} {𝓤 : Ura M} (𝓛 : Logic 𝓤) (at_m
   abbrev others : Item 𝓤
   others = ‵ (flft κ₁ q₁) ⊛ ‵ (flft κ₂ q₂) ⊛ ‵ ftrue
 
+  -- The way out, which both branches of the body take: an owned answer of the function's type, of which the facts of the contract
+  -- hold, and the lifetimes that were lent. The contract's end is put together from these; no memory is left over.
   exits : (r : (Out E Z).Denot) (v : Val) →
       IfOk r (λ t. (t.1.at ≡ t.0.ptr) × (t.1.slots ≡ replicate len None) × (t.2.at ≡ t.0.ptr) × (t.2.len ≡ len) × (t.2.alloc ≡ a))
       → ent 𝓤 (⋆ 𝓛 (‵ ((Out E Z).own_val r (v ∷ [])) ∷ ‵ (flft κ q) ∷ others ∷ [])) (Post v)
@@ -129,6 +131,11 @@ module _ (E : El) (Z : Al) {M : Type 1} {𝓤 : Ura M} (𝓛 : Logic 𝓤) (at_m
   abbrev Had : List (Item 𝓤)
   Had = ‵ (hidden_shr (P E Z) κ a rb ro) ∷ ‵ (flft κ q) ∷ others ∷ []
 
+  -- The walk over the machine's steps. The body asks the allocator for the count times the width of a label; as the row is asked to
+  -- fit in a block this product does not overflow, so the bytes are those of an array of labels. Where memory comes, its raw bytes
+  -- are read as a row of empty places (`empty_row`), which `Cells` owns from then on, and the token to free them is what `Deed`
+  -- owns; both are values of no bytes, so what they own stands beside the machine's values. Where none comes, the error is passed on
+  -- and nothing is owned.
   walk : κ₂ ⊑ Z.row.lives → FitsInBlock (R E) len → len < 2 ^ 64 →
       ent 𝓤 (⋆ 𝓛 Had) (WpFn 𝓤 H C Λ (function E Z) (vptr rb ro ∷ vint w64 len ∷ []) Post)
   walk outlives asked fits =
@@ -194,6 +201,8 @@ module _ (E : El) (Z : Al) {M : Type 1} {𝓤 : Ura M} (𝓛 : Logic 𝓤) (at_m
       use1 𝓛 (‵ ((Out E Z).own_val (Err (record {})) (none ∷ []))) (err_of 𝓛 (Parts E Z) error-type.the_row (record {}) (vstruct vnil)) $
       returns ! (look_at ! 0 refl) $ free_all ! refl $ keep ! (0 ∷ 1 ∷ 2 ∷ []) $ by ! (exits (Err (record {})) none tt))))
 
+  -- From what the contract asks to the walk: the facts are heard, and of the values passed it is said which they are, the reference
+  -- to the allocator and the count as a word. The walk can then speak of these values alone.
   entry : ent 𝓤 ((walk_of 𝓛 (ended E Z) (stayed E Z) clauses).pre bound) (WpFn 𝓤 H C Λ (function E Z) (us0 ++ (us1 ++ [])) Post)
   entry =
       qed 𝓛 (((‵ (flft κ q) ⊛ others) ⊛ ‵ (owns (ShrRef (named 0) κ (P E Z) ∷ usize ∷ []) (self, (len, tt)) (us0, (us1, tt)))) ∷
@@ -203,6 +212,9 @@ module _ (E : El) (Z : Al) {M : Type 1} {𝓤 : Ura M} (𝓛 : Logic 𝓤) (at_m
       by ! (subst (λ (ws : List Val × List Val). ent 𝓤 (⋆ 𝓛 Had) (WpFn 𝓤 H C Λ (function E Z) (ws.0 ++ (ws.1 ++ [])) Post))
       (λ j. (sym e0 j, sym e1 j)) (walk outlives asked fits))))))))
 
+-- `allocate` keeps its contract for each kind of label and each allocator. The triple of the body is `entry`; what is left is to say
+-- of each parameter how it is dropped when the function ends, that the code is the one compiled, and that the allocator's own
+-- contract stands for the call. The rest of the crate knows the row by this contract alone, and never sees the memory.
 pub allocate_spec : {M : Type 1} → statement M
 unfolding tables_of
 allocate_spec 𝓤 𝓛 𝓜 𝓡 wired X W LX LW g d dd met md =

@@ -106,6 +106,8 @@ module _ (E : El) (Z : Al) {M : Type 1} {𝓤 : Ura M} (𝓛 : Logic 𝓤) (at_m
   abbrev others : Item 𝓤
   others = ‵ (flft κ₁ q₁) ⊛ ‵ (flft κ₂ q₂) ⊛ ‵ ftrue
 
+  -- The way out: nothing is answered but the unit value, and of what was passed only the lifetimes come back. The row and the deed
+  -- are not among it, since the allocator took them.
   exits : ent 𝓤 (⋆ 𝓛 (‵ (flft κ q) ∷ others ∷ [])) (Post vunit)
   exits =
       qed 𝓛 (‵ (flft κ q) ∷ others ∷ []) ∵
@@ -119,6 +121,10 @@ module _ (E : El) (Z : Al) {M : Type 1} {𝓤 : Ura M} (𝓛 : Logic 𝓤) (at_m
   Had = ‵ (places_own (R E) cells.at cells.slots) ∷ ‵ (deed_owns (R E) (token Z deed.alloc) deed.at deed.len)
       ∷ ‵ (hidden_shr (P E Z) κ a rb ro) ∷ ‵ (flft κ q) ∷ others ∷ []
 
+  -- The walk over the machine's steps. The contract asks that cells, deed, pointer, count and allocator are of one row: so the
+  -- places that the cells own lie at the pointer, and the deed's token is for these bytes and of this allocator. The places are
+  -- emptied and are the memory of an array again (`row_room`), whatever they held; memory and token are what the allocator's
+  -- `deallocate` takes. The bytes are the count times the width, which does not overflow as a row takes fewer than 2^63 of them.
   walk : κ₂ ⊑ Z.row.lives → Asks E Z a base len cells deed → len < 2 ^ 64 →
       ent 𝓤 (⋆ 𝓛 Had) (WpFn 𝓤 H C Λ (function E Z) (vptr rb ro ∷ word base.ptr ∷ vint w64 len ∷ mark ∷ mark ∷ []) Post)
   walk outlives asked fits =
@@ -151,6 +157,8 @@ module _ (E : El) (Z : Al) {M : Type 1} {𝓤 : Ura M} (𝓛 : Logic 𝓤) (at_m
       exec ! C Λ En (after 1 (function E Z).body) (at_ret En Post) $
       sets ! (of_opd ! (unit_lit !)) refl (tt, tt) $ returns ! (look_at ! 0 refl) $ free_all ! refl $ keep ! (0 ∷ 1 ∷ []) $ by ! exits)))))
 
+  -- From what the contract asks to the walk: the owners of no bytes are taken for what they own, the row and the token, and each
+  -- value passed is said to be the one of its parameter.
   entry : ent 𝓤 ((walk_of 𝓛 (ended E Z) (stayed E Z) clauses).pre bound)
       (WpFn 𝓤 H C Λ (function E Z) (us0 ++ (us1 ++ (us2 ++ (us3 ++ (us4 ++ []))))) Post)
   entry =
@@ -166,6 +174,9 @@ module _ (E : El) (Z : Al) {M : Type 1} {𝓤 : Ura M} (𝓛 : Logic 𝓤) (at_m
       (WpFn 𝓤 H C Λ (function E Z) (ws.0 ++ (ws.1 ++ (ws.2 ++ (ws.3 ++ (ws.4 ++ []))))) Post))
       (λ j. (sym e0 j, sym e1 j, sym e2 j, sym e3 j, sym e4 j)) (walk outlives asked fits)))))))))))
 
+-- `deallocate` keeps its contract for each kind of label and each allocator: the triple of the body is `entry`. Cells and deed are
+-- moved out of by the body and not dropped at its end, so for them nothing is to be freed there (`Goes-blank`); each other parameter
+-- is dropped as its type says. `Places` gives its memory back by this contract when it is dropped.
 pub deallocate_spec : {M : Type 1} → statement M
 unfolding tables_of
 deallocate_spec 𝓤 𝓛 𝓜 𝓡 wired X W LX LW g d dd met md =

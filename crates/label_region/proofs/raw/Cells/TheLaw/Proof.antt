@@ -13,6 +13,10 @@ use Rattle.label_region.specs.contracts.raw.Cells as cells
 use Rattle.label_region.proofs.raw.Cells.TheLaw.Statement.{statement}
 use Rattle.label_region.proofs.Lending.{places_lent_laws, Lends-places}
 
+-- By `of_Lends` a shared reference to an owner of memory can be made where three things hold: what it lends can be copied and used
+-- for a shorter time (`places_lent_laws`), the fields' own bytes can be shared (the mark has none), and what is owned can be lent
+-- while the type lives (`Lends-places`). The type lives no longer than its labels do, so the lifetime of the last one is a part of
+-- theirs.
 pub shares : (R : RattleType) (L : Laws R) → statement R L
 shares R L =
     let codes = cells.the_codes R.Denot R.coded (phantom.the_row RawPtr).coded in

@@ -86,6 +86,7 @@ module _ (E : El) {M : Type 1} {𝓤 : Ura M} (𝓛 : Logic 𝓤) (at_mem : Memo
     abbrev others : Item 𝓤
     others = ‵ (flft κ₁ q₁) ⊛ ‵ ftrue
 
+    -- The way out: a shared reference to a label, of which it holds that the place at the index has this label, and the lifetimes.
     exits : (r : Bor (el_x E)) (v : Val) → get_or d.slots index None ≡ Some r.now
         → ent 𝓤 (⋆ 𝓛 (‵ ((ShrRef (named 0) κ (R E)).own_val r (v ∷ [])) ∷ ‵ (flft κ q) ∷ others ∷ [])) (Post v)
     exits r v holds =
@@ -96,6 +97,10 @@ module _ (E : El) {M : Type 1} {𝓤 : Ura M} (𝓛 : Logic 𝓤) (at_mem : Memo
     abbrev Had : List (Item 𝓤)
     Had = ‵ (hidden_shr (Cr E) κ d rb ro) ∷ ‵ (flft κ q) ∷ others ∷ []
 
+    -- The walk over the machine's steps. The reference to the cells is opened, and what it lends is the row; the pointer passed is
+    -- the row's first byte. The index is below the number of places, since the place is filled, and a row has fewer than 2^63 bytes:
+    -- so index times width does not overflow, and the address reckoned is that of the place. Of the row this one place is lent
+    -- (`seen`); it holds a label, and what is lent of a label at an address is just what a shared reference to it is.
     walk : Asks E d base index → index < 2 ^ 64 →
         ent 𝓤 (⋆ 𝓛 Had) (WpFn 𝓤 H C Λ (function E) (vptr rb ro ∷ word base.ptr ∷ vint w64 index ∷ []) Post)
     walk asked fits =
@@ -122,6 +127,8 @@ module _ (E : El) {M : Type 1} {𝓤 : Ura M} (𝓛 : Logic 𝓤) (at_mem : Memo
         returns ! (look_at ! 0 refl) $ free_all ! refl $ keep ! (0 ∷ 1 ∷ 2 ∷ []) $
         by ! (exits (record { ref_ptr = (b, at); now = x }) (vptr b at) holds))))
 
+    -- From what the contract asks to the walk: the facts are heard, and the values passed are the reference to the cells, the
+    -- pointer and the index.
     entry : ent 𝓤 ((walk_of 𝓛 (ended E) (stayed E) clauses).pre bound) (WpFn 𝓤 H C Λ (function E) (us0 ++ (us1 ++ (us2 ++ []))) Post)
     entry =
         qed 𝓛 (((‵ (flft κ q) ⊛ others) ⊛ ‵
@@ -134,6 +141,8 @@ module _ (E : El) {M : Type 1} {𝓤 : Ura M} (𝓛 : Logic 𝓤) (at_mem : Memo
         (WpFn 𝓤 H C Λ (function E) (ws.0 ++ (ws.1 ++ (ws.2 ++ []))) Post))
         (λ j. (sym e0 j, sym e1 j, sym e2 j)) (walk asked fits))))))))
 
+-- `Cells.get` keeps its contract for each kind of label: the triple of the body is `entry`, and the parameters are dropped without a
+-- trace. The reference that is answered lives no longer than the one to the cells, as it is made from what that one lends.
 pub get_spec : {M : Type 1} → statement M
 get_spec 𝓤 𝓛 𝓜 𝓡 wired X LX =
     let E : El = record { row = X; laws = LX } in let 𝓣 = tables 𝓤 𝓛.H 𝓜 𝓡 𝓡.env in

@@ -92,6 +92,8 @@ module _ (E : El) {M : Type 1} {𝓤 : Ura M} (𝓛 : Logic 𝓤) (at_mem : Memo
   abbrev Borrow : Item 𝓤
   Borrow = ‵ (fbor κ (Borrowed (mem (Cr E)) rb ro γ))
 
+  -- The way out: the borrow of the cells is closed, what it will show its lender is the row with the new label, and the lifetimes
+  -- come back.
   exits : us0 ≡ vptr rb ro ∷ [] → ent 𝓤 (⋆ 𝓛 (‵ (fobs γ ((Cr E).coded.code new)) ∷ Borrow ∷ ‵ (flft κ q) ∷ others ∷ [])) (Post vunit)
   exits passed =
       qed 𝓛 (‵ (fobs γ ((Cr E).coded.code new)) ∷ Borrow ∷ ‵ (flft κ q) ∷ others ∷ []) ∵
@@ -104,6 +106,11 @@ module _ (E : El) {M : Type 1} {𝓤 : Ura M} (𝓛 : Logic 𝓤) (at_mem : Memo
   abbrev Had : Val → List (Item 𝓤)
   Had v = ‵ (fobs γ ((Cr E).coded.code d)) ∷ Borrow ∷ ‵ (flft κ q) ∷ ‵ ((R E).own_val item (v ∷ [])) ∷ others ∷ []
 
+  -- The walk over the machine's steps. The borrow is opened, so that the row is owned for the time of the call; the address is
+  -- reckoned as in `get`. The place at the index is taken out of the row and emptied, as a label that stood there is forgotten; its
+  -- bytes are written, and the label passed is moved in, so that the place owns what the label owns. Put back (`put_in`) it makes
+  -- the row that has the new label at the index, of the same length and hence within the same bound, and with this row the borrow is
+  -- closed.
   walk : us0 ≡ vptr rb ro ∷ [] → Asks E d base index → index < 2 ^ 64 → (v : Val) → Good (elτ E) v
       → ent 𝓤 (⋆ 𝓛 (Had v)) (WpFn 𝓤 H C Λ (function E) (vptr rb ro ∷ word base.ptr ∷ vint w64 index ∷ v ∷ []) Post)
   walk passed asked fits v good =
@@ -136,6 +143,8 @@ module _ (E : El) {M : Type 1} {𝓤 : Ura M} (𝓛 : Logic 𝓤) (at_mem : Memo
       closes ! tt (Cr E) new vs rb ro $
       returns ! (look_at ! 0 refl) $ free_all ! refl $ keep ! (0 ∷ 1 ∷ 2 ∷ 3 ∷ []) $ by ! (exits passed)))))
 
+  -- From what the contract asks to the walk: the facts are heard, and the values passed are the borrow, the pointer, the index, and
+  -- the label as one machine value of its type (`label_had`).
   entry : ent 𝓤 ((walk_of 𝓛 (ended E) (stayed E) clauses).pre bound) (WpFn 𝓤 H C Λ (function E) (us0 ++ (us1 ++ (us2 ++ (us3 ++ [])))) Post)
   entry =
       qed 𝓛 (((‵ (flft κ q) ⊛ others) ⊛ ‵
@@ -149,6 +158,8 @@ module _ (E : El) {M : Type 1} {𝓤 : Ura M} (𝓛 : Logic 𝓤) (at_mem : Memo
       (WpFn 𝓤 H C Λ (function E) (ws.0 ++ (ws.1 ++ (ws.2 ++ (ws.3 ++ [])))) Post))
       (λ j. (sym e0 j, sym e1 j, sym e2 j, sym e3 j)) (walk e0 asked fits v good)))))))))
 
+-- `Cells.write` keeps its contract for each kind of label: the triple of the body is `entry`. The label passed is owned by the row
+-- afterwards, and the borrow has told its lender the new row, so that the caller knows each place.
 pub write_spec : {M : Type 1} → statement M
 write_spec 𝓤 𝓛 𝓜 𝓡 wired X LX =
     let E : El = record { row = X; laws = LX } in let 𝓣 = tables 𝓤 𝓛.H 𝓜 𝓡 𝓡.env in

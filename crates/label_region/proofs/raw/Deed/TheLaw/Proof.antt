@@ -11,6 +11,9 @@ use Rattle.core.specs.contracts.marker.PhantomData as phantom
 use Rattle.label_region.specs.contracts.raw.Deed as deed
 use Rattle.label_region.proofs.raw.Deed.TheLaw.Statement.{statement}
 
+-- A deed is a right of its owner alone, so a shared reference to it lends nothing: what is lent is the true statement, which can be
+-- copied and shortened freely, and whatever is owned may be lent as nothing. What is left to show is that the bytes of the mark can
+-- be shared.
 pub shares : (R A : RattleType) (g : Ghosts A.Denot) (L : Laws R) (K : Laws A) → statement R A g L K
 shares R A g L K =
     let codes = deed.the_codes R.Denot A.Denot R.coded A.coded (phantom.the_row RawPtr).coded in
