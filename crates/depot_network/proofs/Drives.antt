@@ -46,7 +46,8 @@ some_given : {A : Type 0} (b : Bool) (x : A) → is_some (given b (Some x)) ≡ 
 some_given true x = refl
 some_given false x = refl
 
--- what is at most the greatest driving was so before more was added
+-- The rules ask for each piece as a whole that its driving keeps the limit; the walk asks again after each part. Both are the same,
+-- since driving only grows: what is within the limit with more is so with less, and asking of the less beside the more adds nothing.
 low_more : (d m : ℕ) → nat_le (d + m) longest_driving ≡ (nat_le d longest_driving && nat_le (d + m) longest_driving)
 low_more d m =
     elim (nat_le d longest_driving) as (λ t. nat_le d longest_driving ≡ t →
@@ -64,7 +65,9 @@ pieces_short index [] = refl
 pieces_short index ([] ∷ rest) = pieces_short index rest
 pieces_short index ((l ∷ ls) ∷ rest) = ap (λ b. is_short (l ∷ ls) && b) (pieces_short (index + 1) rest)
 
--- the first part with some driving before it, and the others
+-- The generalised statement of this file speaks of the first of the parts with some driving already before it, and of all others as
+-- they are. With none before it this is the rule on a block's pieces (`keep_all`); a leg put before the first part is the same as
+-- its seconds added to the driving before (`keep_onto`). So legs can be taken off one by one while their driving is carried on.
 abbrev keep : ℕ → List (List Leg) → Bool
 keep d [] = nat_le d longest_driving
 keep d (p ∷ ps) = nat_le (d + driving_seconds p) longest_driving && list_all is_short ps
@@ -98,7 +101,8 @@ module _ (day : DayFacts) (pool : Pool) where
   rest_low : (d : ℕ) (legs : List Leg) → rest d legs ≡ (nat_le d longest_driving && rest d legs)
   rest_low d legs = keep_low d (parts day pool (shown legs))
 
-  -- a leg that is no stand; where it is left out, it takes no time
+  -- A leg that is no stand is driven: it belongs to the first part, and its seconds join the driving so far. A move between equal
+  -- points is left out of a block's legs, which makes no difference as it takes no time.
   moved : (d : ℕ) (l : Leg) (legs : List Leg) → is_stand l.kind ≡ false → (is_shown l ≡ false → duration l ≡ 0) →
       rest d (l ∷ legs) ≡ rest (d + duration l) legs
   moved d l legs kind out =
@@ -113,7 +117,9 @@ module _ (day : DayFacts) (pool : Pool) where
         | false ↦ λ is. let none = out is in let same : d ≡ d + duration l = omega (arith, none) in ap (λ n. rest n legs) same
       ] refl
 
-  -- a stand
+  -- A stand: where it is a cut, the driving so far must keep the limit and what follows begins afresh; where it is none it adds
+  -- nothing, since standing is not driving. A stand of 0 seconds is left out of the legs and is no cut, so both readings agree on
+  -- it, too.
   stood : (d : ℕ) (at : Point) (begin end : ℤ) (s : ℕ) (legs : List Leg) → unsigned_abs (end -ℤ begin) ≡ s →
       rest d (leg Stand None at begin at end ∷ legs)
       ≡ cond (is_cut_at day pool at s) (nat_le d longest_driving && rest 0 legs) (rest d legs)
@@ -141,7 +147,9 @@ module _ (day : DayFacts) (pool : Pool) where
       outer (nat_le 1 (unsigned_abs (end -ℤ begin))) s
       ∙ ap (λ n. cond (nat_le 1 n && test n) (nat_le d longest_driving && rest 0 legs) (rest d legs)) long
 
-  -- the stand of a connection fills the time between its trips, and moves between equal points take none
+  -- What the legs of a connection must fulfil: its stand lasts as long as the times of its trips leave, so that the length seen in
+  -- the legs is the one that the connection states, and a move between equal points takes no time. It holds of direct connections
+  -- and of those via the depot (`link_timed`), by how they are made.
   record IsTimed (t u : TheTrip) (l : Link) : Type 0 where
     pub stand : (u.begin.0 -ℤ t.end.0 -ℤ pos (seconds_before l) -ℤ pos (seconds_after l)) ≡ pos (stand_of l)
     pub before : point_eq t.to (stand_point pool u l) ≡ true → seconds_before l ≡ 0
@@ -164,7 +172,9 @@ module _ (day : DayFacts) (pool : Pool) where
       moved d l legs no_stand (λ out. seconds_are ∙ none (not_false (point_eq from to) (sym shows ∙ out)))
       ∙ ap (λ n. rest (d + n) legs) seconds_are
 
-  -- the legs of a connection
+  -- The legs of a connection, a move, a stand and perhaps a second move, have the effect that the walk's formula states at once:
+  -- with a cut at the stand the driving up to it must keep the limit and the second move begins a piece; without one all of it is
+  -- added. From left to right it is one `driven`, one `stood` and one `driven`.
   linked : (d : ℕ) (t u : TheTrip) (l : Link) (legs : List Leg) → IsTimed t u l →
       rest d (link_legs pool t u l ++ legs)
       ≡ cond (is_cut_on day pool u l) (nat_le (d + seconds_before l) longest_driving && rest (seconds_after l) legs)
@@ -276,7 +286,9 @@ module _ (day : DayFacts) (pool : Pool) where
       ∙ sym (and_and (nat_le d longest_driving) (nat_le (d + before + second) longest_driving) (on (d + before + second)))
       ∙ ap (λ b. b && on (d + before + second)) (sym low)
 
-  -- from a trip on, with some driving before it
+  -- The walk and the legs from a trip on, by induction over the trips behind it with any driving before: the trip's seconds join the
+  -- driving, the connection is as in `linked`, and behind it the statement holds with the driving that the cut leaves. Where there
+  -- is no connection, or no trip, both sides are false.
   driven_from : (ks : List ℕ) (d k : ℕ) (t : TheTrip) → slice_get day.trips k ≡ Some t →
       rest_of d (legs_from day pool k t ks) ≡ (nat_le (d + trip_seconds t) longest_driving && drives_on day pool (d + trip_seconds t) k ks)
   driven_from [] d k t at =
@@ -368,6 +380,10 @@ module _ (day : DayFacts) (pool : Pool) where
   tested None l = refl
   tested (Some more) l = pieces_short 1 (parts day pool (shown (l ∷ more))) ∙ keep_all (parts day pool (shown (l ∷ more)))
 
+  -- The main theorem of the file: a list of trips can be driven, in the sense of the rules, which cut a block's legs into pieces and
+  -- ask of each that its driving is at most four and a half hours, exactly where the walk over its trips, which carries one number
+  -- along, never exceeds the limit. By it labels need no legs: the driving since the last cut is all that they keep of a list. The
+  -- rules' definition is the one that the contracts promise, the walk is the one that the code computes.
   pub driven_is : (list : List ℕ) → can_be_driven day pool list ≡ drives day pool list
   driven_is [] = refl
   driven_is (k ∷ ks) =

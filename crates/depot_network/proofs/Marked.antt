@@ -77,7 +77,10 @@ parts-good a b h =
 below-limit : (m n : ℕ) → m ≤ n → nat_le n longest_driving ≡ true → nat_le m longest_driving ≡ true
 below-limit m n h k = grind (arith, nat_tests)
 
--- less driving and a smaller value open what more of both open
+-- What a mark with more driving and a greater value may do over a stand, one with less may too, and its mark behind is as good: with
+-- a cut both begin afresh, without one the sums keep their order, and the limit that the greater sum keeps the smaller one keeps. It
+-- is the whole of dominance; all else about an extension (pool, trips, admission, connection) depends only on class and last trip,
+-- which are the same.
 driven-kept : (cut : Bool) (first first' second second' class class' k : ℕ) (value value' : ℤ) (b : BlockMark) → class ≡ class' →
     first ≤ first' → second ≤ second' → (cut ≡ true → second ≡ second') →
     value ≤ℤ value' → driven_on cut first' second' class' value' k ≡ Some b →
@@ -241,7 +244,9 @@ closed-kept day counts a b v good e =
       omega (arith, ints),
     )
 
--- The law of dominance of the marks of open blocks.
+-- The law of dominance of the marks of open blocks, by which a certificate can be checked: a mark as good as another stays so over
+-- each further trip (`extended-kept`), has its class and last trip, and closes wherever the other closes with no greater value. So
+-- marks that meet every start and their own extensions speak for all open blocks, though most of these were never made.
 pub blocks-ordered : (day : DayFacts) (counts : Bool) (prices : List Price) → IsOrdered (block_marking day counts prices)
 blocks-ordered day counts prices = record {
   kept = λ class. record {

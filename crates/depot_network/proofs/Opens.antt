@@ -80,7 +80,10 @@ less_kept m n less test = grind (arith, nat_tests)
 kept_few : (seconds x : ℕ) → kept seconds ≡ Some x → x ≤ longest_driving
 kept_few seconds x e = let (test, is) = kept_parts seconds x e in grind (arith, nat_tests)
 
--- with less driving so far there is no more behind
+-- With less driving so far there is no more behind a stand: where the stand is a cut the driving behind it is afresh and the same,
+-- and where it is none both sums grow by the same seconds; what is at most four and a half hours with more driving is so with less.
+-- This monotony, and its forms for a whole connection (`on_less`) and the pull-in (`in_less`), is all that the dominance of open
+-- blocks rests on.
 past_less : (cut : Bool) (d d' before second x : ℕ) → d ≤ d' → driven_past cut d' before second ≡ Some x →
     (y : ℕ) × (driven_past cut d before second ≡ Some y) × (y ≤ x)
 past_less true d d' before second x less e =
@@ -164,7 +167,9 @@ in_less day pool d d' t x less e =
     let low = less_kept (d + inward) (d' + inward) (omega arith) test in
     (d + inward, in_is day pool d t inward trip trip_is is_in ∙ kept_is (d + inward) low)
 
--- a step with less driving before it costs the same, with no more driving behind it
+-- A step over a connection costs the same whatever the driving before it, and with less driving before it there is no more behind.
+-- So of two open blocks with one last trip the one with less driving may go on over each trip over which the other may, at the same
+-- cost. Driving only forbids; it never makes a block dearer.
 next_less : (day : DayFacts) (pool : Pool) (d d' t u : ℕ) (step : Step) → d ≤ d' → next_step day pool d' t u ≡ Some step →
     (s : Step) × (next_step day pool d t u ≡ Some s) × (s.cost ≡ step.cost) × (s.driving ≤ step.driving)
 next_less day pool d d' t u step less e =
@@ -215,7 +220,9 @@ module _ (day : DayFacts) (counts : Bool) (prices : List Price) (pool : Pool) wh
       extended_open day counts prices pool a u ≡ Some (next_open counts prices a u step)
   next_is a u step e = ap (λ (o : Option Step). option_map (next_open counts prices a u) o) e
 
-  -- The laws.
+  -- Dominance stays over each further trip: an open block with the same last trip, no more driving and no greater value can be
+  -- extended wherever the other can (`next_less`), the trip adds the same to both values, and so the extensions stand to one another
+  -- as the blocks did. By this law the search may drop the worse one of two labels.
   pub opening_kept : IsKept (opening day counts prices pool) (GoodAs is_as_good)
   opening_kept = record {
     same = λ a. as_good a a refl (omega arith) (omega (arith, ints));
@@ -235,6 +242,9 @@ module _ (day : DayFacts) (counts : Bool) (prices : List Price) (pool : Pool) wh
         (a', next_is a u s is, as_good a' b' (sym x.trip) (omega (arith, is_driving, less)) (omega (arith, ints, is_value, same, value)));
   }
 
+  -- Dominance is true to values: a smaller value stays smaller over each further trip, since a step adds one amount to both, and a
+  -- block that is as good closes wherever the other does, with a value that is smaller where it was. By this law ties may be decided
+  -- when a label is made, long before its list closes.
   pub opening_valued : IsValued (opening day counts prices pool) (GoodAs is_as_good) (λ a. a.value) (closed_open day counts pool)
   opening_valued = record {
     at_most = λ a b h. (same_trip a b h).2;
@@ -336,6 +346,10 @@ module _ (day : DayFacts) (counts : Bool) (prices : List Price) (pool : Pool) wh
             | false ↦ λ h. omega (arith, ints, h)
           ] value
 
+  -- From the walk to the label: if the trips behind an open block can be walked to the end with a total cost, then the label goes on
+  -- over all of them and closes, and its value and the prices of these trips together are the value before and what the walk added.
+  -- Stated for any label and any cost so far, so that the induction over the trips may take the first one off. `from_label` is the
+  -- way back; the cost so far and the value so far never meet, and only what is added is compared.
   onto_label : (list : List ℕ) (a : OpenBlock) (cost total : ℕ) → stepped day pool cost a.driving a.trip list ≡ Some total →
       (b : OpenBlock) × (v : ℤ) × (rest : ℕ) × (label_after (opening day counts prices pool) (Some a) list ≡ Some b)
       × (closed_open day counts pool b ≡ Some v) × (total ≡ cost + rest) × (v +ℤ price_of prices list ≡ a.value +ℤ scaled counts rest)
@@ -435,6 +449,10 @@ module _ (day : DayFacts) (counts : Bool) (prices : List Price) (pool : Pool) wh
       no_label [] e = cc
       no_label (x ∷ xs) e = cc
 
+  -- The labels of open blocks are tied to the worths of blocks: a list of trips has a worth exactly where it has a label that
+  -- closes, and it closes with a thousand times the worth less the prices of its trips. By `worth_walked` a worth is what the walk
+  -- over the trips gives, step by step as labels are made; so both directions are inductions over the trips. The whole search for
+  -- the best block rests on it: it turns "the list that closes first" into "the best column".
   pub opening_tied : (class : ℕ) → slice_get day.params.pools class ≡ Some pool →
       IsTied (opening day counts prices pool) (closed_open day counts pool) prices (block_worth day counts class)
   opening_tied class there = record { onto = opening_onto class there; from = opening_from class there }
@@ -481,6 +499,9 @@ module _ (day : DayFacts) (counts : Bool) (prices : List Price) (pool : Pool) wh
       refl_le : (n : ℕ) → n ≤ n
       refl_le n = omega arith
 
+  -- What a connection adds is bounded by the time that it fills: it costs at most its seconds at the highest rates, and its seconds
+  -- lie between the end of one trip and the start of the next, within two days. So the value of an open block changes by a bounded
+  -- number with each trip.
   pub added_few : (t u m : ℕ) → IsPool pool → All IsDaily day.trips → added day pool t u ≡ Some m → m ≤ 1728000000
   added_few t u m ranges daily e =
       let (trip, trip_is, e1) =
@@ -526,6 +547,9 @@ module _ (day : DayFacts) (counts : Bool) (prices : List Price) (pool : Pool) wh
       let (out, is_out, e2) = and_then_some (λ (out : ℕ). kept (out + trip_seconds trip)) (pull_out day pool trip) x e1 in
       kept_few (out + trip_seconds trip) x e2
 
+  -- No number of a label is ever too large for the machine: the value is at most 20,000,000,000,000 for each trip so far, above or
+  -- below 0. The bound is by the number of the last trip, and a trip more has a greater number, so each step has room for what it
+  -- adds: its cost (`added_few`, `begun_few`) and its price. The search's contract asks for this of the labels that it makes.
   pub opening_safe : All IsDaily day.trips → IsPool pool → AllWithin 10000000000000 prices →
       IsSafe (opening day counts prices pool) (OpenFits (length day.trips))
   opening_safe daily ranges moderate = record {

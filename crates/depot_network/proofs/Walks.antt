@@ -41,7 +41,9 @@ given_none : {A : Type 0} (b : Bool) → given {A = A} b None ≡ None
 given_none true = refl
 given_none false = refl
 
--- a step, over plain values
+-- One step of the walk, over plain values: whether the tests of a trip (later, admitted, connected) are asked one after another
+-- while walking, or first of all trips together and then the cost is summed up, comes to the same. The day's definitions are left
+-- out, so that a proof by cases over the few answers is enough.
 step : (later rise admitted rest_admitted : Bool) (l : Option Link) (price : Link → ℕ) (rest : Option ℕ) (cost : ℕ) →
     option_and_then (λ c. option_map (λ m. c + m) (given rise (given rest_admitted rest)))
     (option_map (λ m. cost + m) (given later (given admitted (option_map price l)))) ≡
@@ -80,6 +82,9 @@ pulled_in : (pool : Pool) (cost : ℕ) (o : Option ℕ) →
 pulled_in pool cost None = refl
 pulled_in pool cost (Some inward) = refl
 
+-- The cost of the trips behind a trip, walked with any cost so far, is that cost and what the rules say of these trips: none where
+-- they do not rise, are not there, are not admitted or not connected, and else the sum. The induction is over the trips; the cost so
+-- far is arbitrary, since each step changes it.
 walked_is : (day : DayFacts) (pool : Pool) (cost k : ℕ) (ks : List ℕ) (t : Trip) → slice_get day.trips k ≡ Some t →
     walked day pool cost k ks ≡ option_map (λ m. cost + m) (rest_cost day pool t k ks)
 walked_is day pool cost k [] t at = rw at (pulled_in pool cost (pull_in day pool t))
@@ -134,6 +139,8 @@ first_none rise (Some c) = given_none rise ∙ ap (λ o. option_map (λ (m : ℕ
 abbrev list_cost : DayFacts → Pool → List ℕ → Option ℕ
 list_cost day pool list = given (rises list) (option_and_then (λ ts. block_cost day pool ts) (trips_at day.trips list))
 
+-- The cost of a whole list as the rules state it (the list rises, its trips are there, and then the cost of these trips as a block)
+-- is the one of its walk: the first trip with the fixed cost and the pull-out, and behind it `walked_is`.
 list_walked : (day : DayFacts) (pool : Pool) (list : List ℕ) → list_cost day pool list ≡ walk day pool list
 list_walked day pool [] = refl
 list_walked day pool (k ∷ ks) =
@@ -185,7 +192,9 @@ given_map : {A B : Type 0} (b : Bool) (f : A → B) (o : Option A) → option_ma
 given_map true f o = refl
 given_map false f o = refl
 
--- the cost of a list that can be driven is that of its walk
+-- Cost and driving are carried along together by the code, and each by itself in the proofs: the joint walk gives a cost exactly
+-- where the driving can be kept to the end and the walk of the cost alone gives it. Neither looks at the other, so a missing answer
+-- of either one is one of both.
 stepped_is : (day : DayFacts) (pool : Pool) (cost driving t : ℕ) (us : List ℕ) →
     stepped day pool cost driving t us ≡ given (drives_on day pool driving t us) (walked day pool cost t us)
 stepped_is day pool cost driving t [] = given_map (is_some (driven_in day pool driving t)) (λ (more : ℕ). cost + more) (ended day pool t)
@@ -220,7 +229,10 @@ steps_are day pool (t ∷ ts) =
       ]
     ] in split (begun day pool t) (driven_first day pool t)
 
--- the worth of a list as a block
+-- The main theorem of the file: the worth of a list as a block, as the rules define it over all its trips and legs at once, is what
+-- the walk trip by trip gives, with cost and driving carried along. It joins the two halves, `list_walked` for the cost and
+-- `driven_is` for the driving. The contract of `block_worth` is stated by the rules; the code and the labels of the search walk, and
+-- both rest on this equation.
 pub worth_walked : (day : DayFacts) (counts : Bool) (class : ℕ) (list : List ℕ) →
     block_worth day counts class list
     ≡ option_and_then (λ (c : ℕ). Some (cond counts 1 c)) (with_pool day class (λ pool. steps day pool list))
