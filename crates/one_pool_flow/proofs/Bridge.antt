@@ -71,6 +71,10 @@ last_plain true false l cost rest = none_right (option_map cost l)
 last_plain true true None cost rest = refl
 last_plain true true (Some x) cost rest = map_then (λ (r : ℕ). cost x + r) rest
 
+-- One trip more in front, over plain values: in the network an arc and the rest of a path are there or not, and the cost is the sum;
+-- by the rules of blocks a trip is tested for its number and its line, then connected, and then the cost of the trips behind is
+-- added. If both readings agree on the rest, they agree with the trip in front. The day's definitions are left out, so that cases
+-- over few answers prove it.
 step_plain : {L : Type 0} →
     (here later admitted k : Bool) (l : Option L) (cost : L → ℕ) (rest : Option ℕ) (found : Option (List Trip)) (all : List Trip → Bool)
     (more : List Trip → Option ℕ) →
@@ -104,7 +108,9 @@ then_some f trip (Some ts) = refl
 abbrev rest_of : DayFacts → Pool → Trip → List Trip → Option ℕ
 rest_of day pool trip ts = given (all_admitted day pool ts) (cost_from day pool trip ts)
 
--- what a path costs from a trip on
+-- From a trip on, the rest of a path in the day's network costs what the rules say of the trips behind it: none where they do not
+-- rise, are not there, are not admitted or not connected, and else the connections and the pull-in. The induction is over the trips;
+-- an arc between two trips is a connection with its tests, and the arc to the end is the pull-in.
 rest_is : (day : DayFacts) (pool : Pool) (t : ℕ) (trip : Trip) → slice_get day.trips t ≡ Some trip → (us : List ℕ) →
     cond (all_below (length day.trips) us) (rest_cost (net_of day pool) t us) None
     ≡ given (rises (t ∷ us))
@@ -154,6 +160,8 @@ rest_is day pool t trip at (u ∷ us) = go (slice_get day.trips u) refl (λ next
         ∙ then_some (rest_of day pool trip) next (trips_at day.trips us) in
         left ∙ (middle ∙ sym (ap (given (rises (t ∷ u ∷ us))) right))
 
+-- A whole path: the arc from the store to its first trip is the pull-out with the fixed cost, for an admitted trip, and behind it
+-- stands `rest_is`. Where the first trip is not there both sides give nothing.
 path_from : (day : DayFacts) (pool : Pool) (list : List ℕ) →
     given (rises list) (option_and_then (λ (ts : List Trip). block_cost day pool ts) (trips_at day.trips list))
     ≡ nets.path_cost (net_of day pool) list
@@ -194,6 +202,8 @@ path_from day pool (t ∷ us) = sym (go (slice_get day.trips t) refl)
         ∙ then_some (block_cost day pool) trip (trips_at day.trips us) in
         left ∙ (middle ∙ sym (ap (given (rises (t ∷ us))) right))
 
+-- A list costs in the day's network what it costs as a path of the day's one pool. The rules of paths ask for the pool of class 0,
+-- and this is the one that the network was made of; all else is `path_from`.
 pub path_net : (day : DayFacts) (pool : Pool) → day.params.pools ≡ pool ∷ [] → (list : List ℕ) →
     path_cost day 0 list ≡ nets.path_cost (net_of day pool) list
 path_net day pool one list =
@@ -236,6 +246,10 @@ columns_back day pool one (list ∷ lists) are =
     (let P : List Pool → Type 0 = λ pools. 0 < length (map (λ (q : Pool). q.cap) pools) in subst P (sym one) (omega arith)) in
     ((class, worth ∙ ap Some number), columns_back day pool one lists are.1)
 
+-- The path plans of a day with one pool are the covers of its network, at the same cost: since a list costs the same on both sides,
+-- both make the same columns of it (`columns_same`), and a plan and a cover ask the same of columns: that they are worth what they
+-- say, that each trip stands in exactly one, and that there are no more than vehicles. By this contract all that is proved of
+-- networks, a cover of least cost and its prices, holds of the day.
 pub plans_are_covers : (day : DayFacts) (pool : Pool) → PlansAreCovers day pool
 plans_are_covers day pool one lists = (to, back, ap cost (columns_same day pool one lists))
   where

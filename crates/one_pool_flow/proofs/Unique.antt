@@ -44,7 +44,8 @@ behind_later : (n x s : ℕ) (xs : List ℕ) → x < s → 1 ≤ times s xs → 
 behind_later n x s [] above member = absurd (omega arith)
 behind_later n x s (y ∷ ys) above member = let test : (x == s) ≡ false = grind (arith, nat_tests) in rw test refl
 
--- a member has something behind it
+-- A list is read through what stands behind each of its members: the next one, or behind the last one the end n. Each member has
+-- something behind it, so this reading is a function on the members. The section shows that it loses nothing.
 behind_some : (n s : ℕ) (list : List ℕ) → 1 ≤ times s list → (v : ℕ) × (behind n s list ≡ Some v)
 behind_some n s [] member = absurd (omega arith)
 behind_some n s (x ∷ []) member = go (s == x) refl
@@ -73,7 +74,9 @@ next_same n x y xs ys same equal =
     let last : behind n x (y ∷ ys) ≡ Some (next_of n ys) = subst P (sym same) (behind_first n y ys) in
     some_same (next_of n xs) (next_of n ys) (sym (behind_first n x xs) ∙ (equal x here there ∙ last))
 
--- two lists that rise, with the same behind the members of both, have the same rest where their first numbers are the same
+-- Two rising lists with the same first number, and the same behind each number that stands in both, are the same. Their second
+-- numbers are what is behind the first, so they are equal or both lists end, as the end n is no number of a list; and the claim goes
+-- on to the lists without their first numbers, where the members' followers are still what they were (`behind_later`).
 same_rest : (n x y : ℕ) (xs ys : List ℕ) → x ≡ y → Rises (x ∷ xs) → Rises (y ∷ ys) → AllBelow n xs → AllBelow n ys →
     ((s : ℕ) → 1 ≤ times s (x ∷ xs) → 1 ≤ times s (y ∷ ys) → behind n s (x ∷ xs) ≡ behind n s (y ∷ ys)) → xs ≡ ys
 same_rest n x y [] [] same xs_rise ys_rise xs_below ys_below equal = refl
@@ -103,7 +106,8 @@ above_or_at x xs s rise member = go (s == x) refl
         let above = above_first x xs s rise (omega arith) in
         omega arith
 
--- no member is below the first number of lists that are in the order of their first numbers
+-- In lists that are ordered by their first numbers, and each of which rises, the first number of the first list is the least of all:
+-- the numbers of one list are above its first one, and the first ones rise. So sets of equal numbers have equal first numbers.
 least_first : (n x : ℕ) (xs : List ℕ) (lists : List (List ℕ)) → AllListed n ((x ∷ xs) ∷ lists) → Rises (first_nodes ((x ∷ xs) ∷ lists)) →
     (s : ℕ) → 1 ≤ times s (joined ((x ∷ xs) ∷ lists)) → x ≤ s
 least_first n x xs [] listed rise s member = above_or_at x xs s listed.0.1 (omega (arith, member, times-append s (x ∷ xs) []))
@@ -131,6 +135,9 @@ successor_later n s list lists none = ap (λ (o : Option ℕ). unwrap_or o (succ
 
 -- Lists that rise, in the order of their first numbers, none of which stands twice, are determined by which numbers stand in them and by
 -- what is behind each.
+-- The proof takes off the first lists of both: their first numbers are equal, as each is the least of all (`least_first`), hence the
+-- lists are equal (`same_rest`), and so the remaining ones have the same numbers, for which what is behind is unchanged. So flow
+-- plans may be compared by their successors alone.
 same_lists : (n : ℕ) (ones others : List (List ℕ)) → AllListed n ones → AllListed n others → Rises (first_nodes ones) →
     Rises (first_nodes others) →
     ((s : ℕ) → times s (joined ones) ≤ 1) → ((s : ℕ) → times s (joined ones) ≡ times s (joined others)) →
@@ -184,7 +191,9 @@ same_lists n ((x ∷ xs) ∷ ones) ((y ∷ ys) ∷ others) one_listed other_list
         ∙ (after s (omega (arith, times-append s (x ∷ xs) (joined ones))) ∙ successor_first n s theirs.0 (y ∷ ys) others theirs.1) in
         mine.1 ∙ (ap (λ (k : ℕ). Some k) v ∙ sym theirs.1))
 
--- of two functions neither of which comes after the other, each value is the same
+-- Of two functions neither of which comes after the other in the order by first difference, all values below n are the same: where
+-- all earlier values are the same, "not after" says of this value that it is at most the other's, both ways. The induction is over a
+-- bound above the place, as all earlier places are needed at once.
 agree : (n : ℕ) (f g : ℕ → ℕ) → IsNotAfter n f g → IsNotAfter n g f → (k s : ℕ) → s < k → s < n → f s ≡ g s
 agree n f g one other zero s below within = absurd (omega arith)
 agree n f g one other (suc k) s below within =
@@ -211,6 +220,10 @@ below_joined n s (list ∷ lists) listed past =
 once_joined : (day : DayFacts) (lists : List (List ℕ)) → IsPathPlan day lists → (s : ℕ) → s < length day.trips → times s (joined lists) ≡ 1
 once_joined day lists plan s within = sym (ap (times s) (items_joined day lists)) ∙ plan.once s within
 
+-- A day has one flow plan. Two flow plans cost the same, as each is of least cost; so each says of the other that its successors do
+-- not come later, and they agree on all trips (`agree`). Each trip stands in both exactly once and the paths are in order; so the
+-- successors determine the plans (`same_lists`). It is the first half of the contract of `flow_is_one`: what is found may be called
+-- the flow plan.
 pub flow_plan_is_one : (day : DayFacts) → FlowPlanIsOne day
 flow_plan_is_one day one other is are = same_lists n one other one_listed other_listed is.ordered are.ordered
     (λ s. elim (cases_lt s n) [
@@ -255,6 +268,9 @@ same_prices (x ∷ xs) (y ∷ ys) count each =
     let rest : xs ≡ ys = same_prices xs ys (omega arith) (λ t below. each (suc t) (omega (arith, below))) in
     cc
 
+-- A plan has one list of flow prices: the greatest potentials are at least as great as all others that go with the plan, hence as
+-- each other, both ways; so they are equal at each trip, at the store and at the end, and prices are a thousand times their
+-- differences. A day has one pool, so both lists speak of one network. It is the second half of the contract of `flow_is_one`.
 pub flow_prices_are_one : (day : DayFacts) → FlowPricesAreOne day
 flow_prices_are_one day lists prices others class_price other one_of other_of =
     go one_of.0 one_of.1 one_of.2 one_of.3 one_of.4 other_of.0 other_of.1 other_of.2 other_of.3 other_of.4

@@ -86,6 +86,11 @@ module _ (day : DayFacts) (counts : Bool) (pool : Pool) (numbers : List ℕ) (va
       slice_index numbers head ≡ number → slice_index numbers u ≡ number → other.from ≡ next.from
   same_point head u other next number are is at own same = are.same head u other next is at (own ∙ sym same)
 
+  -- Direct ways from a trip to a point: one look at one trip that begins there (the head) is enough for all that do, as the deadhead
+  -- and the standing rate depend on the point alone. The cell read is that of the first place whose trip begins late enough; each
+  -- trip that may follow stands at this place or later, so its value is at least the cell, which is a least value over all of them.
+  -- Standing is counted from midnight, so that the cell depends on the later trip alone; what was stood before the arrival is taken
+  -- off here.
   pub direct_above : (cells : List ℤ) (width number t head place move time : ℕ) (shown other : Trip) (result : ℤ) →
       slice_get day.trips t ≡ Some shown → slice_get day.trips head ≡ Some other → dead day shown.to other.from ≡ Some move →
       pos time ≡ shown.end.0 +ℤ pos move → t < place →
@@ -117,6 +122,8 @@ module _ (day : DayFacts) (counts : Bool) (pool : Pool) (numbers : List ℕ) (va
       ap (λ n. scaled counts (n * time)) rate ∙ ap (λ n. scaled counts (stand_rate_at pool next * n)) times in
       omega (arith, ints, low, below, cost, stood)
 
+  -- Where there is no deadhead to the point's head there is none to any trip that begins there, so no direct way is left to be
+  -- bounded and any number will do. `depot_none` says the same of ways via the depot, where one of its two moves is not there.
   pub direct_none : (number t head : ℕ) (shown other : Trip) (least : ℤ) → slice_get day.trips t ≡ Some shown →
       slice_get day.trips head ≡ Some other → dead day shown.to other.from ≡ None →
       AreBeginNumbers day.trips numbers → slice_index numbers head ≡ number → DirectAbove day counts pool numbers value t number least
@@ -128,6 +135,9 @@ module _ (day : DayFacts) (counts : Bool) (pool : Pool) (numbers : List ℕ) (va
       let bad : None ≡ Some move = sym (subst From from (subst To one none)) ∙ moved in
       absurd (cc)
 
+  -- Ways via the depot, by the same argument as direct ones: both moves depend on the points alone, the cell is the least of what
+  -- trips of the point add from the first place whose trip begins late enough, and standing at the depot costs nothing, so nothing
+  -- is taken off.
   pub depot_above : (cells : List ℤ) (width number t head place inward outward : ℕ) (shown other : Trip) (result : ℤ) →
       slice_get day.trips t ≡ Some shown → slice_get day.trips head ≡ Some other → dead day shown.to pool.depot ≡ Some inward →
       dead day pool.depot other.from ≡ Some outward → t < place →
@@ -176,7 +186,9 @@ module _ (day : DayFacts) (counts : Bool) (pool : Pool) (numbers : List ℕ) (va
       let old = above u trip next move time later at at' same moved timed late in
       omega (arith, ints, less, old)
 
--- Standing between two times costs what standing from midnight to the second one does, less the same to the first one.
+-- Standing between two times costs what standing from midnight to the second one does, less the same to the first one. This splits
+-- the cost of a direct connection into a part of the earlier trip and its deadhead and one of the later trip, so that the least over
+-- the later trips can be kept beforehand, once for all earlier ones.
 stood_between : (counts b : Bool) (dead_rate rate move stand time begin : ℕ) → begin ≡ time + stand →
     (scaled counts (dead_rate * move) -ℤ scaled counts (cond b 0 rate * time) +ℤ scaled counts (cond b 0 rate * begin))
     ≡ scaled counts (dead_rate * move + rate * cond b 0 stand)
@@ -199,6 +211,9 @@ module _ (day : DayFacts) (counts : Bool) (prices : List Price) (pool : Pool) (r
   abbrev Adds : ℕ → Trip → ℤ → Link → Type 0
   Adds u next low l = low ≤ℤ (scaled counts (link_cost pool next l) -ℤ price_at prices u +ℤ number_at rests u)
 
+  -- A direct connection adds its cost, the later trip's price taken off, and the rest behind that. Its parts are those of which
+  -- `DirectAbove` speaks: its arrival is the end of the trip and the deadhead, and as it keeps the minimum layover it is one of the
+  -- ways that begin late enough. So the number bounds what it adds. The greatest wait is not used: a bound may only be too low.
   direct_adds : (t u : ℕ) (trip next : Trip) (low : ℤ) (l : Link) → IsDaily trip → IsDaily next → t < u →
       slice_get day.trips t ≡ Some trip → slice_get day.trips u ≡ Some next →
       DirectAbove day counts pool numbers (stood_value day counts prices pool rests) t (slice_index numbers u) low →
@@ -255,6 +270,9 @@ module _ (day : DayFacts) (counts : Bool) (prices : List Price) (pool : Pool) (r
   scaled_up : (n : ℕ) → pos 0 ≤ℤ scaled counts n
   scaled_up n = elim counts as (λ c. pos 0 ≤ℤ scaled c n) [ true ↦ omega (arith, ints) | false ↦ omega (arith, ints) ]
 
+  -- What a connection adds is bounded by what is known of its point, in one of two ways: a connection is a direct way or one via the
+  -- depot, and no way of either kind adds less than the number; or the point was passed over, as every trip there with its rest adds
+  -- no less, even at no cost of the connection, and a cost is never below 0.
   adds_of : (t u : ℕ) (trip next : Trip) (low : ℤ) (l : Link) {end : ℕ} → All IsDaily day.trips → t < u →
       slice_get day.trips t ≡ Some trip → slice_get day.trips u ≡ Some next →
       link day pool trip next ≡ Some l → u < length day.trips → slice_index numbers u ≡ end →
@@ -275,7 +293,10 @@ module _ (day : DayFacts) (counts : Bool) (prices : List Price) (pool : Pool) (r
       let up = scaled_up (link_cost pool next l) in
       omega (arith, ints, below, up)
 
-  -- one point more is looked at
+  -- One point more is looked at: a connection to a trip that begins at it is bounded by what is known of the point (`adds_of`), and
+  -- one to an earlier point was bounded before by a number that is now not greater. When all points are looked at, no connection
+  -- from the trip adds less, which is the step that a completion bound needs; the search over all later trips is replaced by one
+  -- look for each point.
   pub points_more : (t end : ℕ) (least low : ℤ) → All IsDaily day.trips → low ≤ℤ least →
       ((u : ℕ) → t < u → u < length day.trips → slice_index numbers u ≡ end →
       PointAbove day counts pool numbers (stood_value day counts prices pool rests) (passed_value prices rests) t end low) →
