@@ -42,6 +42,9 @@ link_stands : (pool : Pool) (t u : TheTrip) (l : Link) → stands (link_legs poo
 link_stands pool t u (Direct move stand) = refl
 link_stands pool t u (Depot inward outward stand) = refl
 
+-- A block has at most one stand for each trip behind its first one: each connection has exactly one, direct or via the depot, and
+-- trips, pulls and deadheads are none. So there are fewer stands than trips, and as a block's trips rise by number there are no more
+-- of them than the day has. It bounds the index of a block's pieces.
 from_stands : (day : DayFacts) (pool : Pool) (k : ℕ) (t : TheTrip) (js : List ℕ) (ls : List Leg) → legs_from day pool k t js ≡ Some ls →
     stands ls ≤ length js
 from_stands day pool k t [] ls e =
@@ -173,6 +176,8 @@ ended_few : (held : Option Piece) → length (ended held) ≤ 1
 ended_few None = omega arith
 ended_few (Some p) = omega arith
 
+-- Cutting gives at most one piece more than there are stands, as only a stand can be a cut and each cut ends at most one piece. With
+-- fewer stands than trips a block has no more pieces than trips (`block_few`), and so has a plan.
 cut_few : (day : DayFacts) (pool : Pool) (block index : ℕ) (held : Option Piece) (legs : List Leg) →
     length (cut_on day pool block index held legs) ≤ stands legs + 1
 cut_few day pool block index held [] = omega (arith, ended_few held)
@@ -234,7 +239,9 @@ one_each_first : (n : ℕ) → sum_first one_each n ≡ pos n
 one_each_first zero = refl
 one_each_first (suc n) = omega (arith, ints, one_each_first n)
 
--- the columns of a plan have as many items as there are
+-- The columns of a plan have as many items, counted with repetition, as the problem has: each item stands once. The sum of ones over
+-- all items that stand in columns is counted in two ways, along the columns and along the numbers. With `all_few` it gives the bound
+-- of `cut` that a plan never has more pieces than trips.
 pub plan_items : (p : Problem) (columns : List Column) → HasListedColumns p → IsPlan p columns → length (all_items columns) ≤ p.items
 plan_items p columns listed plan =
     let below : AllBelow p.items (all_items columns) = all_items-below p columns listed plan.worths in

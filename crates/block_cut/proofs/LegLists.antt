@@ -27,7 +27,9 @@ pub shown_append : (xs ys : List Leg) → shown (xs ++ ys) ≡ shown xs ++ shown
 shown_append [] ys = refl
 shown_append (l ∷ xs) ys = ap (λ ls. cond (is_shown l) (l ∷ ls) ls) (shown_append xs ys) ∙ shown_if (is_shown l) l (shown xs) (shown ys)
 
--- the legs from a trip on are those until the next one begins, and those from that one on
+-- The legs from a trip on are those until the next one begins, and those from that one on. The rules state a block's legs from its
+-- end, the code puts them together from its start; this is the step between the two readings, and it also says that each part is
+-- there where the whole is.
 pub record Splits (day : DayFacts) (pool : Pool) (t u : ℕ) (us : List ℕ) : Type 0 where
   pub first : is_some (until_next day pool t u) ≡ true
   pub rest : is_some (legs_at day pool u us) ≡ true
@@ -78,7 +80,9 @@ splits_at day pool t i rest within some =
     let P : List ℕ → Type 0 = λ us. is_some (legs_at day pool t us) ≡ true in
     splits day pool t (slice_index rest i) (drop (i + 1) rest) (subst P (drop_first rest i within) some)
 
--- one trip more
+-- One trip more in the loop: what was put behind, and the legs from the next trip on, are still all of the block's legs. With no
+-- trip left, only the last trip and the pull-in remain, and then the legs are complete. A move between equal points or a stand of 0
+-- seconds may be left out on the way, as leaving out goes over each part by itself (`shown_append`).
 pub legs_more : (day : DayFacts) (pool : Pool) (t i : ℕ) (rest : List ℕ) (old new all : List Leg) → i < length rest →
     is_some (legs_at day pool t (drop i rest)) ≡ true →
     new ≡ old ++ shown (legs_or (until_next day pool t (slice_index rest i))) →
@@ -95,7 +99,9 @@ legs_more day pool t i rest old new all within some pushed so_far =
     ∙ ap (λ us. old ++ shown (legs_or (legs_at day pool t us))) (sym (drop_first rest i within))
     ∙ so_far
 
--- a list of trips with a cost has legs
+-- Trips behind a trip that cost something have legs: the cost of a block asks for the same connections and the same pull-in as its
+-- legs do, so where the one is there the other is. The induction is over the trips. It is how a block's worth, which is all that
+-- `legs` asks for, says that no look-up on the way can fail.
 pub legs_of_cost : (day : DayFacts) (pool : Pool) (k : ℕ) (t : TheTrip) (js : List ℕ) (us : List TheTrip) (cost : ℕ) →
     trips_at day.trips js ≡ Some us → cost_from day pool t us ≡ Some cost → is_some (legs_from day pool k t js) ≡ true
 legs_of_cost day pool k t [] us cost at is =
@@ -126,7 +132,8 @@ trips_below trips (k ∷ ks) found e =
     let rest = and_then_some (λ (ts : List TheTrip). Some (first.0 ∷ ts)) (trips_at trips ks) found first.2 in
     (slice_get_within trips k first.0 first.1, trips_below trips ks rest.0 rest.1)
 
--- a block that has a worth has a pool, trips of the day, a pull-out and legs
+-- What a block with a worth is known to have: a pool, trips that are all of the day, and legs from its first trip on. `runs` takes
+-- the worth apart, test by test, until it has the cost behind the pull-out, and from that the legs (`legs_of_cost`).
 pub record Runs (day : DayFacts) (class first : ℕ) (rest : List ℕ) : Type 0 where
   pub pool : Pool
   pub there : slice_get day.params.pools class ≡ Some pool

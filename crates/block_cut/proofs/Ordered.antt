@@ -19,6 +19,8 @@ use Rattle.day_model.specs.Pieces.{legs_of, parts, piece_of, pieces_from, pieces
 use Rattle.block_cut.specs.Cuts.{IsEarlier, IsEarlierInBlocks, IsShift, block_pieces, moment, pieces_by_block}
 
 -- one block more
+-- One block more in the loop: the pieces so far, and those of the blocks that are left, numbered from the next number on, are all
+-- pieces of the plan, block after block. At the end none are left, so the loop has made `pieces_by_block` from number 1.
 pub blocks_more : (day : DayFacts) (place : ℕ) (blocks : List Column) (block : Column) (old new all : List Piece) → place < length blocks →
     block ≡ get_or blocks place block → new ≡ old ++ block_pieces day (place + 1) block →
     old ++ pieces_by_block day (1 + place) (drop place blocks) ≡ all →
@@ -71,7 +73,9 @@ apart : (block next : ℕ) (p : Piece) (ps : List Piece) → p.block ≡ block �
 apart block next p ps is below later =
     All-weaker (λ (q : Piece). next ≤ q.block) (IsEarlierInBlocks p) (λ q from. inl (omega (arith, is, below, from))) ps later
 
--- the pieces of a block stand before those of later blocks
+-- Before they are sorted the pieces stand by block and index: within a block indexes rise, as each piece takes the next one, and all
+-- pieces of a block stand before those of blocks with greater numbers. Of any two pieces the earlier one is therefore the smaller by
+-- block and index.
 before_others : (block next : ℕ) (ps qs : List Piece) → All (λ (p : Piece). p.block ≡ block) ps → Ordered ps → block < next →
     All (λ (q : Piece). next ≤ q.block) qs → Ordered qs → Ordered (ps ++ qs)
 before_others block next [] qs of ordered below later others = others
@@ -140,6 +144,10 @@ later_moment p q from from' low earlier = elim (cases_lt (moment p) (moment q)) 
   | inr above ↦ inr (omega (arith, ints, at_moment p from, at_moment q from', above, low), earlier)
 ]
 
+-- Sorting by start keeps the order by block and index among pieces of one start: a piece is put in before the first one that does
+-- not begin earlier, and all pieces that are there come after it by block and index. So of those that begin at the same moment it
+-- stands first. The insertion from the right is how the sort by key is defined (`in_order`), whose order of equal keys is thereby
+-- the one before.
 put_sorted : (x : Piece) (ps : List Piece) → Starts x → All Starts ps → All (IsEarlierInBlocks x) ps → Sorted ps →
     Sorted (put_in_order moment x ps)
 put_sorted x [] from all earlier sorted = (All-nil (IsEarlier x), tt)
@@ -176,7 +184,9 @@ pairs_from : (ps : List Piece) → Sorted ps → AllPairs IsEarlier ps
 pairs_from [] sorted = λ i j d below within. absurd (omega (arith, within))
 pairs_from (p ∷ ps) sorted = AllPairs-cons IsEarlier p ps sorted.0 (pairs_from ps sorted.1)
 
--- the pieces of a plan by start, block and index
+-- The pieces of a plan stand by start, of equal starts by block, and of those by index: `all_ordered` has the order by block and
+-- index before the sort, and `all_sorted` carries it through. Of two pieces with one block and index neither is before the other, so
+-- each pair of places holds two different ones. It is the clause `order` of the contract of `cut`.
 pub plan_ordered : (day : DayFacts) (columns : List Column) → All IsShift (pieces_by_block day 1 columns) →
     AllPairs IsEarlier (in_order moment (pieces_by_block day 1 columns))
 plan_ordered day columns shifts =

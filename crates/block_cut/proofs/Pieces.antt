@@ -95,7 +95,9 @@ piece_more block index l k ls =
     let e = last_more l k ls in
     λ i. record { block = block; index = index; from = l.from; begin = l.begin; to = (e i).to; end = (e i).end; driving = d i }
 
--- Cutting leg by leg gives the pieces of the parts.
+-- Cutting leg by leg gives the pieces of the parts. The rules first divide all legs into parts, at the stands that are cuts, and
+-- then make a piece of each part; the code carries along the piece that is begun. The statement has two halves, since both states
+-- occur on the way: with no piece begun, and with one begun of some legs, which then belong in front of the first part.
 pub record Cuts (day : DayFacts) (pool : Pool) (block : ℕ) (rest : List Leg) : Type 0 where
   pub none : (index : ℕ) → pieces_from block index (parts day pool rest) ≡ cut_on day pool block index None rest
   pub held : (index : ℕ) (l : Leg) (ls : List Leg) →
@@ -126,6 +128,9 @@ none_by day pool block index k ks false cuts =
     (Some (record { block = block; index = index; from = k.from; begin = k.begin; to = k.to; end = k.end; driving = n })) ks)
     (one_leg (cond (is_stand k.kind) 0 (duration k)))
 
+-- The induction over the legs: at a cut the begun piece ends and the state is the one without a piece; at any other leg the piece
+-- grows by the leg, which is the same as one more leg in front of the first part (`held_by`, `none_by`). Both halves are needed for
+-- each other, so they are proved together.
 cuts : (day : DayFacts) (pool : Pool) (block : ℕ) (rest : List Leg) → Cuts day pool block rest
 cuts day pool block [] = record { none = λ index. refl; held = λ index l ls. ap (λ xs. piece_of block index l xs ∷ []) (append-nil ls) }
 cuts day pool block (k ∷ ks) =
@@ -135,6 +140,9 @@ cuts day pool block (k ∷ ks) =
       held = λ index l ls. held_by day pool block index l k ls ks (is_cut day pool k) later;
     }
 
+-- The whole of a block: with no piece begun at the first leg, cutting leg by leg gives the pieces that the rules make of the block's
+-- legs, numbered from 1. The loop's invariant is that the pieces so far, with those that the legs left would give, are all of them
+-- (`cut_more`, `cut_done`); so at its end the contract of `add_pieces` stands there.
 pub cut_whole : (day : DayFacts) (pool : Pool) (block : ℕ) (legs : List Leg) →
     cut_on day pool block 1 None legs ≡ pieces_from block 1 (parts day pool legs)
 cut_whole day pool block legs = sym ((cuts day pool block legs).none 1)

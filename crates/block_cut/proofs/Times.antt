@@ -46,6 +46,9 @@ pub timed_lower : (a b to : ℤ) (ls : List Leg) → a ≤ℤ b → AreTimed b t
 timed_lower a b to [] low timed = omega (arith, ints, low, timed)
 timed_lower a b to (l ∷ ls) low timed = (omega (arith, ints, low, timed.0), timed.1, timed.2)
 
+-- Legs between two moments, and legs from the second moment on, are together legs between the first and the last: so a block's legs
+-- can be put together trip by trip, with the moment at which the next trip begins as the seam. Legs may begin later than they must
+-- (`timed_lower`), and those that are left out leave no disorder (`timed_shown`).
 pub timed_append : (a b c : ℤ) (xs ys : List Leg) → AreTimed a b xs → AreTimed b c ys → AreTimed a c (xs ++ ys)
 timed_append a b c [] ys first second = timed_lower a b c ys first second
 timed_append a b c (l ∷ ls) ys first second = (first.0, first.1, timed_append l.end.0 b c ls ys first.2 second)
@@ -60,7 +63,9 @@ pub timed_shown : (a to : ℤ) (ls : List Leg) → AreTimed a to ls → AreTimed
 timed_shown a to [] timed = timed
 timed_shown a to (l ∷ ls) timed = timed_if (is_shown l) a to l (shown ls) timed.0 timed.1 (timed_shown l.end.0 to ls timed.2)
 
--- the legs of a connection fill the time between its trips
+-- The legs of a connection fill the time between its trips: the deadhead begins when the first trip ends, each leg begins when the
+-- one before it ends, and the last one ends when the second trip begins. The stand has what is left of the time, and a connection is
+-- there only where that is not below 0.
 abbrev Fills : Pool → TheTrip → TheTrip → Link → Type 0
 Fills pool t u l = AreTimed t.end.0 u.begin.0 (link_legs pool t u l)
 
@@ -117,7 +122,9 @@ next_or : (day : DayFacts) (pool : Pool) (t : ℕ) (trip next : TheTrip) (o : Op
 next_or day pool t trip next None fills daily some = absurd (cc)
 next_or day pool t trip next (Some l) fills daily some = (omega (arith, ints), daily.order, fills l refl)
 
--- the legs of a trip and of what comes until the next one begins
+-- One trip more keeps the legs in time order: the trip itself, and the connection behind it, lie between the starts of the trip and
+-- of the next one, and stand behind what was there until the first of them. `timed_end` is the same for the last trip and the
+-- pull-in. The contract of `legs` gets from them that the legs lie between midnight and the end of the fourth day.
 pub timed_next : (day : DayFacts) (pool : Pool) (t u : ℕ) (trip next : TheTrip) (old : List Leg) → slice_get day.trips t ≡ Some trip →
     slice_get day.trips u ≡ Some next → IsDaily trip →
     is_some (until_next day pool t u) ≡ true → AreTimed (pos 0) (begin_of day t) old →

@@ -79,6 +79,8 @@ module _ (day : DayFacts) (moment i : ℕ) where
       let test : (t == first) ≡ false = grind (arith, nat_tests) in
       rw test (omega (arith, rest))
 
+  -- A block gives one head, at its first trip: over all numbers of first trips its trips are counted at most as often as they stand
+  -- in the block, since at all other numbers it has no head (`past-none`).
   one-block : (class n first : ℕ) (list : List ℕ) → times_from class n first list ≤ times i list
   one-block class n first [] = none n first
     where
@@ -178,6 +180,9 @@ from-some day moment blocks (suc n) first =
     some-append (heads_at day moment blocks first) (heads_from day moment blocks n (suc first)) (at-some day moment blocks first)
     (from-some day moment blocks n (suc first))
 
+-- The heads of a plan are heads of the day's blocks: none is empty, as it has its first trip; and no trip stands in them twice or is
+-- none of the day, since a trip stands in heads at most as often as in the plan (`heads-times`): once if it is of the day, and never
+-- if not. It is the contract of `heads_are_heads`, which the rest of the day is built on.
 pub heads-are : HeadsAreHeads
 heads-are day counts moment blocks are each =
     let heads : List Head = heads_of day moment blocks in

@@ -134,6 +134,10 @@ module _ (day : DayFacts) (counts : Bool) (pool : Pool) where
       let ends' : end_of day u ≡ next.end.0 = ends_at u next next_is in
       (omega (arith, ints, fits, few, same, order, ends, ends'), omega (arith, ints, ends', in_time))
 
+  -- Without prices the value of an open block is at most the greatest fixed cost and all seconds until the end of its last trip at
+  -- the highest rate. The bound grows with time: a connection and the trip behind it cost no more than the time from the one trip's
+  -- end to the other's at that rate (`added_low`), and so do the pull-out and the first trip. So the worth of each written-out block
+  -- is small enough for the machine, however many trips it has.
   pub opening_low : All IsDaily day.trips → IsPool pool → IsSafe (opening day counts [] pool) (IsLow day)
   opening_low daily ranges = record {
     starts = λ t a e.
@@ -188,6 +192,9 @@ thousand n z none =
 abbrev thousandth_of : Option ℤ → Option ℕ
 thousandth_of o = option_map (λ v. unsigned_abs v / 1000) o
 
+-- The worth of a list is a thousandth of what its label closes with under no prices, and it has none where no label closes: this is
+-- the tie, read with all prices 0. So the code need not cost blocks by itself: it walks labels, whose contract is there already, and
+-- divides.
 pub tied-worth : {L : Type 0} (w : Labelling L) (close : L → Option ℤ) (worth_of : List ℕ → Option ℕ) (list : List ℕ) →
     IsTied w close [] worth_of →
     worth_of list ≡ option_and_then (λ a. option_map (λ v. unsigned_abs v / 1000) (close a)) (label_of w list)

@@ -105,7 +105,8 @@ module _ (day : DayFacts) (moment : ℕ) where
         | false ↦ λ is. head-other first class t ts is
       ] refl
 
-  -- some block begins with a trip, or there is no head at it
+  -- Either some block begins with a trip, and then it is found with its place, or there is no head at this trip. With the next
+  -- lemmas it says what the heads at a trip are, whatever the plan: one at most.
   find-first : (blocks : List Column) (first : ℕ) → BeginsAt blocks first ⊎ (heads_at day moment blocks first ≡ [])
   find-first [] first = inr refl
   find-first (c ∷ cs) first = by (find-first cs first) c.items refl
@@ -137,7 +138,9 @@ module _ (day : DayFacts) (moment : ℕ) where
     | inr is ↦ is
   ]
 
-  -- the heads at a trip are those of the block that begins with it
+  -- The heads at a trip are those of the block that begins with it: each trip stands at most once in a plan, so no other block
+  -- begins with it, and all others give no head there. So heads, which are listed by first trips over all blocks, can be spoken of
+  -- block by block.
   only-first : (blocks : List Column) (first j : ℕ) (c : Column) (ts : List ℕ) → times first (all_items blocks) ≤ 1 →
       slice_get blocks j ≡ Some c → c.items ≡ first ∷ ts →
       heads_at day moment blocks first ≡ head_at day moment first c.class (first ∷ ts)
@@ -158,7 +161,9 @@ module _ (day : DayFacts) (moment : ℕ) where
       let none = not-held first d.class d.items (omega (arith, both, few, some, here, once)) in
       ap (λ (l : List Head). l ++ heads_at day moment ds first) none ∙ only-first ds first j c ts (omega (arith, both, once)) at is
 
-  -- kept trips at the start of a list are kept, and no more
+  -- The kept trips of a block, whatever follows them, are kept again and nothing more: whether a trip is kept hangs on the one
+  -- before it alone. Behind the last kept trip more would be kept only if it had ended before the moment, and then nothing follows.
+  -- So a block that begins with a head has just this head.
   kept-again : (t : ℕ) (ts more : List ℕ) → (ends_before day moment (last_trip t (kept_after day moment t ts)) ≡ true → more ≡ []) →
       kept_after day moment t (kept_after day moment t ts ++ more) ≡ kept_after day moment t ts
   kept-again t [] more ends =
@@ -176,7 +181,8 @@ module _ (day : DayFacts) (moment : ℕ) where
         | false ↦ λ is ends. kept-stop day moment t more (sym is)
       ] refl ends
 
-  -- a list is its kept trips and others, of which there are none where the last kept one has ended
+  -- A block is its kept trips and others; where the last kept one has ended before the moment there are no others, as the next one
+  -- would be kept, too. This is what "begins with a head" asks for (`begins`), a finished head included.
   record HasFront (t : ℕ) (ts : List ℕ) : Type 0 where
     pub more : List ℕ
     pub is : ts ≡ kept_after day moment t ts ++ more
@@ -200,7 +206,8 @@ module _ (day : DayFacts) (moment : ℕ) where
       let f = front first ts in
       record { class = refl; more = f.more; items = is ∙ ap (λ (l : List ℕ). first ∷ l) f.is; finished = f.ends }
 
-  -- the head at a trip stands among all heads
+  -- The head at a trip stands among all heads, and each of all heads comes from a block that begins with its first trip and leaves
+  -- before the moment (`comes-from`). The list of all heads goes over the numbers of first trips; both lemmas go along it.
   heads-there : (blocks : List Column) (n g f : ℕ) (h : Head) → g ≤ f → f < g + n → heads_at day moment blocks f ≡ h ∷ [] →
       (k : ℕ) × (slice_get (begun_of (heads_from day moment blocks n g)) k ≡ Some (begun h))
   heads-there blocks zero g f h from to is = absurd (omega (arith, from, to))
@@ -355,7 +362,9 @@ below-at day (d ∷ ds) (suc j) c are at = below-at day ds j c are.1 at
 
 module _ (day : DayFacts) (moment : ℕ) (earlier blocks : List Column) (once : (i : ℕ) → times i (all_items earlier) ≤ 1)
     (alone : (i : ℕ) → times i (all_items blocks) ≤ 1) where
-  -- where no head of the earlier plan is at a trip there is none of the other
+  -- Where the earlier plan has no head at a trip, a plan that keeps what has begun has none either. Suppose one of its blocks begins
+  -- with this trip and leaves before the moment. Then it begins with no head of the earlier plan, as such a head would be at this
+  -- very trip; so it must be one that may be begun now, which leaves at the moment or later. Both cannot be.
   none-same : KeepsBegun (begun_of (heads_of day moment earlier)) (may_begin day moment) blocks → (f : ℕ) →
       heads_at day moment earlier f ≡ [] → heads_at day moment blocks f ≡ []
   none-same keeps f none = elim (find-first day moment blocks f) [
@@ -388,7 +397,9 @@ module _ (day : DayFacts) (moment : ℕ) (earlier blocks : List Column) (once : 
           let no : true ≡ false = ap empty bad in
           cc
 
-  -- where a head of the earlier plan is at a trip the other has it
+  -- Where the earlier plan has a head at a trip, a plan that keeps what has begun has the same one: some block begins with the
+  -- head's trips, it is the only one with this first trip, it is of the head's pool and so leaves as early, and its kept trips are
+  -- the head's and no more (`kept-again`).
   one-same : KeepsBegun (begun_of (heads_of day moment earlier)) (may_begin day moment) blocks →
       (f class : ℕ) (rest : List ℕ) → f < length day.trips →
       leaves_before day moment class f ≡ true → heads_at day moment earlier f ≡ head_of day moment class f rest ∷ [] →
@@ -421,7 +432,8 @@ module _ (day : DayFacts) (moment : ℕ) (earlier blocks : List Column) (once : 
         ] refl
   ]
 
-  -- a plan keeps what has begun of itself
+  -- Each plan keeps what has begun of itself: a head of it is what the head's own block begins with (`begins`), and a block that
+  -- begins with no head leaves at the moment or later, since otherwise it had a head.
   keeps-own : AreOfDay day blocks → ((j : ℕ) (c : Column) → slice_get blocks j ≡ Some c → c.items ≢ []) →
       KeepsBegun (begun_of (heads_of day moment blocks)) (may_begin day moment) blocks
   keeps-own are some = record {
@@ -451,6 +463,10 @@ module _ (day : DayFacts) (moment : ℕ) (earlier blocks : List Column) (once : 
                 absurd (none k (begun (head_of day moment c.class t ts)) there (begins day moment c t ts e))
           ] refl
 
+-- The main theorem of the file and the contract of `kept_is_same_heads`: a plan keeps what has begun of an earlier one exactly where
+-- both have the same heads. From left to right the heads are equal trip by trip (`kept-same`), hence as lists; from right to left
+-- the plan keeps its own heads, which are the earlier plan's. So what a new plan must keep can be checked by computing its heads and
+-- comparing two lists.
 pub kept-is-same : KeptIsSameHeads
 kept-is-same day counts moment earlier blocks are each plan =
     let of_day = plan-of-day day counts blocks plan.worths in

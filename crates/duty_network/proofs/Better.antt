@@ -50,7 +50,9 @@ pub extended-is : (d : DutyFacts) (g : Group) (prices : List Price) (a : Mark) (
     extended_mark d g prices a k ≡ Some (next_mark g prices a time k q)
 extended-is d g prices a k time p q from to between test = rw (from, to, between, test) refl
 
--- what is had after one piece more is at least as good
+-- Dominance of marks over one piece more, for one pause: the driving since the last full break keeps its order, as both marks have
+-- the same quarter of an hour and so both have a full break there or neither; and values lose the same price. A mark must therefore
+-- have the other's quarter exactly, whereas a long pause may only help.
 pub next_mark-good : (g : Group) (prices : List Price) (a b : Mark) (time k : ℕ) (q : Piece) → IsAtLeastAsGood a b →
     IsAtLeastAsGood (next_mark g prices a time k q) (next_mark g prices b time k q)
 next_mark-good g prices a b time k q good = record {
@@ -72,6 +74,9 @@ is_open-better g a b end good open_b =
     and_true _ _ (and_true _ _ (nat_le-down a.driving b.driving _ good.driving driving) (nat_le-down a.total b.total _ good.total total))
     (int_le-up end a.start.0 b.start.0 _ good.start last)
 
+-- Dominance stays over each further piece: a mark as good as another can be extended wherever the other can, since less driving and
+-- a later sign-on leave it open where the other is (`is_open-better`), and the extensions stand to one another as the marks did. By
+-- this law the search may drop a mark, and a certificate may name few marks for all open duties.
 pub good-kept : (d : DutyFacts) (prices : List Price) (class : ℕ) (g : Group) → IsKept (marking d prices class g) IsAtLeastAsGood
 good-kept d prices class g = record {
   same = λ a. record {

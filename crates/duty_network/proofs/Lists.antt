@@ -26,7 +26,10 @@ use Rattle.duty_network.proofs.Better.{Some-same, and_then-Some, given-Some, ext
 abbrev pub drive_of : ℕ → Piece → Drive
 drive_of time q = record { pause = time; driving = q.driving }
 
--- a mark has a tally's numbers
+-- The file is a simulation: the rules judge all drives of a duty at once, a tally judges them one by one, and a mark keeps of a
+-- tally only the driving since the last full break, the driving in all, and whether a quarter of an hour and a long pause were had.
+-- That a mark has a tally's fields is the relation that is carried along: from the first piece (`first-fields`) over each further
+-- one (`next-fields`), where both do the same with the pause and the driving of the piece.
 pub record FieldsAre (m : Mark) (t : Summary) : Type 0 where
   pub driving : m.driving ≡ t.driving
   pub quarter : m.quarter ≡ t.quarter
@@ -53,7 +56,9 @@ next-fields g prices m t time k q limits f =
       three = three;
     })
 
--- a list that leads from a mark to a later one
+-- What is known of a list that leads from one mark to a later one: its pieces and drives are there, its numbers rise, the later mark
+-- has the fields of the tally over these drives, this tally is fine, and the values differ by the prices of the list. It says all
+-- that the end of a duty is judged by.
 pub record Follows (d : DutyFacts) (g : Group) (prices : List Price) (m : Mark) (p : Piece) (t : Summary)
     (list : List ℕ) (m' : Mark) : Type 0 where
   pub qs : List Piece
@@ -103,7 +108,9 @@ fine-open g m t d end limits fine f e =
     let few : m.total ≤ (limits_of g).day = true-le _ _ total in
     fine-next t d fine (omega (arith, f.driving)) (omega (arith, f.total))
 
--- the list of a later mark
+-- From marks to lists, by induction over the list from any mark: each extension has tested that the piece is a later one, that its
+-- pause is there and that the mark stays open. An open mark with a tally's numbers means a fine tally (`fine-open`), so the tally of
+-- the whole list is fine if all marks on the way are there.
 from-label : (d : DutyFacts) (prices : List Price) (class : ℕ) (g : Group) (list : List ℕ) (m m' : Mark) (p : Piece) (t : Summary) →
     slice_get d.pieces m.piece ≡ Some p → t.limits ≡ limits_of g → FieldsAre m t → IsFine t →
     label_after (marking d prices class g) (Some m) list ≡ Some m' → Follows d g prices m p t list m'
@@ -177,7 +184,9 @@ onto-seconds z n e = ap seconds e
 onto-span : (on off : ℤ) (time : ℕ) → off ≡ on +ℤ pos time → seconds (off -ℤ on) ≡ Some time
 onto-span on off time e = onto-seconds (off -ℤ on) time (omega (arith, ints))
 
--- a piece ends before a later one begins
+-- A pause between two pieces is there only where the second one begins when the first has ended, or later: in one block it is all
+-- the time between them, else what is left after handover and way, and seconds are not below 0. Therefore the last piece of a list
+-- ends last (`ends-rise`), and a list that ends within 15 hours of its sign-on has done so all along.
 pub pause-order : (d : DutyFacts) (p q : Piece) (time : ℕ) → pause d p q ≡ Some time → p.end.0 ≤ℤ q.begin.0
 pause-order d p q time e = order-cases (follows p q) p.end.0 q.begin.0 d.params.settings.handover time (way_in d.params p.to q.from) e
 
@@ -226,7 +235,9 @@ drives-bounded d p (q ∷ qs) ds h e =
     let P : List Drive → Type 0 = λ l. AreBounded l in
     subst P same (h.0.driving, drives-bounded d q qs rest h.1 is_rest)
 
--- each list that stays fine and ends in time has marks for all its prefixes
+-- From lists to marks: if the tally over all drives is fine and the last piece ends within 15 hours of sign-on, the list has a mark,
+-- and so has each list that it goes on from. A fine tally was fine after each piece (`run-fine-back`), and each piece ends no later
+-- than the last one, so no test on the way fails. By it no lawful duty is lost when open lists are cut off early.
 onto-label : (d : DutyFacts) (prices : List Price) (class : ℕ) (g : Group) (list : List ℕ) (qs : List Piece) (ds : List Drive)
     (m : Mark) (p : Piece) (t : Summary) →
     slice_get d.pieces m.piece ≡ Some p → t.limits ≡ limits_of g → FieldsAre m t → IsFine (run t ds) → AreTimed qs →
@@ -284,6 +295,9 @@ product (suc rate) time on =
     let more : suc rate * time ≡ rate * time + time = suc-times rate time in
     omega (arith, ints, product rate time on)
 
+-- The value of a duty in sums: the mark takes a thousand times the fixed cost less the rate times sign-on at the start, prices on
+-- the way, and the rate times sign-off at the end; together this is a thousand times the fixed cost and the rate times the spread,
+-- less all prices. The spread's cost is split in two so that a mark need not know when the duty will end.
 value-sum : (counts : Bool) (fixed rate time : ℕ) (on off price rest last : ℤ) → off ≡ on +ℤ pos time →
     last +ℤ rest ≡ (cond counts (pos 1000) (pos 1000 *ℤ (pos fixed -ℤ (pos rate *ℤ on))) -ℤ price) →
     last +ℤ cond counts (pos 0) (pos 1000 *ℤ (pos rate *ℤ off)) ≡ (pos (1000 * cond counts 1 (fixed + rate * time)) -ℤ (price +ℤ rest))
@@ -320,7 +334,9 @@ first-is : (d : DutyFacts) (prices : List Price) (class : ℕ) (g : Group) (k : 
     first_mark d prices class g k ≡ Some (one_mark d.counts prices class g k p on)
 first-is d prices class g k p on is_p is_on test = rw (is_p, is_on, test) refl
 
--- a mark with the fields of a list's tally closes where the list is lawful, and only there
+-- At the end of a list: a mark with the fields of a fine tally closes where the spread keeps the tally's limit, which is the longer
+-- one behind a long pause; and where it closes the spread keeps that limit (`fields-close`). So the last test of the search is just
+-- what the articles still ask.
 close-fields : (g : Group) (m : Mark) (t : Summary) (off on : ℤ) (time : ℕ) → t.limits ≡ limits_of g → FieldsAre m t → IsFine t →
     m.start.0 ≡ on → off ≡ on +ℤ pos time →
     time ≤ cond t.long t.limits.long_spread t.limits.spread → closes_lawfully g m off ≡ true
@@ -350,7 +366,9 @@ fields-close g m t off on time limits f start is_time e =
 abbrev pub duty_from : Group → Piece → List Drive → ℤ → ℤ → ℕ → Duty
 duty_from g p ds on off time = record { group = g; drives = drive_of 0 p ∷ ds; on = on; off = off; spread = time }
 
--- a list of a piece and further ones that is a duty
+-- A list as a duty, taken apart: pieces, drives, sign-on, sign-off and spread, each with the equation that says what it is. The
+-- definition is a chain of values that may be missing; `duty-parts` goes along it once and for all, and `parts-duty` back. With the
+-- verdict and the worth it is `DutyParts`. All other proofs work with the parts.
 pub record IsDuty (d : DutyFacts) (g : Group) (k : ℕ) (ks : List ℕ) (duty : Duty) : Type 0 where
   pub p : Piece
   pub qs : List Piece
@@ -500,7 +518,8 @@ worth-parts d class g k ks worth is_g x =
     let lawful = x.lawful in let worth_is = x.worth_is in
     rw (there, lawful, worth_is) refl
 
--- the tally and the marks of a lawful list
+-- What a lawful list leads to: a mark of the whole list, which stands at its last piece, has its tally's numbers, and began at its
+-- sign-on. It joins both directions: `onto-label` gives the mark, and `from-label` what is known of it.
 record Ends (d : DutyFacts) (prices : List Price) (class : ℕ) (g : Group) (k : ℕ) (ks : List ℕ) (p : Piece) (qs : List Piece)
     (ds : List Drive) (on : ℤ) : Type 0 where
   last : Mark
@@ -549,6 +568,9 @@ short t g time limits below =
     let low = limit-low t.long g.reduced in
     omega arith
 
+-- From a lawful duty to a mark that closes with its value: a lawful list has a fine tally and a spread within the limit
+-- (`lawful-from`), and no spread is longer than 15 hours, so its last piece ends within these, the list has a mark (`ends-of`), and
+-- the mark closes (`close-fields`). The sum of its values is the duty's value.
 parts-close : (d : DutyFacts) (prices : List Price) (class : ℕ) (g : Group) (k : ℕ) (ks : List ℕ) (worth : ℕ) → AreTimed d.pieces →
     DutyParts d g k ks worth →
     (m : Mark) × (label_of (marking d prices class g) (k ∷ ks) ≡ Some m) × (closed_value d g m ≡ Some (value_of prices worth (k ∷ ks)))
@@ -584,7 +606,10 @@ none-empty d class worth e =
     none-after (λ (duty : Duty). given (is_lawful (limits_of duty.group) duty.drives duty.spread) (Some (cost_of d.counts duty)))
     (slice_get d.params.groups class) worth e
 
--- a list with a worth has a mark that closes
+-- The first half of the tie of duties: a list with a worth has a mark that closes with its value. With the second half,
+-- `closes-worth`, the marks that close are exactly the lawful duties. The search for the best duty and the check of a certificate's
+-- marks both read duties off marks, and rest on this; that the rules judge whole duties and marks forget all but a few numbers is
+-- settled here.
 pub worth-closes : (d : DutyFacts) (prices : List Price) (class : ℕ) (g : Group) →
     slice_get d.params.groups class ≡ Some g → AreTimed d.pieces →
     (list : List ℕ) (worth : ℕ) → duty_worth d class list ≡ Some worth →
@@ -617,7 +642,9 @@ open-first g m p end driving total e =
     let few' : m.total ≤ (limits_of g).day = true-le _ _ few in
     first-fine g p (omega arith) (omega arith)
 
--- a list whose label is a mark, in parts
+-- From a mark that closes to a lawful duty: the marks on the way give pieces, drives and a fine tally (`from-label`), sign-off is
+-- not before sign-on since pieces follow one another, so there is a spread, and it keeps the limit as the mark closes
+-- (`fields-close`). Then the articles are kept (`lawful-onto`).
 closes-parts : (d : DutyFacts) (prices : List Price) (class : ℕ) (g : Group) (k : ℕ) (ks : List ℕ) (m : Mark) (v : ℤ) (p : Piece) (on : ℤ) →
     AreTimed d.pieces →
     slice_get d.pieces k ≡ Some p → sign_on d g p ≡ Some on → IsFine (tally_after (no_drives (limits_of g)) (drive_of 0 p)) →

@@ -34,7 +34,9 @@ more-walked : (ds : List Drive) (y : Drive) (o : Option (List Drive)) →
 more-walked ds y None = refl
 more-walked ds y (Some l) = ap (λ (m : List Drive). Some m) (sym (append_assoc ds (y ∷ []) l))
 
--- one piece more
+-- One piece more in the loop over a list: the drives so far, with those that the rest of the list gives behind them, are the drives
+-- of the whole. The rest is spoken of by the function that walks it, so that the invariant also knows when the list breaks off:
+-- where the next number does not rise, or has no pause, the whole list has no drives (`walked-stops`).
 pub walked-more : (d : DutyFacts) (k : ℕ) (ks : List ℕ) (j x : ℕ) (xs : List ℕ) (ds : List Drive) (time : ℕ) (q : Piece) →
     IsWalked d k ks j (x ∷ xs) ds →
     nat_lt j x ≡ true → pause_at d j x ≡ Some time → slice_get d.pieces x ≡ Some q → IsWalked d k ks x xs (ds ++ drive_of time q ∷ [])
@@ -79,6 +81,9 @@ pub tallying-none : (d : DutyFacts) (k : ℕ) (ks : List ℕ) (first : Drive) (t
 tallying-none d k ks first tally below stands =
     record { ds = []; walked = walked-none d k ks; stands = stands; few = omega arith; there = below }
 
+-- The same with the tally: it stands for the first drive and those that were walked, and the last piece is one of the net. The
+-- loop's tests decide between this step and the two ways of breaking off (`tallying-falls`, `tallying-stops`), each of which says
+-- that the list is no duty.
 pub tallying-more : (d : DutyFacts) (k : ℕ) (ks : List ℕ) (first : Drive) (j x : ℕ) (xs : List ℕ) (tally tally' : Summary) (time : ℕ)
     (q : Piece) → IsTallying d k ks first j (x ∷ xs) tally →
     j < x → nat_lt j x ≡ true → pause_at d j x ≡ Some time → slice_get d.pieces x ≡ Some q →
@@ -183,6 +188,9 @@ pause-numbers : (d : DutyFacts) (j x : ℕ) (p q : Piece) → slice_get d.pieces
     pause_at d j x ≡ pause d p q
 pause-numbers d j x p q from to = rw (from, to) refl
 
+-- A walk by numbers is a list of pieces: where the drives behind a piece can be walked, the pieces are there, their drives are
+-- those, the numbers rise, and the last number is that of the last piece. `onto-walk` is the way back. The code walks numbers and
+-- looks pauses up; the rules speak of pieces; the two lemmas let each contract of the walk be one of the rules.
 pub from-walk : (d : DutyFacts) (ks : List ℕ) (k : ℕ) (p : Piece) (ds : List Drive) → slice_get d.pieces k ≡ Some p →
     drives_on d k ks ≡ Some ds → Along d k p ks ds
 from-walk d [] k p ds here e = record { qs = []; pieces = refl; drives = e; rising = refl; last = here }
@@ -232,6 +240,9 @@ none-if : {A : Type 0} (o : Option A) → ((x : A) → o ≡ Some x → ⊥) →
 none-if None h = refl
 none-if (Some x) h = absurd (h x refl)
 
+-- Where the walk breaks off there is no duty: a duty has drives, and by `onto-walk` these would have been walked. The same holds
+-- where sign-on, sign-off or the spread between them is missing (`none-span`). So the code may answer "no duty" at the first thing
+-- that is missing.
 pub none-walk : (d : DutyFacts) (class : ℕ) (g : Group) (k : ℕ) (ks : List ℕ) (p : Piece) → slice_get d.params.groups class ≡ Some g →
     slice_get d.pieces k ≡ Some p → drives_on d k ks ≡ None → duty_of d class (k ∷ ks) ≡ None
 none-walk d class g k ks p is_g is_p none = none-if (duty_of d class (k ∷ ks)) (λ duty e.
@@ -251,7 +262,9 @@ none-span d class g k ks p q is_g is_p is_q none = none-if (duty_of d class (k �
     let same_q : last_piece x.p x.qs ≡ q = Some-same (last_piece x.p x.qs) q (sym y.last ∙ is_q) in
     none x.on x.off x.time (ap (sign_on d g) (sym same_p) ∙ x.sign_on_is) (ap (sign_off d g) (sym same_q) ∙ x.sign_off_is) x.span)
 
--- a list with a course is a duty
+-- A list that was walked, with a sign-on, a sign-off and a spread between them, is a duty, and the course that the code holds is its
+-- course: same group, limits, drives by the tally, and times. With the lemmas on missing parts no case is left, so `course_from`
+-- decides what a list is.
 pub course-of : (d : DutyFacts) (class : ℕ) (g : Group) (k : ℕ) (ks : List ℕ) (p q : Piece) (last : ℕ) (tally : Summary) (course : Course) →
     slice_get d.params.groups class ≡ Some g → slice_get d.pieces k ≡ Some p →
     slice_get d.pieces last ≡ Some q → IsTallied d k ks (drive_of 0 p) last tally → tally.limits ≡ limits_of g →
@@ -296,7 +309,9 @@ lawful-false drives spread limits v j not = elim (is_lawful limits drives spread
   | false ↦ λ is. refl
 ] refl
 
--- the worth of a duty by its verdict
+-- From the verdict to the worth: the tally's verdict on the drives is the one of `judge`, and "lawful" by the verdict is lawful by
+-- the test over all intervals, which the worth is defined by. So the worth is the cost of the spread where the verdict is lawful,
+-- and none where it is not (`worth-unlawful`).
 pub worth-lawful : (d : DutyFacts) (class : ℕ) (list : List ℕ) (g : Group) (duty : Duty) (course : Course) →
     duty_of d class list ≡ Some duty → IsCourse d g duty course →
     Judged duty.drives course.spread course.tally.limits Lawful →

@@ -58,7 +58,9 @@ rows-with P rows i k row below old new = split (P (row_at (set rows i row) k)) k
     (λ e. let Q : ℕ → Type 0 = λ n. P (row_at (set rows i row) n) in subst Q (sym e) (subst P (sym (row-here rows i row below)) new))
     (λ n. subst P (sym (row-others rows i k row n)) old)
 
--- a smaller number is not undercut either
+-- What a bound of going on with a piece may be changed by: a smaller number is still one, and so is a number by a table that is
+-- nowhere higher (`under-below`); and it hangs on the piece's own row alone (`under-same`). As tables are made from the last piece
+-- back, these three carry what is known over to the next step.
 pub under-less : (d : DutyFacts) (prices : List Price) (r : Reach) (rows : List (List ℤ)) (next x : ℕ) (z w : ℤ) →
     IsUnder d prices r rows next x w → z ≤ℤ w → IsUnder d prices r rows next x z
 under-less d prices r rows next x z w u less q is_q in_time taken small = let own = u q is_q in_time taken small in omega (arith, ints)
@@ -87,7 +89,10 @@ under-same d prices r old new next x z same u q is_q in_time taken small =
     ap (λ l. number_at l (x - q.driving / r.unit)) same in
     omega (arith, ints)
 
--- a row lowered to what going on with a piece adds
+-- Looking at one piece more: the row is lowered, for each amount of driving that is left, to the piece's number for what is left
+-- behind it, less the piece's price. Afterwards going on with this piece does not undercut the row; nothing was raised, so what was
+-- known stays; and a row that is not too low is not so after it, as a piece takes at most the greatest price off. Where no list in
+-- time goes on with the piece, the row may stay as it is (`not-lowered`).
 pub lowered-by : (d : DutyFacts) (prices : List Price) (r : Reach) (rows : List (List ℤ)) (next : ℕ) (q : Piece) (old new : List ℤ) →
     IsReach r → slice_get d.pieces next ≡ Some q →
     AllWithin 10000000000000 prices → IsLow (low_of next) (row_at rows next) →
@@ -128,7 +133,8 @@ kept-either : (is : Bool) (d : DutyFacts) (prices : List Price) (r : Reach) (old
 kept-either true d prices r old new over above next x z same also u = under-same d prices r over above next x z also u
 kept-either false d prices r old new over above next x z same also u = under-same d prices r old new next x z same u
 
--- what is said of a row hangs on later rows alone
+-- What is said of a piece's row speaks of later rows only, since a list goes on with later pieces. So rows that are put in at
+-- earlier places change nothing of it, and the table can be filled from its end.
 pub kept-row : (d : DutyFacts) (prices : List Price) (g : Group) (r : Reach) (long : ℕ) (last : ℤ) (old new over above : List (List ℤ))
     (k : ℕ) (row : List ℤ) →
     IsBoundRow d prices g r long last old over k row → ((n : ℕ) → k < n → row_at new n ≡ row_at old n) →
@@ -154,6 +160,9 @@ more-rows n k rows row a below falling low =
           (λ apart. subst (IsLow (low_of m)) (sym (row-others rows k m row apart)) (a.low m (omega arith) to));
     }
 
+-- The step of the loop over pieces, from the last one back: a row that is a bound behind its piece, that falls with the driving left
+-- and is not too low, put at its place, makes the table one of bounds from this piece on. At the end, from the first piece on, the
+-- table bounds each continuation of each list: this is the completion bound that the search cuts off by.
 pub placed : (d : DutyFacts) (prices : List Price) (g : Group) (r : Reach) (long : ℕ) (last : ℤ) (k : ℕ)
     (rows over above : List (List ℤ)) (row : List ℤ) →
     IsBoundFrom d prices g r long last (k + 1) rows over → k < length d.pieces → IsBoundRow d prices g r long last rows over k row →
@@ -261,6 +270,8 @@ more-out n rows a =
 pub out-rows : (n : ℕ) (rows : List (List ℤ)) → AreOut n rows → AreRows n n rows
 out-rows n rows a = record { count = a.count; falling = a.falling; low = λ k from to. absurd (omega arith) }
 
+-- Before any piece is looked at, nothing is asked of any row, so rows out of reach (more than any ending adds) are a good beginning:
+-- they only have to fall, and to stand above all other tables (`out-below`). Chains and tails begin likewise.
 pub unbounded : (d : DutyFacts) (prices : List Price) (g : Group) (r : Reach) (long : ℕ) (last : ℤ) (rows over : List (List ℤ)) →
     AreOut (length d.pieces) rows →
     IsBoundFrom d prices g r long last (length d.pieces) rows over
@@ -351,7 +362,9 @@ tail-order : (numbers : List ℕ) (item later : ℕ) → item ≤ later → entr
 tail-order numbers item later from other =
     split (item + 1 ≤ later) later item (λ e. absurd (other (ap (entry_at numbers) e))) (λ n. omega arith)
 
--- the row of a number lowered by one piece more
+-- Pieces that begin at one point have one number, and for each number the tail keeps one row: the least of what going on with any of
+-- its pieces from a place on adds. One piece more lowers the row of its own number and leaves the others; the later pieces of this
+-- number do not undercut the lowered row either (`under-less`).
 pub tailed : (d : DutyFacts) (prices : List Price) (r : Reach) (numbers : List ℕ) (rows tail : List (List ℤ)) (item : ℕ) (row : List ℤ) →
     item < length d.pieces →
     AreNumbered (length d.pieces) numbers → IsTail d prices r numbers rows (item + 1) tail →
@@ -384,7 +397,10 @@ tailed d prices r numbers rows tail item row below n t l =
           subst Q (sym (row-others tail number (entry_at numbers later) row other)) (t.under later x later_on to));
     }
 
--- a row more in the chain
+-- The chain keeps, for each piece, the tail of its number as it was when the piece was looked at: going on with it, or with any
+-- later piece of its number, does not undercut this row. So behind an earlier piece one look at the first piece of a number that may
+-- follow is enough for all of them; whether there is a pause before each of the later ones does not matter, as a bound may only be
+-- too low.
 pub chained : (d : DutyFacts) (prices : List Price) (r : Reach) (numbers : List ℕ) (rows chain tail : List (List ℤ)) (item : ℕ)
     (row : List ℤ) → item < length d.pieces →
     IsChain d prices r numbers rows (item + 1) chain → IsTail d prices r numbers rows item tail →
@@ -419,7 +435,10 @@ same-over false rows = refl
 all-over : (time : ℕ) (rows : List (List ℤ)) → behind 0 time rows rows ≡ rows
 all-over time rows = same-over (nat_le 0 time) rows
 
--- a row raised to that of lists with a long pause
+-- A list without a long pause so far may be bounded by two tables: by its own, which asks that it ends in time for the shorter
+-- spread unless a long pause comes, and by the one of lists that had a long pause, which asks less. Both are bounds of it, so the
+-- greater of the two is one, for each amount of driving left. Raising keeps what is known of rows: they fall (`raised-falls`), are
+-- not too low, and stand above the other table (`raised-below`).
 pub raised-row : (d : DutyFacts) (prices : List Price) (g : Group) (r : Reach) (last : ℤ) (rows over : List (List ℤ)) (k : ℕ)
     (old new by : List ℤ) → IsReach r → AreBelow over rows → last ≤ℤ r.until →
     IsBoundRow d prices g r 10800 last rows over k old → IsBoundRow d prices g r 0 r.until over over k by → IsRaised old new by 16 →

@@ -66,6 +66,9 @@ module _ (d : DutyFacts) (class : ℕ) (g : Group) (prices early : List Price) w
         ap (λ o. label_after (duty_labels d early class g first stop) o xs) (extended-same m x (alike x h.0))
         ∙ after-same (extended_mark d g prices m x) xs h.1
 
+    -- A list whose pieces all come before an end has the same mark by the prices and by those that are the same before the end: its
+    -- first mark and each extension read the price of their own piece alone (`first-same`, `extended-same`). The search before an
+    -- end may therefore use prices under which going on behind the end never pays.
     label-same : AreSameBefore (duty_labels d prices class g first stop) (duty_labels d early class g first stop) end
     label-same [] h = refl
     label-same (x ∷ xs) h =

@@ -108,7 +108,9 @@ by-direct d prices r long time rows over item direct old new order is_time l = r
       subst P one (l.under x);
 }
 
--- no going on with a piece of a number from its first one on undercuts a row that is lowered by the chain there
+-- A later piece after a pause comes no earlier than the first piece of its number that has such a pause. The row was lowered to the
+-- chain's row there, which no going on with this or a later piece of the number undercuts; so the piece does not undercut the row,
+-- though it was never looked at by itself.
 under-first : (d : DutyFacts) (prices : List Price) (r : Reach) (numbers : List ℕ) (rows chain : List (List ℤ)) (Such : ℕ → Type 0)
     (firsts : List ℕ) (k direct later time x : ℕ) (old row : List ℤ) (z : ℤ) →
     IsChain d prices r numbers rows (k + 1) chain → AreFirsts d numbers k direct Such firsts →
@@ -126,7 +128,10 @@ under-first d prices r numbers rows chain Such firsts k direct later time x old 
     let most = l.under m x known (omega arith) small in
     omega (arith, ints)
 
--- the row that is made: by ending behind the piece, the one that follows directly, and the chains of lists without and with a long pause
+-- The row that is made for a piece is a bound behind it, put together from its steps: it starts at what ending there adds; it is
+-- lowered to the piece that follows directly, to the chains behind short pauses by the rows of lists without a long pause, to those
+-- behind long pauses by the rows of lists with one, and made to fall. Each later step only lowers, so what an earlier one reached
+-- stays; and each later piece is reached by one of them.
 pub bounded : (d : DutyFacts) (prices : List Price) (g : Group) (r : Reach) (long : ℕ) (last : ℤ) (numbers : List ℕ)
     (rows over chain over_chain : List (List ℤ)) (near far : List ℕ) (k direct : ℕ)
     (value : ℤ) (one two three new : List ℤ) → IsReach r →

@@ -89,6 +89,9 @@ settle-begun row = record {
   least = λ z h. h;
 }
 
+-- Making a row fall: from left to right each number is lowered to the one before it, if it was above. A bound that is lowered is
+-- still one, and no number gets below the least of the row. A mark at least as good as another has no less driving left; by a row
+-- that falls it is bounded by no more than the other, as the search asks of a test that hides no list.
 pub settle-more : (old row new : List ℤ) (place : ℕ) → 1 ≤ place → place < 16 → IsSettled old row place →
     IsLowered row new place (number_at row (place - 1)) → IsSettled old new (place + 1)
 settle-more old row new place some small s l = record {

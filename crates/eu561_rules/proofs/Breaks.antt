@@ -90,7 +90,9 @@ KeepsArticle7-append limits xs d n h keeps = λ i j order below free.
     let within : j < length xs = omega arith in
     rw (driving_within-append xs d i j within) (keeps i j order below (BreakFree-append xs d i j within free))
 
--- where the last period keeps the limit too, all intervals do
+-- If all intervals before the last driving period keep the limit, and the whole last period does, then all intervals do. One without
+-- a full break inside that ends before the period is known; one that ends in it cannot begin before it, as the period begins with a
+-- full break; and one inside drives no more than the whole (`part-le`). So of all intervals only whole periods need be looked at.
 pub last-keeps : (limits : Limits) (xs : List Drive) (first : ℕ) → BeginsLast xs first →
     KeepsArticle7 limits xs first → driving_of (drop first xs) ≤ limits.block → KeepsArticle7 limits xs (length xs)
 last-keeps limits xs first last keeps small = λ i j order below free.
@@ -111,7 +113,9 @@ last-keeps limits xs first last keeps small = λ i j order below free.
 pub length-more : (xs : List Drive) (d : Drive) → length (xs ++ d ∷ []) ≡ length xs + 1
 length-more xs d = length-append {A = Drive} xs (d ∷ [])
 
--- the last period, where it has too much driving, is the first that has
+-- The last driving period, where it has too much driving and all before it is kept, is the first with too much: it begins with a
+-- full break or with the duty, ends with the duty, and has no full break inside. `IsFirstExcess-append` keeps this when a drive is
+-- added, as long as the period had ended or ends with the new pause.
 pub last-exceeds : (limits : Limits) (xs : List Drive) (first : ℕ) → BeginsLast xs first → KeepsArticle7 limits xs first →
     limits.block < driving_of (drop first xs) → IsFirstExcess limits xs first (length xs - 1) (driving_of (drop first xs))
 last-exceeds limits xs first last keeps more =

@@ -69,6 +69,9 @@ test-free drives i j e (suc k) above below =
     let P : ℕ → Type 0 = λ n. is_full_break drives n ≡ false in
     subst P next (from-not _ one)
 
+-- Article 7 as a test over all pairs of drives says what the article's definition says: for each two drives with no full break
+-- between them the driving within keeps the limit. The test for "no full break between" is the definition, too (`free-test`,
+-- `test-free`), so both directions are a passage from "all below" to "for each".
 pub keeps-from : (limits : Limits) (drives : List Drive) → keeps_article7 limits drives ≡ true → KeepsArticle7 limits drives (length drives)
 keeps-from limits drives e i j order below free =
     let at_j = all_below-true (length drives) _ e j below in
@@ -107,6 +110,9 @@ longer (x ∷ xs) d = omega arith
 none-longer : (xs : List Drive) → 0 < length xs → xs ≡ [] → ⊥
 none-longer xs h e = let none : length xs ≡ 0 = ap length e in omega arith
 
+-- A tally to which drives are added one by one stands for the list of all of them. The induction is over the drives to come, with
+-- any drives before, of which there is at least one: only the first drive of a duty must have no pause, and this is known from the
+-- start on.
 run-more : (t : Summary) (xs ds : List Drive) → 0 < length xs → AreBounded ds → StandsFor t xs → StandsFor (run t ds) (xs ++ ds)
 run-more t xs [] some b s = rw append-nil s
 run-more t xs (d ∷ ds) some b s =
@@ -135,7 +141,9 @@ none-closed : (over : Option Excess) (e : Excess) (block driving : ℕ) → over
     cond (is_none over && nat_lt block driving) (Some e) over ≡ None
 none-closed over e block driving none small = let test : nat_lt block driving ≡ false = grind (arith, nat_tests) in rw (none, test) refl
 
--- a fine tally was fine before its last drive
+-- A tally that is fine (articles 6 and 7 kept so far) was fine before its last drive: sums only grow, a driving period that had too
+-- much when it closed stays noted, and one that is still open has no less with the drive. So a duty that is lawful at its end was
+-- fine after each piece, and a search may drop an open duty as soon as its tally is not.
 pub fine-back : (t : Summary) (d : Drive) → IsFine (tally_after t d) → IsFine t
 fine-back t d = either (λ (t' : Summary). IsFine t' → IsFine t) (completes_break t.quarter d.pause) _ _
     (λ full f. let (none, small) =
@@ -147,7 +155,9 @@ pub run-fine-back : (t : Summary) (ds : List Drive) → IsFine (run t ds) → Is
 run-fine-back t [] f = f
 run-fine-back t (d ∷ ds) f = fine-back t d (run-fine-back (tally_after t d) ds f)
 
--- and is after one drive more that keeps the limits
+-- A fine tally stays fine with one drive more if two numbers that it has then keep their limits: the driving of the last period and
+-- the driving in all. If the pause before the drive is a full break, the period that it closes kept the limit already, as the tally
+-- was fine. So a label need keep no note of earlier periods.
 pub fine-next : (t : Summary) (d : Drive) → IsFine t → (tally_after t d).driving ≤ t.limits.block → (tally_after t d).total ≤ t.limits.day →
     IsFine (tally_after t d)
 fine-next t d f = either (λ (t' : Summary). t'.driving ≤ t.limits.block → t'.total ≤ t.limits.day → IsFine t')
@@ -171,6 +181,9 @@ over-none : (limits : Limits) (drives : List Drive) (first : ℕ) (over : Option
 over-none limits drives first None keeps c = refl
 over-none limits drives first (Some e) keeps c = absurd (no-excess limits drives e.first e.last e.driving keeps c.0)
 
+-- A duty that is lawful by the definition, which speaks of all intervals of its drives, has a fine tally whose spread keeps the
+-- tally's limit: no period can be noted as having too much, and the last period is an interval without a full break, so it keeps the
+-- limit, too.
 pub lawful-from : (t : Summary) (drives : List Drive) (time : ℕ) → StandsFor t drives → is_lawful t.limits drives time ≡ true →
     IsFine t × (time ≤ cond t.long t.limits.long_spread t.limits.spread)
 lawful-from t drives time s e =
@@ -191,6 +204,9 @@ lawful-from t drives time s e =
       (let limit = spread_limit-is t drives s in rw limit at (true-le _ _ last)),
     )
 
+-- A fine tally with a spread within its limit makes the duty lawful: all closed periods and the last one keep the limit, and each
+-- interval with no full break inside lies in one period (`keeps-all`). With `lawful-from` a few numbers decide what the articles say
+-- of all intervals; labels and marks of open duties, which keep only these numbers, rest on it.
 pub lawful-onto : (t : Summary) (drives : List Drive) (time : ℕ) → StandsFor t drives → IsFine t →
     time ≤ cond t.long t.limits.long_spread t.limits.spread →
     is_lawful t.limits drives time ≡ true

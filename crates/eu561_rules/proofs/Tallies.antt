@@ -19,6 +19,9 @@ at_least_one : (xs : List Drive) (d : Drive) (q : Bool) → (xs ≡ [] → d.pau
 at_least_one [] d q h full = let none : d.pause ≡ 0 = h refl in absurd (grind (arith, nat_tests))
 at_least_one (x ∷ xs) d q h full = omega arith
 
+-- A full break closes the last driving period: if a period with too much was noted before, the first such stays the first; if none
+-- was and the closed one has too much, it is the first, as all before it keep the limit; and if it has not, all periods up to the
+-- new drive keep the limit. These are the three cases of what the tally notes.
 pub closed-over : (limits : Limits) (xs : List Drive) (d : Drive) (over : Option Excess) (first count driving : ℕ) →
     count ≡ length xs → 0 < length xs → driving ≡ driving_of (drop first xs) → BeginsLast xs first →
     is_full_break (xs ++ d ∷ []) (length xs) ≡ true → ClosedExcess limits xs first over →
@@ -59,6 +62,10 @@ ClosedExcess-append limits xs d first (Some e) h c = (
       length-more xs d in let below = c.1 in omega arith),
 )
 
+-- The invariant of the tally: with one drive more it stands for the list with this drive behind. Where the pause is a full break,
+-- the period before it is closed (`closed-over`) and a new one begins at this drive; else the last period goes on, and what was a
+-- full break before still is one, since that hangs on earlier pauses only. The contracts of `add` and so of `judge` are this lemma,
+-- step by step; a tally of constant size suffices for any number of drives.
 pub StandsFor-after : (t : Summary) (d : Drive) (xs : List Drive) → d.driving ≤ 4294967295 → (xs ≡ [] → d.pause ≡ 0) →
     StandsFor t xs → StandsFor (tally_after t d) (xs ++ d ∷ [])
 StandsFor-after t d xs fits start s =
@@ -121,6 +128,8 @@ IsSmall-from t xs s =
     let whole : driving_of (drop t.first xs) ≤ driving_of xs = rw take-whole at part in
     record { total = rw (s.total, s.count) s.small; driving = rw (s.driving, s.total) whole }
 
+-- Where nothing was noted and the last period keeps the limit, all intervals do, up to the end of the drives: it turns what the
+-- tally knows back into the definition of article 7.
 pub keeps-all : (t : Summary) (xs : List Drive) → StandsFor t xs → t.over ≡ None → t.driving ≤ t.limits.block →
     KeepsArticle7 t.limits xs (length xs)
 keeps-all t xs s none small =

@@ -8,7 +8,9 @@ use Rattle.eu561_rules.specs.declared.rules.Verdict.TheVariants.{Lawful, Art6, A
 use Rattle.eu561_rules.specs.Duty.{driving_of, IsFirstExcess, BreaksArticle7, BreaksArticle8, IsLawful, Judged}
 use Rattle.eu561_rules.proofs.Runs.{no-excess}
 
--- no first excess begins after another
+-- No first driving period with too much begins after another: it begins with a full break. If the other has ended by then, it is one
+-- of the intervals before that keep the limit; if not, it has a full break inside. With `not-longer`, for two that begin together,
+-- there is just one.
 not-after : (limits : Limits) (drives : List Drive) (i j a i' j' b : ℕ) → IsFirstExcess limits drives i j a →
     IsFirstExcess limits drives i' j' b → i < i' → ⊥
 not-after limits drives i j a i' j' b e f less =
@@ -29,7 +31,8 @@ not-longer limits drives i j a j' b e f less =
       | inr full ↦ false≢true (sym (f.period.free (j + 1) (omega (arith, e.period.order)) (omega arith)) ∙ full)
     ]
 
--- there is one first excess
+-- A duty has one first driving period with too much driving, with its places and its driving. So the verdict under article 7 is
+-- determined by the drives, and "the answer is this period" is the same as "this period breaks the article", in both directions.
 pub one-excess : (limits : Limits) (drives : List Drive) (i j a i' j' b : ℕ) → IsFirstExcess limits drives i j a →
     IsFirstExcess limits drives i' j' b →
     Art7 i j a ≡ Art7 i' j' b
@@ -47,6 +50,9 @@ one-excess limits drives i j a i' j' b e f =
     e.driving_is ∙ sym same.driving_is) in
     cc
 
+-- From "the verdict names the first article that is broken" to one equivalence for each verdict. The four cases exclude one another:
+-- each later one says that the earlier articles are kept. So who reads a contract of `judge` may start from either side, the answer
+-- or the breach; the next three lemmas are the same for articles 7 and 8 and for lawful duties.
 pub judged-art6 : (drives : List Drive) (spread : ℕ) (limits : Limits) (v : Verdict) → Judged drives spread limits v →
     (v ≡ Art6 (driving_of drives)) ↔ (limits.day < driving_of drives)
 judged-art6 drives spread limits (Art6 driving) j =

@@ -47,7 +47,10 @@ or_true : (a b : Bool) → (a ≡ true) ⊎ (b ≡ true) → (a || b) ≡ true
 or_true true b h = refl
 or_true false b h = elim h [ inl e ↦ absurd (cc) | inr e ↦ e ]
 
--- where a quarter is left behind, some pause left it
+-- Article 7 allows 45 minutes in two parts. The recursion carries along whether a part of at least 15 minutes stands after the last
+-- full break; the words say that some earlier pause was that long, with no full break at it or since. This is the way from the
+-- carried mark to the pause: the latest drive left it, or it was there before and no full break came; `quarter-onto` is the way
+-- back.
 quarter-from : (drives : List Drive) (place : ℕ) → place ≤ length drives → quarter_at drives place ≡ true →
     (earlier : ℕ) × IsQuarterFor drives place earlier
 quarter-from [] zero h e = absurd (cc)
@@ -99,6 +102,9 @@ quarter-onto drives (suc n) earlier h q =
     ]) in
     quarter-next drives n below ∙ ap (λ b. cond b false (nat_le 900 (pause_before drives n) || quarter_at drives n)) free ∙ left
 
+-- A full break by the recursion is one in the article's words, and the other way round (`words-onto`): 45 minutes at once, or 30
+-- behind a quarter of an hour, for which the two lemmas above translate. So the contract of `is_full_break` can be read against the
+-- Regulation, while all other proofs use the recursion.
 pub words-from : (drives : List Drive) (place : ℕ) → place < length drives → is_full_break drives place ≡ true → IsBreakInWords drives place
 words-from drives place h e =
     elim (one_true _ _ (sym (break-at drives place h) ∙ e)) [
