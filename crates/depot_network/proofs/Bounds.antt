@@ -82,6 +82,8 @@ either_fits : (P : Link → Type 0) (a b : Option Link) (l : Link) → ((l : Lin
 either_fits P None b l first second e = second l e
 either_fits P (Some m) b l first second e = first l e
 
+-- The seconds of a connection that may cost something lie between its trips, direct or via the depot: its stand is what is left of
+-- that time, and it is there only where this is not below 0. So costs can be bounded by the clock, whatever deadheads there are.
 pub link_fits : (day : DayFacts) (pool : Pool) (t u : Trip) (l : Link) → link day pool t u ≡ Some l →
     pos (seconds_of l) ≤ℤ (u.begin.0 -ℤ t.end.0)
 link_fits day pool t u l e =

@@ -115,7 +115,8 @@ kept_low n e =
       | false ↦ λ test e. absurd (cc)
     ] in low (nat_le n 16200) refl e
 
--- the pull-in is driven within a piece, so it costs little
+-- The pull-in is part of the last piece, whose driving is at most four and a half hours; so it costs at most these seconds at the
+-- highest rate, though nothing else bounds a deadhead that short.
 last_low : (day : DayFacts) (pool : Pool) (driving t more : ℕ) → IsPool pool → last_step day pool driving t ≡ Some more → more ≤ 162000000
 last_low day pool driving t more is e =
     let (driven, e1) = given_both (is_some (driven_in day pool driving t)) (ended day pool t) more e in
@@ -128,7 +129,10 @@ last_low day pool driving t more is e =
     let few : pool.dead_rate * inward ≤ 10000 * inward = charged_low pool.dead_rate inward is.dead_rate in
     omega (arith, short, few, same)
 
--- the cost of a block whose start is cheap
+-- No block is worth more than 4,000,000,000, by induction over its trips with any cost so far. What is kept is not a bound by the
+-- number of trips but by time: up to the end of a trip a block costs at most the fixed cost and all seconds until then at the
+-- highest rate, since its deadheads and stands lie one behind another (`more_low`). All trips end within two days, and the pull-in
+-- adds little.
 stepped_low : (day : DayFacts) (pool : Pool) (class cost driving t : ℕ) (us : List ℕ) (total : ℕ) → IsSound day →
     slice_get day.params.pools class ≡ Some pool → IsCheapUntil day t cost →
     stepped day pool cost driving t us ≡ Some total → total ≤ 4000000000

@@ -22,7 +22,9 @@ none-behind d numbers firsts item direct long kinds count is all there = record 
   first = λ next time from to apart is_time enough. absurd (omega arith);
 }
 
--- a piece more, which is noted where the pause before it is long enough
+-- The first pieces of each number behind a piece, found from the last piece back: a piece with a pause that is long enough
+-- overwrites the one noted for its number, which comes later. So at the end each number has its first such piece; the loop may note
+-- a piece too many, but none with such a pause that comes before the one noted is left out, the one that follows directly aside.
 pub more-behind : (test : Bool) (d : DutyFacts) (numbers old : List ℕ) (item direct long next : ℕ) → item < next →
     entry_at numbers next < length old →
     ((time : ℕ) → next ≢ direct → pause_at d item next ≡ Some time → long ≤ time → test ≡ true) →

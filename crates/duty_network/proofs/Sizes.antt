@@ -113,6 +113,9 @@ on-fits d g p on f m s e =
     let begins = s.begins in let order = s.order in let ends = s.ends in let before = m.sign_on in
     (omega (arith, ints), omega (arith, ints))
 
+-- No number of a mark is too large for the machine: sign-on lies within four days of midnight, driving keeps its limits as the mark
+-- is open, and the value changes by at most one price with each piece. The bound on the value is by the number of the last piece,
+-- which rises, so that each further piece has room for its price.
 pub marking-safe : (d : DutyFacts) (prices : List Price) (class : ℕ) (g : Group) → NetFits d → IsGroup g → AllWithin 10000000000000 prices →
     IsSafe (marking d prices class g) (MarkFits (length d.pieces))
 marking-safe d prices class g f modest w = record {

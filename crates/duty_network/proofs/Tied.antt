@@ -135,7 +135,8 @@ closing-up true rate off h = omega (arith, ints)
 closing-up false rate (pos n) h = omega (arith, ints)
 closing-up false rate (negsuc n) h = absurd (omega (arith, ints))
 
--- no continuation closes below the value and the rest
+-- A duty's value with the rest of its last piece is a completion bound: sign-off adds at least nothing, and going on with a piece
+-- takes off its price, which the rest has counted (`rest-steps`). It needs the prices alone and so holds for each group.
 pub marking-floor : (d : DutyFacts) (prices : List Price) (class : ℕ) (g : Group) → AreTimed d.pieces → length prices ≡ length d.pieces →
     IsFloor (marking d prices class g) (closed_value d g) (MarkFits (length d.pieces)) (floor_of (rests_of prices))
 marking-floor d prices class g timed long = record {
@@ -161,7 +162,9 @@ marking-floor d prices class g timed long = record {
       omega (arith, ints);
 }
 
--- a cover of a class whose marks close at minus the class price or above pays the prices of every duty of the class
+-- The check of a certificate for duties: marks that are a cover of a group, none of which closes below minus its class price, prove
+-- that the prices of all duties of the group are paid. The dominance of marks is a law of the search (`good-kept`, `good-valued`)
+-- and duties are tied to marks (`marking-tied`), so the general lemma on labels applies (`cover-pays`).
 pub duty-paid : (d : DutyFacts) (prices : List Price) (class : ℕ) (g : Group) (kept : Mark → Type 0) (class_price : ℤ) →
     slice_get d.params.groups class ≡ Some g → AreTimed d.pieces →
     IsCover (marking d prices class g) IsAtLeastAsGood kept →

@@ -38,7 +38,9 @@ zero_sum : (n : ℕ) → sum_below (λ _. 0) n ≡ 0
 zero_sum zero = refl
 zero_sum (suc n) = let r = zero_sum n in omega arith
 
--- a list of numbers below n is as long as they are counted
+-- A list of numbers below n is as long as all numbers below n are counted in it. Counting the list in these two ways turns "none
+-- stands twice" into a bound on its length: n at most (`back_fits`), and less than n where a number is known that does not stand in
+-- it (`back_has_room`). A region never needs more memory for numbers given back than for numbers used.
 length_counted : (xs : List ℕ) (n : ℕ) → All (λ b. b < n) xs → length xs ≡ sum_below (λ x. times x xs) n
 length_counted [] n h = sym (zero_sum n)
 length_counted (y ∷ ys) n h =

@@ -137,7 +137,10 @@ sorted-before {L = L} (g ∷ gs) r rest sorted h has = elim has [
   | inr later ↦ sorted-before gs r rest sorted.1 h later
 ]
 
--- the best of all nodes, beside their lists in order
+-- One pass over all nodes in their order finds the one that closes with the least value, and of equal values the first. The
+-- induction has the nodes that were passed (`gs`) with the best of them. A node with a smaller value is the best from now on; with
+-- an equal one the earlier stays, which is right as the lists stand in the order of ties, so its own comes first. No list is
+-- compared here either.
 pub best-all : {L : Type 0} (close : L → Option ℤ) (gs rest : List (Held L)) (ns : List (Node L)) (best : Option Best) →
     AreSorted (gs ++ rest) → held_labels rest ≡ labels_of ns → BestOf close gs best →
     BestOf close (gs ++ rest) (best_from close (length gs) best ns)

@@ -35,6 +35,9 @@ pub helds_from-append : {L : Type 0} (hs : List (Held L)) (ns ms : List (Node L)
 helds_from-append hs [] ms = refl
 helds_from-append hs (n ∷ ns) ms = helds_from-append (hs ++ held_of hs n ∷ []) ns ms
 
+-- The lists of a level are made from the lists before it alone: each of its nodes extends a node that stands before the level
+-- (`AllEarly`), so its list is the same whether the level's other nodes are there already or not. Thus a level can be spoken of as a
+-- whole, as the lists so far and the level's behind them.
 pub helds_from-level : {L : Type 0} (hs gs : List (Held L)) (ms : List (Node L)) → AllEarly (length hs) ms →
     helds_from (hs ++ gs) ms ≡ (hs ++ gs) ++ helds_at hs ms
 helds_from-level hs gs [] h = sym (append-nil (hs ++ gs))
@@ -99,7 +102,9 @@ from-node_of {L = L} item before (Some a) c h =
           none ↦ absurd none
     ]
 
--- each extension of a held label is there
+-- Each extension of a kept list by the item is among the candidates, with a rank that names the list that it extends. The candidates
+-- are made by walking the labels alone, counting places; the induction has the lists that were passed (`gs`), as many as the place
+-- says, so that the rank of a candidate is read in the list of all. `from-next` is the way back.
 pub In-next : {L : Type 0} (w : Labelling L) (item : ℕ) (gs rest : List (Held L)) (h : Held L) (b : L) → In h rest →
     w.extend h.1 item ≡ Some b →
     (c : Node L) × In c (next_from w item (length gs) (held_labels rest)) × (c.label ≡ b) × (c.item ≡ item)
@@ -206,6 +211,9 @@ AreRanked-insert {L = L} good value_at nodes n r early =
           ])
     ]
 
+-- Insertions keep the nodes of a level in rising order of the nodes that they extend: a new node goes last, all that are there are
+-- of earlier or equal rank, and taking nodes out disturbs no order. So a level comes out in the order of its candidates, without
+-- being sorted.
 pub inserted-ranked : {L : Type 0} (good : L → L → Bool) (value_at : L → ℤ) (new old : List (Node L)) → AreRanked new → AreRanked old →
     ((m n : Node L) → In m old → In n new → m.before ≤ n.before) → AreRanked (fold (insert_node good value_at) old new)
 inserted-ranked good value_at [] old rn ro h = ro

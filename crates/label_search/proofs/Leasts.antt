@@ -70,6 +70,10 @@ answers-from {L = L} w good value_at close count last k v st (Some b) is =
       },
     )
 
+-- What the best of all nodes says of all lists: where there is one, its list closes first of all lists with its value, and where
+-- there is none, no list closes. The nodes meet the invariant of the search (`reached`), so their lists are in order, as `best-all`
+-- asks, and what is best among them is best of all (`first_of_nodes`, `none_of_nodes`). The two clauses of the contract of
+-- `least_closed` are this lemma, for the labelling with its limit.
 pub answers : {L : Type 0} (w : Labelling L) (good : L → L → Bool) (value_at : L → ℤ) (close : L → Option ℤ) (count : ℕ) (last : L → ℕ) →
     IsKept w (GoodAs good) → IsValued w (GoodAs good) value_at close → IsStepwise w count last →
     Answers w close (nodes_below w good value_at count) (best_from close 0 None (nodes_below w good value_at count))

@@ -88,7 +88,9 @@ from-limited {L = L} w test (x ∷ xs) b e =
           ap (λ o. label_after w o xs) made ∙ after-limited w test xs c b e'
     ] refl e
 
--- a label passes where a later one does
+-- A label passes the limit's test where one that goes on from it does, over any number of items: each step of the law carries it
+-- back by one item. So a list that closes within the limit has passed all the way, and cutting labels off by the test cuts no part
+-- of it.
 passes-before : {L : Type 0} (w : Labelling L) (good : L → L → Bool) (close : L → Option ℤ) (sound : L → Type 0)
     (may_close : ℤ → L → Bool) (limit : ℤ) →
     IsSafe w sound → HidesNone w good close sound may_close → (xs : List ℕ) (a b : L) → sound a → may_close limit b ≡ true →
@@ -130,7 +132,9 @@ sound-after {L = L} w sound s (x ∷ xs) a b fits e =
       | Some c ↦ λ is e'. sound-after w sound s xs c b (s.steps a c x fits is) e'
     ] refl e
 
--- a list that closes within the limit still has its label
+-- The limit hides no list that closes within it: such a list has the same label in the labelling that drops what does not pass. The
+-- label that closes passes, and by `passes-before` each one before it does; so no step of the list is dropped. With `from-limited`,
+-- by which a label among the limited ones is the list's own, the two labellings agree on all lists within the limit.
 pub onto-limited : {L : Type 0} (w : Labelling L) (good : L → L → Bool) (close : L → Option ℤ) (sound : L → Type 0)
     (may_close : ℤ → L → Bool) (limit : ℤ) →
     IsSafe w sound → HidesNone w good close sound may_close → (xs : List ℕ) (b : L) (v : ℤ) →
@@ -148,7 +152,9 @@ onto-limited {L = L} w good close sound may_close limit s h (x ∷ xs) b v e c l
           ap (λ o. label_after (limited w test) o xs) same ∙ onto-after w good close sound may_close limit s h xs a b fits passes e'
     ] refl e
 
--- the first least of the limited lists is that of all, where it is within the limit
+-- What a search under a limit finds within the limit is the first least of all lists. Another list closes within the limit, and then
+-- it is among the limited ones, none of which comes first; or it closes above the limit, and so above what was found. So a search
+-- may try small limits first: they change the time alone.
 pub least-within : {L : Type 0} (w : Labelling L) (good : L → L → Bool) (close : L → Option ℤ) (sound : L → Type 0)
     (may_close : ℤ → L → Bool) (limit : ℤ) →
     IsSafe w sound → HidesNone w good close sound may_close → (list : List ℕ) (least : ℤ) →
@@ -194,7 +200,9 @@ low-is x y h = grind (arith, ints)
 is-low : (x y : ℤ) → x ≤ℤ y → int_le x y ≡ true
 is-low x y h = grind (arith, ints)
 
--- a completion bound that rises with the value hides no list
+-- A completion bound gives a test that hides no list: a label whose bound is above the limit is dropped. A closing is at least the
+-- bound, a bound never falls from a label to its extension, and of two labels the one at least as good has no greater bound. These
+-- are the three laws that `HidesNone` asks for, each by one inequality.
 pub floor-hides : {L : Type 0} (w : Labelling L) (good : L → L → Bool) (close : L → Option ℤ) (sound : L → Type 0) (floor : L → ℤ) →
     ((a b : L) → good a b ≡ true → floor a ≤ℤ floor b) → IsFloor w close sound floor → HidesNone w good close sound (is_low floor)
 floor-hides w good close sound floor rises f = record {

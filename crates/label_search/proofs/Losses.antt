@@ -33,7 +33,9 @@ loss-below [] k h = absurd (omega arith)
 loss-below (x ∷ xs) zero h = let own = gain-least x.0 in let least = own.0 in omega (arith, ints)
 loss-below (x ∷ xs) (suc k) h = let own = gain-least x.0 in let least = own.1 in omega (arith, ints, loss-below xs k (omega arith))
 
--- the rest of an item is not above that of a later one less its price
+-- The rest of an item is minus all prices above 0 of the items behind it: no list that goes on takes more off a value, since it can
+-- have each item once. Going on with a later item takes its price off and leaves the rest behind that; both together are part of
+-- what the earlier item's rest has counted. So a value with its rest is a completion bound, and all that it needs is prices.
 pub rest-steps : (prices : List Price) (j k : ℕ) → j < k → k < length prices →
     number_at (rests_of prices) j ≤ℤ (number_at (rests_of prices) k -ℤ price_at prices k)
 rest-steps [] j k h below = absurd (omega arith)

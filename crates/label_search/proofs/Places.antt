@@ -56,7 +56,9 @@ module _ {X : Type 0} where
   filter-one p x xs true = refl
   filter-one p x xs false = refl
 
-  -- all behind a place have been tested, and the place is next
+  -- Taking items out from the last place back: those behind the place have been tested, and those before it stand where they were.
+  -- So the place of the next item to be tested is not moved by what was taken out behind it, and at place 0 the list is what a
+  -- filter leaves, in its order.
   out-back : (p : X → Bool) (xs : List X) (i : ℕ) → i < length xs →
       take i (take (suc i) xs ++ filter p (drop (suc i) xs))
       ++ (filter p (take 1 (drop i (take (suc i) xs ++ filter p (drop (suc i) xs))))

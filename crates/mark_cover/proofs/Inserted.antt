@@ -107,7 +107,9 @@ all-unmet m marks b near end before from place past =
     either-way : (a b : ℕ) → (a ≤ b) ⊎ (b < a)
     either-way a b = grind arith
 
--- a mark that is put last, where none was at least as good, and those that it is at least as good as are taken out
+-- Putting a mark in keeps what the making of marks asks: the mark is met, by itself; a mark that was met by one that is taken out is
+-- met by the new one, as "at least as good" goes through it; and no two marks are comparable, since none was at least as good as the
+-- new one and those that it beats are gone.
 pub pushed : {L : Type 0} (m : Marking L) (marks : List L) (a : L) → IsOrdered m → is_met m marks a ≡ false →
     AreInserted m (a ∷ []) marks (filter (stays m a) marks ++ a ∷ [])
 pushed {L = L} m marks a ordered best = record {
@@ -181,7 +183,9 @@ none-inserted m marks = record {
   alone = λ alone. alone;
 }
 
--- some candidates are put in after others
+-- Candidates may be put in one after another, in any groups: what the first group had met stays met when the second is put in. So
+-- the whole level, the start and then the extensions of each mark, is one insertion of all its candidates, whatever the loop's steps
+-- were.
 pub more-inserted : {L : Type 0} (m : Marking L) (first second old now new : List L) → AreInserted m first old now →
     AreInserted m second now new → AreInserted m (first ++ second) old new
 more-inserted m first second old now new one two = record {

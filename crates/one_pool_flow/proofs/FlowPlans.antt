@@ -20,7 +20,8 @@ use Rattle.one_pool_flow.specs.Flows.{AreFlowBound, AreModerate}
 use Rattle.one_pool_flow.specs.Paths.{IsFlowPlan, IsPathPlan, path_cost, paths_of}
 use Rattle.one_pool_flow.proofs.Bridge.{path_net, plans_are_covers}
 
--- the first cover of least cost is the flow plan
+-- The first cover of least cost in the day's network is the day's flow plan: plans and covers are the same lists at the same cost
+-- (`plans_are_covers`), so "least" and "first among those of least cost" mean the same on both sides.
 pub flow_plan : (day : DayFacts) (pool : Pool) → day.params.pools ≡ pool ∷ [] → (lists : List (List ℕ)) →
     IsFirstLeastCover (net_of day pool) lists → IsFlowPlan day lists
 flow_plan day pool one lists is =
@@ -46,7 +47,10 @@ no_plan day pool one none lists plan = none lists ((plans_are_covers day pool on
 caps_one : (day : DayFacts) (pool : Pool) → day.params.pools ≡ pool ∷ [] → (paths_of day).caps ≡ pool.cap ∷ []
 caps_one day pool one = ap (λ (pools : List Pool). map (λ (q : Pool). q.cap) pools) one
 
--- the prices are paid over all paths of the day, and their bound is the plan's cost
+-- The prices of potentials prove that the plan costs least. The arcs of a path cost at least what the potentials rise along them,
+-- and these rises together are the prices of its trips less the class price; so the prices are paid (`feasible_is_paid`). Where the
+-- rises are just the costs, along the plan's paths and for the vehicles left in the store, the bound is the plan's cost
+-- (`slack_is_bound`). A list costs on the day what it costs in the network, so both hold for the day.
 pub flow_bound : (day : DayFacts) (pool : Pool) → day.params.pools ≡ pool ∷ [] →
     (lists : List (List ℕ)) (p : Potentials) (prices : List Price) (class_price : ℤ) → IsCover (net_of day pool) lists →
     AreGreatest (net_of day pool) lists p →

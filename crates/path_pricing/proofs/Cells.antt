@@ -101,7 +101,10 @@ row_added old cells new base width number value less copied lowered = record {
   moderate = λ before fits. lowered.moderate (copied.moderate before) fits;
 }
 
--- The rows of one trip more are there.
+-- One row more in the table of running minima: trips are gone through from the last one back, and the row of a trip is a copy of the
+-- row behind it in which the number of the trip's own point is lowered to what the trip gives. So each row has, for each point, at
+-- most what any trip from there on gives that begins at the point; rows of later trips stay as they are. A look-up of "the least
+-- from this trip on, at this point" is then one cell.
 pub rows_more : (old new : List ℤ) (count width base k : ℕ) (numbers : List ℕ) (before after : ℕ → ℤ) (value : ℤ) → k < count →
     base ≡ (count - (k + 1)) * width → AreBelow width numbers count →
     ((u : ℕ) → k < u → after u ≡ before u) → value ≡ after k → IsRowAdded old new base width (slice_index numbers k) value →

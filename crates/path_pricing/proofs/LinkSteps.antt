@@ -41,8 +41,9 @@ steps_more day counts prices pool rests t end least low first here before u cost
       | inr other ↦ let old = before u cost other linked in omega (arith, ints, old, first)
     ]
 
--- What a connection adds is at least 0. So where a number is at most each later rest less its price, no connection to one of these trips
--- adds less than that number, with the rest behind it: the trips from there on need no look.
+-- The walk over connections may stop early: a connection costs at least nothing, so it adds at least what its trip gives, the rest
+-- less the price. Once the least that any of the trips left gives is not below the bound so far, no connection to one of them adds
+-- less: these trips need no look.
 pub steps_past : (day : DayFacts) (counts : Bool) (prices : List Price) (pool : Pool) (rests : List ℤ) (t from : ℕ) (least low : ℤ) →
     least ≤ℤ low →
     IsLowOver prices rests from (length day.trips) low → StepsAbove day counts prices pool rests t from least →
@@ -53,7 +54,8 @@ steps_past day counts prices pool rests t from least low below over before u cos
       | inr late ↦ let own = over u late within in let up = scaled_up counts cost in omega (arith, ints, below, own, up)
     ]
 
--- the rest of one trip more is made, and with it a number that none of the rests less their prices is lower than
+-- The number that tells when to stop is made along with the rests, from the last trip back: it is the least of itself and what the
+-- trip just made gives, so none of the trips from here on gives less.
 pub low_set : (prices : List Price) (rests : List ℤ) (k end : ℕ) (v low new : ℤ) → k < length rests → new ≤ℤ low →
     new ≤ℤ (v -ℤ price_at prices k) →
     IsLowOver prices rests (k + 1) end low → IsLowOver prices (slice_set rests k v) k end new

@@ -41,7 +41,9 @@ pub pool_there : (pools shown : List Pool) (class : ℕ) (d : Pool) → shown �
 pool_there pools shown class d same h = let P : List Pool → Type 0 = λ l. slice_get pools class ≡ Some (slice_index_or l class d) in
     subst P (sym same) (get_there pools class d (omega (arith, h, caps_length pools)))
 
--- the rest of one trip more is made
+-- The rest of one trip more is made, from the last trip back: what is known of the later trips speaks of still later ones only, so
+-- it is not touched, and of this trip it is what was found, since all its connections go to later trips. At the first trip the rests
+-- are bounds of each continuation; with these the search cuts off by its limit.
 pub rests_set : (day : DayFacts) (counts : Bool) (prices : List Price) (pool : Pool) (rests : List ℤ) (k : ℕ) (v : ℤ) → k < length rests →
     ClosesAbove day counts pool k v → StepsAbove day counts prices pool rests k (length day.trips) v → IsDeep (length day.trips) k v →
     AreBoundsFrom day counts prices pool rests (k + 1) → AreBoundsFrom day counts prices pool (slice_set rests k v) k
@@ -104,6 +106,9 @@ scaled_up true cost = omega (arith, ints)
 scaled_up false cost = omega (arith, ints)
 
 module _ (day : DayFacts) (counts : Bool) (prices : List Price) (pool : Pool) (rests : List ℤ) where
+  -- A rest may be raised to minus the greatest prices of all later trips, where it was below: no continuation takes off more than
+  -- these, as costs are not below 0 and each later trip takes off one price. What is said of all points is said of each connection,
+  -- as each trip begins at one of them. It keeps rests in range for the machine, even where no connection goes on.
   pub settled_steps : (t width : ℕ) (numbers : List ℕ) (least low : ℤ) → AllWithin 10000000000000 prices →
       AreBelow width numbers (length day.trips) →
       ((u : ℕ) → t < u → IsDeep (length day.trips) u (number_at rests u)) →

@@ -39,6 +39,9 @@ module _ {L : Type 0} (w : Labelling L) (good : L → L → Bool) (close : L →
     ] refl
   ] refl
 
+  -- A body of several items may be put behind a label with the limit's test after each item, or with one test at the end: behind a
+  -- label that does not pass none passes (`none-passes`), so a body that fails on the way would fail at its end. The labels of the
+  -- problem are tested at each step, those of the rest once for each item of the rest; the lemma makes both the same.
   pub fold-passed : (a : L) (xs : List ℕ) → sound a → may_close limit a ≡ true →
       label_after (limited w (may_close limit)) (Some a) xs ≡ passed (may_close limit) (label_after w (Some a) xs)
   fold-passed a [] fits low = ap (λ t. cond t (Some a) None) (sym low)

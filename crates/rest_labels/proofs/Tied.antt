@@ -43,6 +43,9 @@ module _ {L : Type 0} (w : Labelling L) (heads : List Begun) (bs : List (List �
     pub past : none_below (length heads) xs ≡ true
     pub follow : is_empty xs ≡ false → may_follow (slice_get heads x) ≡ true
 
+  -- From labels of the rest to labels of written-out lists: each step of the rest puts all items behind that an item of the rest
+  -- stands for, so the label behind some items of the rest is the label of the problem behind these, written out. The steps have
+  -- tested that the items rise, are there, are no heads, and follow no finished head. `tail-onto` is the way back.
   tail-from : (a b : RestLabel L) (xs : List ℕ) → label_after r (Some a) xs ≡ Some b →
       IsTail a.item xs × (label_after w (Some a.label) (written bs xs) ≡ Some b.label)
   tail-from a b [] e = (
@@ -205,6 +208,10 @@ module _ {L : Type 0} (w : Labelling L) (heads : List Begun) (bs : List (List �
               )
         ] refl e
 
+    -- The labels of a rest are tied to its worths in a group: a list of the rest has a worth where it keeps the heads and its
+    -- written-out list has one; it has a label that closes where its steps may be made and the written-out list closes. The tests of
+    -- the steps are those of keeping the heads (`goes-start`, `start-goes`), the written-out list is tied by the problem's own
+    -- labels, and the values agree as both lists have the same prices (`alike`). The contract of `rest_is_tied` is this.
     pub rest-tied : IsTiedInGroup (of_group r group) (λ a. close a.label) prices group (rest_worth p heads bs may class)
     rest-tied = record {
       onto = λ list worth e inside. let (a, has, closes) = onto list worth e inside in (a, onto-group r group list inside ∙ has, closes);
