@@ -162,9 +162,9 @@ marking-floor d prices class g timed long = record {
       omega (arith, ints);
 }
 
--- The check of a certificate for duties: marks that are a cover of a group, none of which closes below minus its class price, prove
--- that the prices of all duties of the group are paid. The dominance of marks is a law of the search (`good-kept`, `good-valued`)
--- and duties are tied to marks (`marking-tied`), so the general lemma on labels applies (`cover-pays`).
+-- The general lemma on labels that are a cover (`cover-pays`), for duties: where marks are a cover of a group and none of them
+-- closes below minus its class price, the prices of all duties of the group are paid. Its premises are the laws of marks: dominance
+-- (`good-kept`, `good-valued`) and the tie of duties to marks (`marking-tied`).
 pub duty-paid : (d : DutyFacts) (prices : List Price) (class : ℕ) (g : Group) (kept : Mark → Type 0) (class_price : ℤ) →
     slice_get d.params.groups class ≡ Some g → AreTimed d.pieces →
     IsCover (marking d prices class g) IsAtLeastAsGood kept →

@@ -236,8 +236,8 @@ valued-by w good test value_at close from v = record {
 
 -- Labels that are a cover prove that prices are paid, without a search. A column's list has a label that closes with its value; some
 -- label of the cover is at least as good and so closes with no more; and none of the cover closes below minus the class price. So
--- the column's value is at least minus the class price, which is to say that its prices are paid. The check of a certificate's marks
--- rests on it.
+-- the column's value is at least minus the class price, which is to say that its prices are paid. The contract of `cover_pays` rests
+-- on it.
 pub cover-pays : {L : Type 0} (w : Labelling L) (good : L → L → Type 0) (value_at : L → ℤ) (close : L → Option ℤ) (kept : L → Type 0)
     (prices : List Price) (worth_of : List ℕ → Option ℕ) (class_price : ℤ) →
     IsKept w good → IsValued w good value_at close → IsTied w close prices worth_of → IsCover w good kept →

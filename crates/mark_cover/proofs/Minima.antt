@@ -31,8 +31,8 @@ open-met m marks ordered kept b is_open =
 -- Marks that meet all starts and their own extensions, none of which is at least as good as another, are exactly the minimal marks
 -- of open lists. Each open list has a kept mark at least as good as its own (`open-met`, by the laws of dominance). If an open mark
 -- is at least as good as a kept one, some kept mark is at least as good as it, hence as the kept one, and so is that very mark; and
--- marks as good as one another are the same. A minimal mark in turn is met by a kept one, which must be it. So a certificate's marks
--- depend on prices alone, and not on the order in which they were made.
+-- marks as good as one another are the same. A minimal mark in turn is met by a kept one, which must be it. So the marks that are
+-- made do not depend on how they were made.
 pub kept-minimal : {L : Type 0} (m : Marking L) (order : L → L → Ordering) → IsOrdered m → KeptAreMinimal m order
 kept-minimal {L = L} m order ordered made marks apart made_kept permuted rising =
     let kept = kept-permuted m made marks made_kept permuted in

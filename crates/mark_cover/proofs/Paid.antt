@@ -33,7 +33,10 @@ class-cover m marks class_prices class ordered placed there cover = record {
 not-below : (u v : ℤ) → ((u <ℤ v) → ⊥) → v ≤ℤ u
 not-below u v h = grind (arith, ints)
 
--- under a cover no list of a class has a value below minus the class price, whatever the class prices are
+-- Under a cover no list of a class has a value below minus the class price: what a search would have to find out is read off the
+-- marks. The list has a mark that closes with its value; by the laws of dominance some mark of the cover is at least as good, of the
+-- same class, and closes with no more; and none of the cover closes below minus its class price. The marks may come from anywhere,
+-- since only their being a cover is used.
 pub cover-at-least : {L : Type 0} (m : Marking L) (p : Problem) (prices : List Price) (marks : List L) (class_prices : List ℤ) →
     IsOrdered m → IsPlaced m → AreMarksOf m p prices →
     IsMarkCover m marks class_prices → (class : ℕ) → class < length p.caps →
@@ -51,6 +54,9 @@ cover-at-least {L = L} m p prices marks class_prices ordered placed marks_of cov
     let least = subst P kept.1 (not-below u (neg_ℤ (number_at class_prices (m.class_of a))) refuted) in
     omega (arith, ints, least, below_value)
 
+-- A cover with class prices of at least 0 proves that the prices are paid (dual feasible): the least value of each class is at least
+-- minus its class price (`cover-at-least`), which is the inequality that a bound asks of each column. It is the contract of
+-- `cover_is_paid`, by which a certificate's bound is believed without a search.
 pub cover-is-paid : {L : Type 0} (m : Marking L) (p : Problem) (prices : List Price) → IsOrdered m → IsPlaced m →
     AreMarksOf m p prices → CoverIsPaid m p prices
 cover-is-paid {L = L} m p prices ordered placed marks_of marks class_prices charged cover = record {
