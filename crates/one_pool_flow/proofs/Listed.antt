@@ -85,7 +85,9 @@ kept_over false f g o worth keep e = e
 kept_over true f g None worth keep e = e
 kept_over true f g (Some q) worth keep e = keep q e
 
--- a block is a path that costs what the block is worth
+-- A block is a path that costs what the block is worth: the rules of blocks ask for all that those of paths do, and for the driving
+-- of each piece besides; the cost is the same. So there are fewer blocks than paths, and what is paid over all paths is paid over
+-- all blocks.
 pub block_is_path : (day : DayFacts) (class : ℕ) (list : List ℕ) (worth : ℕ) → block_worth day false class list ≡ Some worth →
     path_cost day class list ≡ Some worth
 block_is_path day class list worth e =
@@ -112,6 +114,9 @@ block_columns day (list ∷ lists) blocks are =
     block_is_path day 0 list (unwrap_or (block_worth day false 0 list) 0) there ∙ sym there in
     ((are.0.0, sym same ∙ are.0.1), block_columns day lists parts.1 are.1)
 
+-- Where each path of a flow plan can also be driven, the flow solves the blocks' problem: its paths are a plan of blocks at the same
+-- cost, its prices are paid over all blocks as these are paths, and their bound is the plan's cost. So no plan of blocks costs less,
+-- though the flow knew nothing of driving. It is the contract of `flow_plan_of_blocks`.
 pub paths_are_blocks : (day : DayFacts) → PathsAreBlocks day
 paths_are_blocks day lists prices class_price plan blocks bound = record {
   plan = record { worths = block_columns day lists blocks plan.worths; once = plan.once; caps = plan.caps };

@@ -64,6 +64,11 @@ invariant_of-labels-clause-bounds c =
     λ l. AreBoundsFrom net.day net.counts c.as_slice-2.result.now c.pool_of.result.now l c.first_items-range.result.first in
     subst Q (sym c.as_slice-3.ensures.value) (subst P (c.as_slice.ensures.value ∙ sym c.as_slice-2.ensures.value) c.in_ok-rests.ensures)
 
+-- The best list of a rest in a pool and group. All premises of `best_of_rest` are put together here: the bodies are what the heads
+-- and the other trips stand for, the marks say which of them may begin a list and which heads go on, the spread prices make
+-- written-out lists as dear as the lists of the rest, and the labels of open blocks, begun where the group's bodies begin, are tied
+-- to the blocks' worths (`range-tied-within`, `opening_tied`). Most of the lines carry these facts from what was computed to what
+-- the contract speaks of.
 pub returns-clause-best : goal.returns-clause-best
 returns-clause-best c =
     let net = c.args.net.now in

@@ -149,6 +149,10 @@ loop-item-init c =
           c.requires.over.are.falling rows;
     }
 
+-- One piece more, from the last one back, for lists that have had no long pause. The row of the piece is a bound by its steps
+-- (`bound_row`) and is raised to the row of lists with a long pause, which is a bound of it, too (`raised-row`); it is put in its
+-- place (`placed`). Then the tail of the piece's number is lowered by it, and the chain keeps that tail (`chained`). What was said
+-- of later pieces stays, since it speaks of later rows alone.
 pub loop-item-preserved : goal.loop-item-preserved
 loop-item-preserved c =
     let d = c.args.net.now in

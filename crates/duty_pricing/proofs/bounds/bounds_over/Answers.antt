@@ -135,6 +135,9 @@ loop-item-init c =
           (out-tail d c.args.prices.now r c.args.numbers.now c.in_ok-rows.rows.items c.in_ok-tail.tail.items few tail);
     }
 
+-- One piece more, from the last one back, for lists that have had a long pause: each pause counts as long (the limit is 0), so the
+-- table goes on with its own rows. The row of the piece is put in its place (`placed`), the tail of its number is lowered by it, and
+-- the chain keeps that tail (`chained`).
 pub loop-item-preserved : goal.loop-item-preserved
 loop-item-preserved c =
     let d = c.args.net.now in

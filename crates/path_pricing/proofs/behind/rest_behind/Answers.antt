@@ -25,6 +25,9 @@ loop-number-init c =
       points = points_none net.day net.counts c.args.prices.now c.args.pool.now c.args.rests.now c.args.numbers.now c.args.t _;
     }
 
+-- One point more: the bound so far is lowered to what ways from the trip to this point add at least. All trips that begin there are
+-- bounded by one look, through the point's head (`have_heads` finds it for each of them), and the bound still holds of the pull-in
+-- and of the points before.
 pub loop-number-preserved : goal.loop-number-preserved
 loop-number-preserved c =
     let net = c.args.net.now in

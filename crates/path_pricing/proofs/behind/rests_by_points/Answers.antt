@@ -33,6 +33,11 @@ loop-t-init c =
       made = subst From (sym all) (rests_end net.day net.counts c.args.prices.now c.args.pool.now c.in_ok-rests.rests.items long);
     }
 
+-- One trip more, from the last one back. Three things are carried along: the rests of the trips from here on are bounds, and two
+-- tables have, for each of these trips and each point, the least of what trips from there on give that begin at the point, with
+-- standing from midnight and without. The new rest was found by the tables of the later trips; it is put in (`rests_set`), and then
+-- a row is added to each table (`rows_more`), by the values that the trip itself gives. Values of later trips do not change with the
+-- new rest, so older rows stay right.
 pub loop-t-preserved : goal.loop-t-preserved
 loop-t-preserved c =
     let net = c.args.net.now in

@@ -38,6 +38,9 @@ rest_behind-rest-requires-clause-lows c =
     let Lows : List ℤ → Type 0 = λ l. AreLows c.args.prices.now c.as_slice.result.now l (c.loop-t.t - 1 + 1) end in
     subst Lows (sym c.as_slice-in-loop-t.ensures.value) (subst Rests (sym c.as_slice.ensures.value) (subst At same c.loop-t.invariant.lows))
 
+-- One trip more, from the last one back: its rest is put in (`rests_set`), and with it the least of what the trips from here on give
+-- with their prices and rests, which tells the trips before it when the walk over their connections may stop (`low_set`,
+-- `lows_set`).
 pub loop-t-preserved : goal.loop-t-preserved
 loop-t-preserved c =
     let net = c.args.net.now in
