@@ -220,9 +220,9 @@ module _ (day : DayFacts) (counts : Bool) (prices : List Price) (pool : Pool) wh
       extended_open day counts prices pool a u ≡ Some (next_open counts prices a u step)
   next_is a u step e = ap (λ (o : Option Step). option_map (next_open counts prices a u) o) e
 
-  -- Dominance stays over each further trip: an open block with the same last trip, no more driving and no greater value can be
-  -- extended wherever the other can (`next_less`), the trip adds the same to both values, and so the extensions stand to one another
-  -- as the blocks did. By this law the search may drop the worse one of two labels.
+  -- The laws. Dominance stays over each further trip: an open block with the same last trip, no more driving and no greater value
+  -- can be extended wherever the other can (`next_less`), the trip adds the same to both values, and so the extensions stand to one
+  -- another as the blocks did. By this law the search may drop the worse one of two labels.
   pub opening_kept : IsKept (opening day counts prices pool) (GoodAs is_as_good)
   opening_kept = record {
     same = λ a. as_good a a refl (omega arith) (omega (arith, ints));
