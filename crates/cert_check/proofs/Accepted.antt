@@ -51,7 +51,8 @@ charged-all : (part : CertPart) (classes : ℕ) → length part.class_prices ≡
     (class : ℕ) → class < classes → pos 0 ≤ℤ number_at part.class_prices class
 charged-all part classes same charged = subst (λ (n : ℕ). (class : ℕ) → class < n → pos 0 ≤ℤ number_at part.class_prices class) same charged
 
--- A part over blocks without gap, with class prices of at least 0, has paid prices.
+-- A part over blocks without gap, with class prices of at least 0, has paid prices. That is the law of covers, once the part is known
+-- to have a price for each trip and each pool (`AreParts`): then the class prices that are at least 0 are those of all classes.
 blocks-paid : AreLaws → (c : Case) (counts : Bool) (part : CertPart) →
     IsBlockPart (length c.day.trips) (length (map (λ (pool : Pool). pool.number) c.day.params.pools)) part →
     AreCharged part (length part.class_prices) → IsBlockGap c counts part None →
@@ -85,6 +86,9 @@ record AreBothShown (c : Case) (blocks : Plan) (duty_columns : List Column) (bou
 counted-fits : (c : Case) (pieces : List Piece) → NetFits (duties_over c pieces false) → NetFits (duties_over c pieces true)
 counted-fits c pieces fits = record { few = fits.few; shifts = fits.shifts; params = fits.params }
 
+-- Of four parts the first two are over blocks and the last two over duties, and of each two one counts and one has costs; so each plan
+-- gets its two bounds from two parts (`blocks_shown`, `duties_shown`), since a plan by cost is one that is counted too. Other numbers
+-- of parts are no certificate.
 both-shown : AreLaws → (c : Case) (blocks : Plan) (duty_columns : List Column) (bounds : List ℕ) (parts : List CertPart) →
     IsPlan (blocks_in c false) (printed blocks.columns) → IsPlan (duties_in c (printed_pieces c blocks) false) duty_columns →
     NetFits (duties_over c (printed_pieces c blocks) false) →

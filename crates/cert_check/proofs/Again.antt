@@ -66,6 +66,7 @@ items_below : (p : Problem) (columns : List Column) → HasListedColumns p → A
 items_below p [] listed are = tt
 items_below p (c ∷ cs) listed are = ((listed c.class c.items c.worth are.0.1).2, items_below p cs listed are.1)
 
+-- A duty's pieces rise and are below the number of all pieces, so a duty has no more pieces than there are.
 few_items : (p : Problem) (columns : List Column) → p.items ≤ 3000 → HasListedColumns p → AreColumns p columns →
     AllByRecursion (λ (c : Column). length c.items ≤ 3000) columns
 few_items p [] few listed are = tt
@@ -104,6 +105,8 @@ put_each P c (next ∷ cs) is are = by (nat_lt (first_of_column next) (first_of_
     by true later = (are.0, later)
     by false later = (is, are)
 
+-- Printed order only moves columns: each is put before the first that does not begin earlier, and what held of it and of the others
+-- holds of all that stand there. So of columns taken one by one nothing is to be shown anew after printing.
 order_each : (P : Column → Type 0) (cs : List Column) → AllByRecursion P cs → AllByRecursion P (printed cs)
 order_each P [] are = tt
 order_each P (c ∷ cs) are = put_each P c (printed cs) are.0 (order_each P cs are.1)
@@ -121,7 +124,8 @@ pub order_long : (cs : List Column) → length (printed cs) ≡ length cs
 order_long [] = refl
 order_long (c ∷ cs) = put_long c (printed cs) ∙ ap suc (order_long cs)
 
--- what holds of each duty holds of each that is numbered anew, whatever its items
+-- What holds of each duty holds of each that is numbered anew, whatever its items. To number the pieces anew changes a duty's items
+-- alone, not its class, its worth or how many items it has.
 again_each : (P Q : Column → Type 0) (f : Column → Column) (cs : List Column) → ((c : Column) → P c → Q (f c)) → AllByRecursion P cs →
     AllByRecursion Q (map f cs)
 again_each P Q f [] step are = tt
@@ -143,7 +147,10 @@ pub record FitsTables (day : DayFacts) (blocks duties : List Column) : Type 0 wh
   pub parts : All (λ (duty : Column). length duty.items ≤ 3000) duties
   pub cheap_duties : AreCheap duties
 
--- A plan's blocks and duties in printed order have their ranges: each column keeps its class and its worth, and as many items.
+-- A plan's blocks and duties in printed order have their ranges: each column keeps its class and its worth, and as many items. It is
+-- shown of each column by itself, and kept first by the new numbers (`again_each`) and then by the order (`order_each`). That no more
+-- columns and items are there than pieces comes from the plan before, in which each piece stands once. Which pieces the new numbers
+-- name is not asked: so the tables can be made and compared before it is known whether the duties in printed order are still a plan.
 pub in_ranges : (c : Case) (blocks duties : Plan) → IsPlan (blocks_in c false) blocks.columns →
     IsPlan (duties_in c (pieces_in c blocks.columns) false) duties.columns →
     length blocks.columns ≤ 3000 → length (pieces_in c blocks.columns) ≤ 3000 → AreCheap blocks.columns → AreCheap duties.columns →
@@ -200,5 +207,6 @@ items_few : (cs : List Column) → AllByRecursion (λ (c : Column). length c.ite
 items_few [] few = omega arith
 items_few (c ∷ cs) few = let one = few.0 in omega (arith, one, length-append c.items (all_items cs), items_few cs few.1)
 
+-- So the items of all duties together can be counted in 32 bits, which judging them asks for.
 pub all_few : (cs : List Column) → length cs ≤ 3000 → All (λ (c : Column). length c.items ≤ 3000) cs → length (all_items cs) < 2 ^ 32
 all_few cs few each = omega (arith, few, items_few cs (recursion_from_All (λ (c : Column). length c.items ≤ 3000) cs each))

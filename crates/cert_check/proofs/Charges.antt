@@ -28,6 +28,8 @@ more-charged : (z : ℤ) (zs : List ℤ) (bound : ℕ) → int_lt z (pos 0) ≡ 
 more-charged z zs bound test charged zero low = grind (arith, ints)
 more-charged z zs bound test charged (suc class) low = charged class (omega (arith, low))
 
+-- The search is followed from any place on: at the number that is found it is below 0, and every number that was passed over is at
+-- least 0. So the class that is named is the first of its part.
 found-on : (zs : List ℤ) (from class : ℕ) → position_from is_below from zs ≡ Some class → (k : ℕ) × (class ≡ from + k) × IsAt zs k
 found-on [] from class e = absurd (cc)
 found-on (z ∷ zs) from class e = by (found-on zs (from + 1) class) (int_lt z (pos 0)) refl e

@@ -42,6 +42,9 @@ one-column p l a b ca ia cb ib wa wb =
     let make : ℕ → ℕ → List ℕ → Column = λ c w is. record { class = c; worth = w; items = is } in
     ap (λ c. make c a.worth a.items) class ∙ (ap (λ w. make b.class w a.items) worth ∙ ap (λ is. make b.class b.worth is) items)
 
+-- A column is its class, its items and its worth. The first two are those of the list, and the worth is what the problem gives them,
+-- so two plans of the same lists agree column by column. Hence what is found is determined, which lets every reason speak of what was
+-- accepted.
 one-plan : (p : Problem) (lists as' bs : List Column) → HaveSameLists lists as' → HaveSameLists lists bs → AreColumns p as' →
     AreColumns p bs → as' ≡ bs
 one-plan p [] [] [] h k ca cb = refl
@@ -67,7 +70,8 @@ IsLawful (verdicts.Times item count) = ⊥
 IsLawful (verdicts.Unlawful place) = ⊥
 IsLawful (verdicts.Over class used) = ⊥
 
--- lists that are lawful get no other verdict
+-- Lists that are lawful get no other verdict. Of lists that are a plan the other verdicts are false (`plans-found`); this is asked as
+-- a predicate on verdicts, so that each case of a reason ends by computing.
 only-lawful : (p : Problem) (lists : List Column) (plan : Plan) (verdict : PlanVerdict) → IsVerdict p lists (verdicts.Lawful plan) →
     IsVerdict p lists verdict → IsLawful verdict
 only-lawful p lists plan verdict h k = subst IsLawful (sym (plans-found p lists plan.columns verdict h.0 h.1 k)) tt
@@ -82,7 +86,7 @@ no-negative from (part ∷ parts) pass class charged is = elim is [
       omega (arith, ints)
 ]
 
--- a cover has no gap of any kind
+-- A cover has no gap of any kind. Each kind of gap denies one of the three promises of a cover.
 cover-whole : {L : Type 0} (m : Marking L) (marks : List L) (class_prices : List ℤ) (gap : Gap) → IsMarkCover m marks class_prices →
     IsGap m marks class_prices gap → ⊥
 cover-whole m marks class_prices (gaps.First class item) cover (below, b, is, none) = none (cover.starts class item b below is)

@@ -76,7 +76,9 @@ one-before key held e es k (x ∷ xs) before =
     let rest = one-before key held e es (k + 1) xs (omega arith) in
     omega (arith, here, rest)
 
--- one entry more is counted once at most
+-- One entry more is counted once at most. Keys of lists are counted on from `k`. Where the entry's key is `k` the first list is longer
+-- by one, and all later lists have greater keys, so the entry stands in none of them (`one-before`); otherwise it is passed on to the
+-- later lists.
 one-more : {E A : Type 0} (key : E → ℕ) (held : E → A) (e : E) (es : List E) (k : ℕ) (xs : List ℕ) →
     picked_all key held (e ∷ es) k xs ≤ suc (picked_all key held es k xs)
 one-more key held e es k [] = omega arith
@@ -149,6 +151,8 @@ pub record IsShort (bound : ℕ) (text : PlanText) : Type 0 where
 few-given : {A : Type 0} (bound : ℕ) (os : List (Option A)) (n : ℕ) → length os ≡ n → n < bound → length (given_of os) < bound
 few-given {A} bound os n same few = let kept = few-kept (λ (o : Option A). o) os in omega arith
 
+-- Entries that are kept are no more than rows, blocks and duties are as many as the entries of their tables, and their items in all
+-- are counted by `all-picked`. Nothing is asked of the tables but their length, as the lists may have any faults still.
 said-short : (bound : ℕ) (day : DayFacts) (tables : List Table) → 0 < bound → All (λ (t : Table). length t.rows < bound) tables →
     IsShort bound (said day tables)
 said-short bound day tables some all =

@@ -63,6 +63,7 @@ early row (art ∷ bound ∷ []) is = by (nat_lt row 4) refl is
     by false test is = absurd (cc)
 early row (art ∷ bound ∷ more ∷ rest) is = absurd (cc)
 
+-- Row by row: each row gives a bound, as none is wrong, and only the first four can; so after a row there is room for one row less.
 at-most : (t : List ℕ) (k row : ℕ) (rows : List (List (Option ℤ))) → row ≤ 4 → entry_faults t k (entries_from bound_entry row rows) ≡ [] →
     row + length rows ≤ 4
 at-most t k row [] low none = omega arith
@@ -78,6 +79,9 @@ at-least n p e = by (nat_lt n 4) refl e
     by true test e = absurd (cc)
     by false test e = grind (arith, nat_tests)
 
+-- A plan that is read has four bounds: no place is wrong, so the last look finds no row missing and there are at least four; and a
+-- fifth row would be wrong, as it gives none (`at-most`). Each row gives one bound. So the checker may read the bounds of all four
+-- passes.
 pub four-bounds : (day : DayFacts) (tables : List Table) (text : PlanText) → read_of day tables ≡ Ok text → length text.bounds ≡ 4
 four-bounds day tables text read =
     let are = bound-rows day tables text read in

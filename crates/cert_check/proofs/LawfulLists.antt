@@ -82,7 +82,9 @@ trip-times c text item count trip said at is =
     ∙ ap (λ (o : Option Trip). option_map (λ (t : Trip). t.fid) o) at in
     (text, said, item, named, is)
 
--- a pool with too many blocks: its number and its vehicles
+-- A pool with too many blocks: its number and its vehicles. What is answered names the pool by its number and its vehicles, and the
+-- verdict names the class. The class is there, as the verdict says, so both are read at one place of the pools, and they are those of
+-- the day. Trips, pieces and groups, above and below, are named the same way.
 pub pool-over : (c : Case) (text : PlanText) (pools : List Pool) (class used : ℕ) (d : Pool) → pools ≡ c.day.params.pools →
     text_in c ≡ Ok text →
     IsVerdict (blocks_in c false) text.blocks.columns (verdicts.Over class used) →

@@ -19,7 +19,8 @@ use Rattle.cert_check.specs.Judging.{Case, blocks_in, duties_in, duty_list, duty
 use Rattle.cert_check.specs.Old.{AnswersSayOld, HasLawfulBlocks, HasTripsOnce, IsGood, old_pieces}
 use Rattle.cert_check.specs.Reasons.{HasBlocks, HasDuties}
 
--- lists that are the same but for their worths have the same pieces
+-- Lists that are the same but for their worths have the same pieces. Pieces are cut block by block, and in a block the worth plays no
+-- part.
 same-cut : (day : DayFacts) (number : ℕ) (as' bs : List Column) → HaveSameLists as' bs →
     pieces_by_block day number as' ≡ pieces_by_block day number bs
 same-cut day number [] [] h = refl
@@ -44,7 +45,9 @@ lawful-blocks : (c : Case) (text : PlanText) (blocks : Plan) → HasBlocks c tex
 lawful-blocks c text blocks has = λ place list below at.
     worth-at (blocks_in c false) text.blocks.columns blocks.columns place list has.lawful.0 has.lawful.1.worths at
 
--- where the blocks are a plan and each piece stands once, the tables are a plan of the day
+-- Where the blocks are a plan and each piece stands once, the tables are a plan of the day. The lists that the tables say differ from
+-- the plan that was found in worths alone; so trips that stand once there stand once here, each list has a worth, and the pieces, and
+-- with them the duties' piece numbers, are the same.
 good : (c : Case) (text : PlanText) (blocks : Plan) → HasBlocks c text blocks →
     StandOnce (duties_in c (pieces_in c blocks.columns) false) (duty_lists c blocks.columns text) → IsGood c
 good c text blocks has once =
@@ -66,6 +69,9 @@ good-duties c text blocks duties has =
     good c text blocks has.has_blocks (λ item below. ap (times item) (same-items lists duties.columns has.lawful.0)
     ∙ has.lawful.1.once item below)
 
+-- Reasons are taken in turn. One against a trip, a block or a piece is handed over with what had to hold before it; all later ones,
+-- and a yes, presuppose lawful blocks and pieces that stand once, which is `good`. A pool with too many blocks is no reason against an
+-- earlier plan, and nothing follows from it. So `answers_say_old` ties what `check` answers to what `check_old` does.
 pub says-old : (c : Case) → AnswersSayOld c
 says-old c (Yes vehicles block_cost duty_count duty_cost) (text, blocks, duties, cert, accepted, one, two, three, four) =
     good-duties c text blocks duties accepted.is_covered.is_charged.has_cert.has_tables.has_duties

@@ -91,6 +91,10 @@ pub record AreFew (p : Problem) (lists : List Column) : Type 0 where
   pub few_lists : length lists ≤ p.items
   pub few_items : length (all_items lists) ≤ p.items
 
+-- Lists of which each has a worth, and in which each item stands once, are short, whatever the caps are. With their worths (`found`)
+-- they are a plan of the problem whose classes have each as many places as there are lists, since no class can have more lists than
+-- all together; and a plan has no more columns and items than there are items. So an earlier plan may use more vehicles than the day
+-- has, and counts still fit.
 pub are-few : (p : Problem) (lists : List Column) → HasListedColumns p → StandOnce p lists →
     HaveWorths p lists (length lists) → AreFew p lists
 are-few p lists listed once worths =

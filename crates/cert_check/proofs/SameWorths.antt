@@ -46,6 +46,8 @@ pub itself : (p : Problem) (cs : List Column) (verdict : PlanVerdict) → IsVerd
     verdict ≡ Lawful (record { columns = cs })
 itself p cs verdict is plan = plans-found p cs cs verdict (own-lists cs) plan is
 
+-- Judging lists asks for no worths, it finds them; so duties in printed order are a plan with the worths that they have only where
+-- these are the ones found. Where one differs they are none: a plan is found as itself (`itself`), with its own worths.
 pub other-worths : (p : Problem) (cs : List Column) (found : Plan) → IsVerdict p cs (Lawful found) →
     same_worths cs found.columns ≡ false → IsPlan p cs → ⊥
 other-worths p cs found is worths plan =

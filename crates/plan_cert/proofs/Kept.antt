@@ -41,7 +41,9 @@ other-pass count pass es e off =
     same-on (λ n. found_price pass n (es ++ e ∷ [])) (λ n. found_price pass n es) 0 count
     (λ n. found-other pass n es e (ap (λ (t : Bool). t && nat_eq e.number n) off))
 
--- the prices of the entry's own pass
+-- The prices of the entry's own pass. One price more changes the prices found of its own pass at its own number, where none was found
+-- before, and nowhere else; for numbers of the pass are told apart. Prices found of other passes stay as they are (`other-pass`). So
+-- to write a price into its empty slot is to let the definition see one entry more, which is `put-slot`.
 own-pass : (count : ℕ) (pass : Pass) (es : List Entry) (e : Entry) → same_pass e.pass pass ≡ true → e.number < count →
     found_price pass e.number es ≡ None →
     found_prices count pass (es ++ e ∷ []) ≡ slice_set (found_prices count pass es) e.number (Some e.price)
@@ -114,7 +116,10 @@ slots-long count es BlockCost = length-map-range_with_len (λ n. found_price Blo
 slots-long count es DutyNumber = length-map-range_with_len (λ n. found_price DutyNumber n es) 0 (count DutyNumber)
 slots-long count es DutyCost = length-map-range_with_len (λ n. found_price DutyCost n es) 0 (count DutyCost)
 
--- what is kept of the rows before a place, none of which is wrong
+-- What is kept of the rows before a place, none of which is wrong. The invariant of the loop over the rows: `before` are the entries
+-- of the rows up to the place, the slots are what is found among these, and from the place on the search for the first wrong row goes
+-- on with them. So a row is wrong, for the loop and for the definition, where it says no price or where its slot is filled, and after
+-- the last row the slots are those of all rows.
 pub record IsKept (say : List Field → Option Entry) (count : Pass → ℕ) (rows : List (List Field)) (slots : Slots) (place : ℕ) : Type 0 where
   pub before : List Entry
   pub wrong : wrong_price say [] 0 rows ≡ wrong_price say before place (drop place rows)

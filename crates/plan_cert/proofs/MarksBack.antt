@@ -83,6 +83,9 @@ duty_tag pass m = record { pass = pass; mark = m }
 abbrev pub block_tag : Pass → BlockMark → BlockEntry
 block_tag pass m = record { pass = pass; mark = m }
 
+-- The row of a mark of duties says the mark again, field by field: its pass by the number, its class by the place of the class's
+-- number, which stands once among those that rise, the piece counted from 1, and numbers that have 32 bits. Marks of blocks, below,
+-- have fewer fields.
 duty-back : (s : Shape) (pass : Pass) (m : Mark) → pass_from 3 DutyNumber DutyCost (pass_field pass) ≡ Some pass →
     AllPairs (λ (earlier later : ℕ). earlier < later) (numbers_in s.classes pass) →
     IsMarkOf (items_of s pass) (length (numbers_in s.classes pass)) m →
@@ -154,6 +157,8 @@ unpicked pick tag [] other = refl
 unpicked {A} {M} pick tag (m ∷ ms) other =
     ap (λ (o : Option M). cons_option o (filter_map pick (map tag ms))) (other m) ∙ unpicked pick tag ms other
 
+-- The rows of the cheaper pass stand behind those of the first; picking a pass leaves nothing of the other's marks and all of its own,
+-- in their order. So one table with a column for the pass keeps both lists apart.
 pub duties-kept : (three four : List Mark) → duty_marks (map (duty_tag DutyNumber) three ++ map (duty_tag DutyCost) four)
     ≡ record { of_number = three; of_cost = four }
 duties-kept three four =

@@ -27,6 +27,8 @@ abbrev pub all_entries : List ℤ → List ℤ → List ℤ → List ℤ → Lis
 all_entries one two three four =
     entries BlockNumber 0 one ++ (entries BlockCost 0 two ++ (entries DutyNumber 0 three ++ entries DutyCost 0 four))
 
+-- No price of the four passes is given twice: within a pass the numbers rise (`rising-new`), and in the passes before nothing of this
+-- pass is found (`other-none`). So no row of what is written is wrong.
 pub all-new : (one two three four : List ℤ) → AreNew [] (all_entries one two three four)
 all-new one two three four =
     let e1 = entries BlockNumber 0 one in
@@ -55,6 +57,9 @@ own-slots es pass count zs same long =
     same-on (λ n. found_price pass n es) (λ n. found_price pass n (entries pass 0 zs)) 0 count same
     ∙ (ap (λ (c : ℕ). map (λ n. found_price pass n (entries pass 0 zs)) (range_with_len 0 c)) (sym long) ∙ own-found pass 0 zs)
 
+-- All prices are found in their slots. Of the four lists of entries, one behind the other, three say nothing of a pass, so what is
+-- found is found in its own list (`own-slots`), under the numbers from 0 on. As each list is as long as its pass has items or classes,
+-- all slots are filled, and `four-back` makes lists of them.
 pub all-slots : (count : Pass → ℕ) (one two three four : List ℤ) → length one ≡ count BlockNumber → length two ≡ count BlockCost →
     length three ≡ count DutyNumber → length four ≡ count DutyCost →
     found_slots count (all_entries one two three four) ≡ record {
@@ -140,7 +145,8 @@ class-row s pass class number z found =
     let g : Option ℕ → Option Entry = λ o. o >>= λ n. Some (entry pass n z) in
     ap f (pass-back pass) ∙ ap g found
 
--- the rows of class prices say them
+-- The rows of class prices say them. The rows of class prices, each with the number of its class, say the classes in order: numbers
+-- rise, so each stands once among them, and the row gives the very class that it was written for (`class-back`).
 pub classes-say : (s : Shape) (pass : Pass) (class : ℕ) (zs : List ℤ) → class + length zs ≤ length (numbers_in s.classes pass) →
     AllPairs (λ (earlier later : ℕ). earlier < later) (numbers_in s.classes pass) →
     Says (entry_of Classes s three_columns) (signed_rows (class_rows pass (numbers_in s.classes pass) class zs)) (entries pass class zs)

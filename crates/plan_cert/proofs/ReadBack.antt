@@ -53,6 +53,9 @@ four_of_classes one two three four = record {
   duty_cost = four.class_prices;
 }
 
+-- Prices of items are read back. The rows of the four passes stand one pass behind another, and each says the price of its item
+-- (`items-say`, for which the price must be moderate); `prices-back` puts the entries of such rows back into four lists. Each pass has
+-- as many prices as items, so no item is left without one.
 prices-of : (s : Shape) (one two three four : CertPart) → IsPart s.trips (length s.classes.pools) one →
     IsPart s.trips (length s.classes.pools) two → IsPart s.pieces (length s.classes.groups) three →
     IsPart s.pieces (length s.classes.groups) four →
@@ -119,6 +122,8 @@ class-prices-of s one two three four own is1 is2 is3 is4 =
     two.class_prices three.class_prices four.class_prices
     (subst P (sym (rows-four r1 r2 r3 r4)) says) long1 long2 long3 long4
 
+-- Marks of duties are read back: each row says one mark and its pass, and of the marks of both passes each pass picks its own, in
+-- their order. Marks of blocks go the same way below. The order of marks counts, as a certificate is read back as it is.
 duties-of : (s : Shape) (one two three four : CertPart) → HaveOwnNumbers s.classes → IsDutyPart s.pieces (length s.classes.groups) three →
     IsDutyPart s.pieces (length s.classes.groups) four →
     duty_marks_of s (four_tables s.classes one two three four) ≡ Ok (record { of_number = three.cover.marks; of_cost = four.cover.marks })
@@ -147,6 +152,8 @@ priced : (ps : List Price) → map price (map raw ps) ≡ ps
 priced [] = refl
 priced (p ∷ ps) = ap (λ (l : List Price). p ∷ l) (priced ps)
 
+-- A part that is read has no marks of the other kind, and neither has one that is written; so nothing of the part is lost, though the
+-- tables have no room for such marks.
 block-part : (part : CertPart) → part.cover.marks ≡ [] → block_part (map raw part.prices.items) part.class_prices part.blocks.marks ≡ part
 block-part part none =
     let make : List Price → List Mark → CertPart =
@@ -171,6 +178,8 @@ duty-part part none =
     } in
     ap (λ (ps : List Price). make ps []) (priced part.prices.items) ∙ ap (λ (ms : List BlockMark). make part.prices.items ms) (sym none)
 
+-- The four tables are read one after another: with each rewritten to the lists that were written (`prices-of`, `class-prices-of`,
+-- `duties-of`, `blocks-of`) reading ends, and the parts made of these lists are those of the certificate.
 four-parts : (s : Shape) (one two three four : CertPart) → HaveOwnNumbers s.classes → IsBlockPart s.trips (length s.classes.pools) one →
     IsBlockPart s.trips (length s.classes.pools) two →
     IsDutyPart s.pieces (length s.classes.groups) three → IsDutyPart s.pieces (length s.classes.groups) four →
@@ -210,6 +219,8 @@ any-parts s (one ∷ two ∷ three ∷ []) own are = absurd are
 any-parts s (one ∷ two ∷ three ∷ four ∷ []) own are = four-parts s one two three four own are.0 are.1 are.2 are.3
 any-parts s (one ∷ two ∷ three ∷ four ∷ five ∷ more) own are = absurd are
 
--- what is written is read back
+-- What is written is read back, for a certificate of four parts: only then there are tables at all (`any-parts`), and then by
+-- `four-parts`. Numbers of classes must rise, so that each names its class alone. It is the contract of `certificates_are_read_back`:
+-- `check` sees the very prices and marks with which the planner proved its bounds.
 pub reads-back : (s : Shape) → ReadsBack s
 reads-back s cert own are = any-parts s cert.parts own are

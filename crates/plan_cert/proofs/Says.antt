@@ -51,6 +51,8 @@ new-both before (e ∷ es) es' h k =
     let P : List Entry → Type 0 = λ b. AreNew b es' in
     (h.0, new-both (before ++ e ∷ []) es es' h.1 (subst P (sym (append_assoc before (e ∷ []) es)) k))
 
+-- The search for the first wrong row keeps the entries of the rows before, so it is followed with such entries before it: each row
+-- says its entry, and no entry before gives a price of the same number; so no row is the first wrong one.
 pub none-wrong : (say : List Field → Option Entry) (before : List Entry) (place : ℕ) (rows : List (List Field)) (es : List Entry) →
     Says say rows es → AreNew before es → wrong_price say before place rows ≡ None
 none-wrong say before place [] [] h new = refl
@@ -99,7 +101,8 @@ and-false : (a : Bool) → a && false ≡ false
 and-false true = refl
 and-false false = refl
 
--- prices whose numbers rise are new
+-- Prices whose numbers rise are new. It goes along the numbers: what is asked of the entries before is that they give nothing from
+-- this number on, and one entry more leaves this true from the next number on.
 pub rising-new : (before : List Entry) (pass : Pass) (number : ℕ) (zs : List ℤ) →
     ((n : ℕ) → number ≤ n → found_price pass n before ≡ None) → AreNew before (entries pass number zs)
 rising-new before pass number [] none = tt

@@ -23,7 +23,8 @@ change-beyond f place [] beyond = refl
 change-beyond f zero (x ∷ xs) beyond = absurd (omega arith)
 change-beyond f (suc place) (x ∷ xs) beyond = ap (λ ys. x ∷ ys) (change-beyond f place xs (omega arith))
 
--- entries of which one differs
+-- Entries of which one differs. It goes to the place in step with the list, and the entries' places are counted on from any `from`. So
+-- to put one row's item behind those of its block is to let the definition see one row more.
 change-entries : {A B : Type 0} (h : A → A) (f g : ℕ → B → A) (from place : ℕ) (xs : List B) →
     ((k : ℕ) (x : B) → k ≢ from + place → f k x ≡ g k x) → ((x : B) → h (f (from + place) x) ≡ g (from + place) x) →
     change h place (entries_from f from xs) ≡ entries_from g from xs
@@ -81,6 +82,9 @@ one-trip before e classes =
     zero-plus : (n : ℕ) → n ≡ 0 + n
     zero-plus n = omega arith
 
+-- The rows are split into those before and those to come; the lists hold what the rows before say of each block. One row changes the
+-- list of its block alone (`one-trip`), so the lists then hold what these rows say together with it. From no rows on this is the loop
+-- that gathers.
 all-trips : (before entries : List (ℕ × ℕ)) (classes : List ℕ) →
     with_trips (entries_from (list_said before) 0 classes) entries ≡ entries_from (list_said (before ++ entries)) 0 classes
 all-trips before [] classes = ap (λ (l : List (ℕ × ℕ)). entries_from (list_said l) 0 classes) (sym (append-nil before))
@@ -106,7 +110,8 @@ blocks-at entries lists row (class ∷ classes) at =
     (blocks-at entries lists (row + 1) classes (λ k. let moved : row + 1 + k ≡ row + suc k =
     omega arith in ap (λ n. slice_index_or lists n []) moved ∙ at (suc k)))
 
--- the blocks of all trips
+-- The blocks of all trips. One pass over the rows, which puts each trip behind those of its block, gives what the definition gets by
+-- going over all rows for each block. So `gathered_blocks` promises the definition's blocks though it goes over the rows once.
 pub blocks-gathered : (entries : List (ℕ × ℕ)) (classes : List ℕ) →
     blocks_from (with_trips (map no_trips classes) entries) classes ≡ blocks_said entries classes
 blocks-gathered entries classes =

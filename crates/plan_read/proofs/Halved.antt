@@ -42,6 +42,8 @@ put-found fid t (next ∷ ts) =
           | false ↦ λ e. refl
         ] refl
 
+-- A FRT_FID may stand at several trips, of which the first counts: the order by FRT_FID keeps those of one FRT_FID as they stood,
+-- because each is put in front of all that are not smaller, so the first of a FRT_FID in the order is its first of all.
 order-found : (fid : ℕ) (ts : List Told) → find (has fid) (in_order fid_of ts) ≡ find (has fid) ts
 order-found fid [] = refl
 order-found fid (t ∷ ts) =
@@ -85,7 +87,10 @@ abbrev here : ℕ → Option Told → Option Told
 here fid None = None
 here fid (Some t) = if nat_eq t.fid fid then Some t else None
 
--- in the order of FRT_FID the first trip of one stands where the smaller ones end, or nowhere
+-- In the order of FRT_FID the first trip of one stands where the smaller ones end, or nowhere. Before the place all are smaller, so
+-- the search of the definition passes over them; at the place stands the least that is not smaller. If it has the FRT_FID it is found,
+-- and if not all behind it are greater. So halving, which ends at this place, finds what the definition finds trip by trip, and
+-- `place_of` and `by_fid` may stand in for the look-up in `read_of`.
 pub halved : (fid : ℕ) (ts : List Told) (place : ℕ) → IsNonDecreasingBy fid_of ts → place ≤ length ts →
     ((k : ℕ) (d : Told) → k < place → fid_of (get_or ts k d) < fid) →
     ((k : ℕ) (d : Told) → place ≤ k → k < length ts → fid ≤ fid_of (get_or ts k d)) → find (has fid) ts ≡ here fid (slice_get ts place)

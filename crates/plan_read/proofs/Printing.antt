@@ -23,6 +23,8 @@ put-in-front : (c : Column) (cs : List Column) → IsInFront c cs → put c cs �
 put-in-front c [] front = refl
 put-in-front c (next ∷ cs) front = ap (λ (t : Bool). if t then next ∷ put c cs else c ∷ next ∷ cs) front
 
+-- Columns that stand in order are put in order from the last to the first, and each comes to stand in front of those behind it; so
+-- nothing moves. That printed columns stand so (`stands`) is kept by each `put`, and with both printing twice is printing once.
 kept : (cs : List Column) → Stands cs → printed cs ≡ cs
 kept [] stands = refl
 kept (c ∷ cs) stands = ap (put c) (kept cs stands.1) ∙ put-in-front c cs stands.0

@@ -91,6 +91,9 @@ text_in day t b d p s =
     (given_of (entries_from (reading.duty_entry n) 0 d))
     (given_of (map (reading.part_entry n) p)) (given_of (entries_from reading.bound_entry 0 s))
 
+-- Five tables are read one after another, each up to its first row that gives nothing. Each reading is: the first of its wrong places,
+-- or all that its rows give; and five such steps stop at the first place of the five lists put together. At the last the number of
+-- bounds is looked at, which is that of the rows, as none is wrong then.
 pub values-same : (day : DayFacts) (t b d p s : Values) →
     numbers_said day (counts_of b d) t b d p s ≡ read_first (text_in day t b d p s) (first (places_in day t b d p s))
 values-same day t b d p s =
@@ -161,7 +164,9 @@ whole-read day ts p found =
     ap (λ (l : List At). read_first (reading.said day ts) (first l)) (wholes-first day ts)
     ∙ ap (λ (o : Option At). read_first (reading.said day ts) o) (first-of (wholes ts) rest p found)
 
--- rows of tables that are right as wholes
+-- Rows of tables that are right as wholes. The rows that were found in the tables give what the definition says of the tables: with no
+-- table wrong as a whole its list of places is that of the rows alone, and these are the five tables' numbers. With `whole-read`, for
+-- tables that are wrong, it is what `read_tables` promises.
 pub rows-read : (day : DayFacts) (ts : List Table) (rows : PlanRows) → AreRows rows ts → read_places day ts ≡ rows_said day rows
 rows-read day ts rows are =
     let t = rows_of reading.trips ts in

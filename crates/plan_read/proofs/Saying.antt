@@ -7,7 +7,9 @@ use Rattle.umlauf_write.specs.Reading.{entries_from}
 use Rattle.plan_read.specs.declared.fault.PlanTable.{PlanTable}
 use Rattle.plan_read.specs.Places.{◌>>=◌, name_of, said, said_on, unless}
 
--- what is there unless a place is wrong
+-- What is there unless a place is wrong. The rows are counted on from any row, and stand behind what the rows before gave; a row that
+-- gives nothing is the first of the wrong places, and ends both sides alike. So a loop that stops at its first wrong row answers what
+-- the definition says of all rows.
 pub said-entries-on : {A B : Type 0} (entry : ℕ → B → Option A) (t : PlanTable) (given : List A) (row : ℕ) (xs : List B) →
     said_on entry t given row xs ≡ unless (entry_faults (name_of t) (row + 1) (entries_from entry row xs))
     (given ++ given_of (entries_from entry row xs))

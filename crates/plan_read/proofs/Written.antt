@@ -53,6 +53,9 @@ default-same [] k d e there = absurd (omega arith)
 default-same (x ∷ xs) zero d e there = refl
 default-same (x ∷ xs) (suc k) d e there = default-same xs k d e (omega arith)
 
+-- A pool is found again by its number: numbers rise, so no earlier pool has it, and the first place with the number is the class
+-- itself. The table's row names the pool by its number alone, and this turns the number back into the class; of groups the same is
+-- shown below. The default of `get_or` plays no part, as the place is there (`default-same`).
 pool-place : (day : DayFacts) (class : ℕ) → HaveOwnNumbers day → class < length day.params.pools →
     place_in (map (λ (pool : Pool). pool.number) day.params.pools) (pool_of day class).number ≡ Some class
 pool-place day class own there =
@@ -96,7 +99,9 @@ each-item : (n : ℕ) (Q : ℕ → Type 0) → ((i : ℕ) → i < n → Q i) →
 each-item n Q step [] below = tt
 each-item n Q step (x ∷ xs) below = (step x below.0, each-item n Q step xs below.1)
 
--- entries that are what is made of each item
+-- Entries that are what is made of each item. Rows are counted on from any row `k`, so that the induction can go behind the first of
+-- them; what is asked of an item is asked at its place behind `k`. So block by block, and duty by duty, what the rows say can be
+-- compared with the plan.
 entries-are : {A B C : Type 0} (f : ℕ → B → C) (g : A → B) (h : A → C) (k : ℕ) (xs : List A) →
     ((j : ℕ) (d : A) → j < length xs → f (k + j) (g (get_or xs j d)) ≡ h (get_or xs j d)) → entries_from f k (map g xs) ≡ map h xs
 entries-are f g h k [] same = refl
@@ -150,6 +155,7 @@ trip_says day table blocks n k trip =
     reading.trip_entry n (numbers reading.trips.columns (trips_of day table blocks (codes "REC_FRT"))
     (found_row table day.kind.version blocks k trip)) ≡ Some (two k (block_of 1 blocks k - 1))
 
+-- All rows of trips give what each gives, one by one; the trips are counted on from `k`, as their rows are.
 trips-given : (day : DayFacts) (table : Table) (blocks : List Column) (n : Numbers) (k : ℕ) (ts : List Trip) →
     EachFrom (trip_says day table blocks n) k ts →
     map (reading.trip_entry n)
@@ -162,6 +168,10 @@ trips-given day table blocks n k (t ∷ ts) each =
     (numbered (found_row table day.kind.version blocks) (k + 1) ts))) each.0
     ∙ ap (λ (l : List (Option (ℕ × ℕ))). Some (two k (block_of 1 blocks k - 1)) ∷ l) (trips-given day table blocks n (k + 1) ts each.1)
 
+-- The written row of a trip says the trip and its block. The row taken from the table has the trip's FRT_FID, since one row alone
+-- passes the test; the block's number is put in the column UM_UID, which is another, so FRT_FID stays (`uid-row`). No earlier trip has
+-- this FRT_FID, so it is found at the trip's own place; and as the trip stands once among the blocks, the number is one of theirs
+-- (`owned-there`).
 trip-says : (day : DayFacts) (table : Table) (blocks : List Column) (n : Numbers) (k : ℕ) (d : Trip) → IsTripTable day table →
     HaveOwnNumbers day → k < length day.trips → n.fids ≡ map (λ (trip : Trip). trip.fid) day.trips →
     n.blocks ≡ length blocks → length blocks ≤ 3000 → times k (all_items blocks) ≡ 1 → trip_says day table blocks n k (get_or day.trips k d)
@@ -193,7 +203,9 @@ trip-says day table blocks n k d is own there fids count few once =
     (uid-row heads row trip.fid block fid_at.0 uid_at.0 fid_at.1 uid_at.1 (omega (arith, long, low)) (omega (arith, last, few)) has_fid)
     ∙ trip-given n trip.fid k block found first (omega (arith, last, count))
 
--- All tables together.
+-- All tables together. Where each row of the five tables gives something, no place is wrong and what the rows give is what was put in:
+-- five rewrites take away the lists of places, which are empty, and five more the options around the values. So what is read is the
+-- plan that the rows say.
 collapse : (trips : List (ℕ × ℕ)) (classes groups : List ℕ) (parts : List Part) (bounds : List ℕ) →
     read_or (text_of (given_of (given trips)) (given_of (given classes)) (given_of (given groups)) (given_of (given parts))
     (given_of (given bounds)))
@@ -224,7 +236,9 @@ collapse trips classes groups parts bounds =
     ∙ (ap (λ (l : List Part). ok (text_of trips classes groups l (given_of (given bounds)))) (all-given parts)
     ∙ ap (λ (l : List ℕ). ok (text_of trips classes groups parts l)) (all-given bounds)))))))))
 
--- what the rows say is the plan
+-- What the rows say is the plan. It is shown block by block and duty by duty: the rows with a block's number have its trips in their
+-- order (`block-trips`, for which each trip must be in one block alone and a block's trips must rise), and the rows with a duty's
+-- number have its pieces in theirs (`duty-parts`). Classes and group numbers are what their own rows give.
 texts-same : (day : DayFacts) (answer : Answer) (p q : Problem) → IsAnswerOf day p q answer →
     text_of (owned answer.blocks.columns 0 day.trips) (map (λ (c : Column). c.class) answer.blocks.columns)
     (map (λ (c : Column). (group_of day c.class).number) answer.duties.columns)
@@ -283,6 +297,10 @@ none-wrong day table answer is =
     λ f u. (((when (is_none f || (is_none u || false)) (place (codes "REC_FRT") 0) ++ []) ++ []) ++ []) ++ [] in
     ap (λ (o : Option ℕ). lacks o (place_of (codes "UM_UID") table.columns)) fid.1 ∙ ap (λ (o : Option ℕ). lacks (Some fid.0) o) uid.1
 
+-- The tables that are written of a plan are read back as that plan. `read_of` is rewritten from the tables on: none is wrong as a
+-- whole, and each table's rows give its items one by one (`te`, `be`, `de`, `pe` and `four`); then no place is wrong (`collapse`), and
+-- what is said is the plan (`texts-same`). The name of the table of trips is replaced by REC_FRT first, so that tables are told apart
+-- by their names. This is the contract of `plans_are_read_back`, on which it rests that a written plan is judged as the plan itself.
 pub reads-back : PlanReadsBack
 reads-back day table answer p q is own lawful =
     let B = answer.blocks.columns in

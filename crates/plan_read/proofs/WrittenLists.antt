@@ -58,7 +58,8 @@ no-stands i (x ∷ xs) off =
     none x i n e nil = let turned : i == x ≡ false = grind (arith, nat_tests) in
         let one : ◌≡◌ {A = ℕ} (cond (i == x) 1 0) 0 = rw turned refl in omega (arith, one, nil)
 
--- a block that comes later has a later number, or none has the trip
+-- A block that comes later has a later number, or none has the trip. The rest of the blocks is numbered on from `first`; so in `owner`
+-- no block behind can have the number of one before it.
 numbers-later : (first : ℕ) (cs : List Column) (i : ℕ) → (first ≤ block_of first cs i) ⊎ (block_of first cs i ≡ 0)
 numbers-later first [] i = inr refl
 numbers-later first (c ∷ cs) i =
@@ -79,7 +80,10 @@ part-times i k [] d within = absurd (omega arith)
 part-times i zero (c ∷ cs) d within = omega (arith, times-append i c.items (all_items cs))
 part-times i (suc k) (c ∷ cs) d within = omega (arith, times-append i c.items (all_items cs), part-times i k cs d (omega arith))
 
--- a trip that is in one block alone is in the block of its number, and in no other
+-- A trip that is in one block alone is in the block of its number, and in no other. It goes by the blocks in order. Where the first
+-- has the trip, the number is the first's, and no later block has the trip, as it would stand twice; where the first has it not, the
+-- trip stands once among the others, which are counted on from the next number. So `block_of`, which stops at the first block that has
+-- the trip, decides for every block whether the trip is its own.
 owner : (first : ℕ) (cs : List Column) (i k : ℕ) (d : Column) → 0 < first → k < length cs → times i (all_items cs) ≡ 1 →
     stands i (get_or cs k d).items ≡ nat_eq (block_of first cs i) (first + k)
 owner first [] i k d one within once = absurd (omega arith)
@@ -156,7 +160,10 @@ not-before k (x ∷ xs) rise from =
     lower x k [] from h = tt
     lower x k (y ∷ ys) from h = omega (arith, from, h)
 
--- numbers that pass a test, in their order, are a rising list of those that pass it
+-- Rows of trips, read from the number `k` on, give a block exactly the rising list of its trips, of which those below `k` are taken
+-- off already. If the list begins with `k` the row of `k` is picked and the list goes on behind it; if not, `k` stands nowhere in it,
+-- as all its trips are greater, and the row is passed over. The list keeps rising, from `k` on and below the end, so at the end of the
+-- rows it is empty.
 picked : {A : Type 0} (cs : List Column) (block k : ℕ) (ts : List A) (xs : List ℕ) → Rises xs → From k xs → AllBelow (k + length ts) xs →
     ((i : ℕ) → k ≤ i → i < k + length ts → nat_eq (block_of 1 cs i - 1) block ≡ stands i xs) → trips_in block (owned cs k ts) ≡ xs
 picked cs block k [] [] rise from below test = refl
@@ -200,7 +207,9 @@ picked {A} cs block k (t ∷ ts) (x ∷ xs) rise from below test =
     below-next n m [] e h = tt
     below-next n m (y ∷ ys) e h = let low = h.0 in (omega (arith, e, low), below-next n m ys e h.1)
 
--- the trips of the block at a place
+-- The trips of the block at a place: picked from all rows by the block's number they are the block's list. By `owner` a row has this
+-- number exactly where its trip stands in the list, and `picked` goes over all rows from 0 on. So REC_FRT alone says the blocks'
+-- trips, and in order.
 pub block-trips : {A : Type 0} (cs : List Column) (ts : List A) (k : ℕ) (d : Column) → k < length cs → Rises (get_or cs k d).items →
     AllBelow (length ts) (get_or cs k d).items →
     ((i : ℕ) → i < length ts → times i (all_items cs) ≡ 1) → trips_in k (owned cs 0 ts) ≡ (get_or cs k d).items
@@ -254,6 +263,7 @@ other-parts at duty other (item ∷ items) off =
     ap (λ (b : Bool). cons_option (if b then Some (at item) else None) (parts_in other (tag_all at duty items))) (apart duty other off)
     ∙ other-parts at duty other items off
 
+-- Tags of duties rise, so rows behind those of a duty never have its number.
 before-parts : (at : ℕ → ℕ × ℕ) (duty other : ℕ) (cs : List Column) → other < duty → parts_in other (all_tagged at duty cs) ≡ []
 before-parts at duty other [] low = refl
 before-parts at duty other (c ∷ cs) low =
@@ -261,7 +271,9 @@ before-parts at duty other (c ∷ cs) low =
     ∙ (ap (λ (l : List (ℕ × ℕ)). l ++ parts_in other (all_tagged at (duty + 1) cs))
     (other-parts at duty other c.items (λ e. absurd (omega (arith, e, low)))) ∙ before-parts at (duty + 1) other cs (omega arith))
 
--- the pieces of the duty at a place
+-- The pieces of the duty at a place. Rows stand duty by duty, each with the number of its duty: going to the place, the rows of the
+-- duties before have other numbers (`other-parts`), those of the duty itself are all picked (`own-parts`), and none behind has its
+-- number (`before-parts`). Pieces may stand in any order and need not be distinct, so nothing of the plan is asked here.
 pub duty-parts : (at : ℕ → ℕ × ℕ) (duty k : ℕ) (cs : List Column) (d : Column) → k < length cs →
     parts_in (duty + k) (all_tagged at duty cs) ≡ map at (get_or cs k d).items
 duty-parts at duty k [] d within = absurd (omega arith)

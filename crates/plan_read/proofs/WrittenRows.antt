@@ -99,6 +99,8 @@ duty-given pieces duties n duty k (item ∷ items) there each =
     ∙ ap (λ (l : List (Option Part)). Some (part duty (piece_at pieces item).block (piece_at pieces item).index) ∷ l)
     (duty-given pieces duties n duty (k + 1) items there each.1)
 
+-- The rows of all duties stand one duty behind another, and duties are counted on from `duty`; the rows of a duty are read by
+-- themselves (`duty-given`), and a reading of two lists of rows one behind the other is that of both (`map-both`).
 pub parts-given : (pieces : List Piece) (duties : List Column) (n : Numbers) (duty : ℕ) (cs : List Column) → duty + length cs ≤ n.duties →
     Each (λ (c : Column). Each (λ (item : ℕ). IsPieceOf n.blocks (piece_at pieces item)) c.items) cs →
     map (reading.part_entry n)
@@ -196,7 +198,9 @@ other-column heads fid uid d at at' =
 abbrev value_in : List Field → Option ℕ → Option ℤ
 value_in row place = option_and_then whole_number (option_and_then (slice_get row) place)
 
--- what a row with the number of a block has in the two columns
+-- What a row with the number of a block has in the two columns. The number of the block is put into the field of UM_UID; the field of
+-- FRT_FID is another, as one column cannot have both names (`other-column`), so it is read as before. A number below 2^63 is read back
+-- in a column of any format, of numbers or of text. So a row that was written over names its trip still, and its block.
 pub uid-row : (heads : List Head) (row : List Field) (fid block : ℕ) (pf pu : ℕ) → place_of (codes "FRT_FID") heads ≡ Some pf →
     place_of (codes "UM_UID") heads ≡ Some pu → pu < length row → block < 2 ^ 63 →
     value_in row (Some pf) ≡ Some (pos fid) →
