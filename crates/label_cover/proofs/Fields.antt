@@ -22,6 +22,9 @@ exact-bool true true e = refl
 exact-start : (a b : Sec) → a.0 ≡ b.0 → a ≡ b
 exact-start a b e = let second : ℤ → Sec = λ z. record { 0 = z } in ap second e
 
+-- An order that compares one field after another ends with no difference only where each field shows none, and numbers, times and
+-- truth values without a difference are equal. So to put marks in order and to take those away that repeat loses none, and the cover
+-- is one list.
 pub mark-exact : (a b : Mark) → mark_order a b ≡ Equal → a ≡ b
 mark-exact a b e =
     let p = both-equal _ _ e in

@@ -65,6 +65,9 @@ piece-priced : (d : DutyFacts) (prices : List Price) (class : ℕ) (g : Group) (
 piece-priced d prices class g k None = refl
 piece-priced d prices class g k (Some p) = on-priced d.counts prices class g k p (sign_on d g p)
 
+-- The net keeps the marks of first pieces without prices, once for all prices: what lets a list be open are its times and driving, and
+-- the price of its piece only moves the value. Case by case of what may be lacking (the piece, the way from home, an open list) both
+-- sides are none alike.
 pub first-priced : (d : DutyFacts) (prices : List Price) (class : ℕ) (g : Group) (k : ℕ) (free : Option Mark) →
     free ≡ first_mark d [] class g k →
     option_map (λ x. less_price x (price_at prices k)) free ≡ first_mark d prices class g k
@@ -79,6 +82,8 @@ both-parts : (counts : Bool) (g : Group) (m : Mark) (o : Option ℤ) →
 both-parts counts g m None = refl
 both-parts counts g m (Some off) = refl
 
+-- The sign-off is looked up first and its cost after it, each by itself; where there is no sign-off both are none. Put together they
+-- are what the definition asks of both at once, so the look-ups that a day shares give the closing value.
 pub close-parts : (d : DutyFacts) (g : Group) (m : Mark) (p : Piece) (off more : Option ℤ) → slice_get d.pieces m.piece ≡ Some p →
     off ≡ sign_off d g p →
     more ≡ option_map (off_value d.counts g) (sign_off d g p) →
@@ -99,6 +104,8 @@ if-some P (Some x) h = h x refl
 
 -- The value with which an open list closes fits 64 bits: of at most 3,000 pieces at prices of at most 3 * 10^15 it stays within
 -- 9.0001 * 10^18, with what sign-on and sign-off add.
+-- The least and the greatest value of an open list grow by one price with each piece (`MarkHasRanges`), and the sign-off adds what the
+-- group's rates and the ranges of times allow. So values may be added in machine numbers, and no sum is cut off.
 pub closed-fits : (d : DutyFacts) (g : Group) (m : Mark) (v : ℤ) → NetFits d → IsGroup g → MarkHasRanges (length d.pieces) m →
     closed_value d g m ≡ Some v →
     (neg_ℤ (pos 9223372036854775808) ≤ℤ v) × (v ≤ℤ pos 9223372036854775807)

@@ -26,7 +26,9 @@ place-there (y ∷ ys) (suc place) x at = let rest = place-there ys place x at i
 three-ways : (a b : ℕ) → (a < b) ⊎ ((a ≡ b) ⊎ (b < a))
 three-ways a b = grind arith
 
--- two numbers of which a property does not hold, while it holds of all before each of them, are one
+-- Two numbers of which a property does not hold, while it holds of all before each of them, are one. If one were smaller, the property
+-- would hold of it, as all before the other have it; yet of it the property does not hold. By this each first trip, list, class or
+-- class price that a reason names is one alone.
 pub one-first : (P : ℕ → Type 0) (k j : ℕ) → ((n : ℕ) → n < k → P n) → (P k → ⊥) → ((n : ℕ) → n < j → P n) → (P j → ⊥) → k ≡ j
 one-first P k j before fails before' fails' = elim (three-ways k j) [
   | inl less ↦ absurd (fails (before' k less))
@@ -38,6 +40,9 @@ one-first P k j before fails before' fails' = elim (three-ways k j) [
 
 -- Two things of one of two kinds each are the same where those of the first kind are, those of the second kind are, and two of different
 -- kinds contradict each other.
+-- A step of the checker ends or passes. So two answers that are at one step are the same there: both end, with the same reason; or
+-- both pass, and it is shown of the steps behind; and one cannot end where the other passes. Each step of both checks is one use of
+-- this.
 pub one-of-two : (A B A' B' S : Type 0) → A ⊎ B → A' ⊎ B' → (A → A' → S) → (A → B' → ⊥) → (A' → B → ⊥) → (B → B' → S) → S
 one-of-two A B A' B' S h k first apart apart' second = elim h [
   | inl one ↦ elim k [

@@ -18,6 +18,7 @@ use Rattle.one_answer.proofs.Verdicts.{one-verdict}
 use Rattle.one_answer.proofs.Parts.{no-gap, no-negative, not-high, one-high, one-negative, one-uncovered}
 use Rattle.one_answer.proofs.Steps.{AfterBlocks, AfterCert, AfterCharges, AfterCovers, AfterDuties, AfterTables, AfterText, ByBlocks, ByDuties, InSteps, answer-steps}
 
+-- It is the last step: a bound that is too high, the first by pass, or a yes with the plan's numbers.
 covers-once : (c : Case) (text : PlanText) (blocks duties : Plan) (cert : Cert) (a b : Answered) → AfterCovers c text blocks duties cert a →
     AfterCovers c text blocks duties cert b → a ≡ b
 covers-once c text blocks duties cert a b h k =
@@ -70,6 +71,7 @@ one-place made d table table' row row' (t, at, named, row_is) (t', at', named', 
     let same = some-same (slice_get made d.table) t t' at at' in
     (named ∙ (ap (λ (u : Table). u.name) same ∙ sym named'), row_is ∙ sym row_is')
 
+-- The first difference is computed from the tables, so it is one; and where there is none, only X_DIENST as a whole can be named.
 one-table : (c : Case) (text : PlanText) (blocks duties : Plan) (table table' : List ℕ) (row row' : ℕ) →
     IsTableReason c text blocks duties table row → IsTableReason c text blocks duties table' row' → (table ≡ table') × (row ≡ row')
 one-table c text blocks duties table table' row row' h k =
@@ -111,6 +113,8 @@ by-duties-once c text blocks (verdicts.Unlawful spot) a b h k = h ∙ sym k
 by-duties-once c text blocks (verdicts.Over class used) a b (group, at, said) (group', at', said') =
     let same = some-same (slice_get (groups_in c) class) group group' at at' in cc
 
+-- The verdict on the duties is one, and each verdict either is a reason, of which it says all numbers, or lets the duties pass as one
+-- plan, with which both answers go on.
 blocks-once : (c : Case) (text : PlanText) (blocks : Plan) (a b : Answered) → AfterBlocks c text blocks a → AfterBlocks c text blocks b →
     a ≡ b
 blocks-once c text blocks a b (v, is, rest) (v', is', rest') =

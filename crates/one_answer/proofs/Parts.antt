@@ -58,7 +58,8 @@ same-pair a b a' b' h k = elim h [
   ]
 ]
 
--- of two gaps neither is after the other
+-- Of two gaps neither is after the other. Gaps are ordered in full: by kind, then by their numbers. So of two of which neither is
+-- after the other both are of one kind and have the same numbers, and the first gap of a cover is one (`first-gaps`).
 same-gap : (g h : Gap) → IsNoLater g h → IsNoLater h g → g ≡ h
 same-gap (First class item) (First class' item') e f =
     let both = same-pair class item class' item' e f in let a = both.0 in let b = both.1 in cc
@@ -106,6 +107,9 @@ no-gap c blocks from (part ∷ parts) pass gap none is = elim is [
   | inr here ↦ not-whole c blocks from part gap none.0 here.1
 ]
 
+-- Part by part: either both answers find this part without gap, and are compared behind it, or both find its first gap, which is one.
+-- One cannot find a gap where the other finds a cover, as a gap denies a promise of the cover (`not-whole`). Class prices below 0 and
+-- bounds that are too high are told once for the same cause (`one-negative`, `one-high`).
 pub one-uncovered : (c : Case) (blocks : Plan) (from : ℕ) (parts : List CertPart) (pass pass' : ℕ) (g h : Gap) →
     IsFirstUncovered c blocks from parts pass g → IsFirstUncovered c blocks from parts pass' h → (pass ≡ pass') × (g ≡ h)
 one-uncovered c blocks from [] pass pass' g h one other = absurd one

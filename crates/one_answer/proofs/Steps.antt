@@ -113,6 +113,9 @@ at-covers : (c : Case) (text : PlanText) (blocks duties : Plan) (cert : Cert) (a
     AfterCovers c text blocks duties cert a → InSteps c a
 at-covers c text blocks duties cert a has rest = at-charges c text blocks duties cert a has.is_charged (inr (has.covered, rest))
 
+-- A reason comes with all that was passed before it, nested from the last step inward (`HasCert` has `HasTables`, and so on). Each
+-- `at-` lemma puts one such layer in front as a step that is passed, so that two answers can be compared from the first step on, where
+-- neither says yet whether it ends.
 reason-steps : (c : Case) (reason : Reason) → IsReason c reason → InSteps c (No reason)
 reason-steps c (reasons.PlanForm table row) is = inl (table, row, is, refl)
 reason-steps c (reasons.TripTimes fid times) (text, said, item, at, verdict) =

@@ -4,7 +4,8 @@ use Rattle.std.specs.Prelude.{Option}
 use Rattle.vdv451_text.specs.declared.table.Table.{Table}
 use Rattle.table_differences.specs.Differences.{difference_among, difference_on, found_or}
 
--- What is found of the tables from a place on is what is found of the first of them, or else of those behind it.
+-- What is found of the tables from a place on is what is found of the first of them, or else of those behind it. This is the step of
+-- the loop in `first_difference`, which carries that what is found of all tables is what is found of those that are left.
 pub one-more : (table column : List ℕ) (given made : List Table) (place : ℕ) (wanted : Table) (found : Option ℕ) → place < length made →
     wanted ≡ get_or made place wanted →
     found ≡ difference_among table column given wanted →

@@ -57,7 +57,8 @@ found_table_plain day table blocks plain few one =
     and_from (is_plain_name table.name) _ name.0
     (and_from (are_plain_columns table.columns) _ columns.0 (rows_plain table day.kind.version blocks 0 day.trips columns.1 few one))
 
--- a row that passes is the one row
+-- A row that passes is the one row. The place is a guess that the caller makes; it is tested, and where the row there is the trip's it
+-- is the one row of the trip, so it is the one that the definition's search finds.
 pub row_told : (table : Table) (heads : List Head) (rows : List (List Field)) (told version fid : ℕ) (row : List Field) →
     heads ≡ table.columns → rows ≡ table.rows → told < length rows → row ≡ get_or rows told row → is_row_of heads version fid row ≡ true →
     HasOneRow table version fid →

@@ -69,7 +69,9 @@ module _ {A : Type 0} (p : A → Bool) where
       by true e later = omega (arith, filter_first y xs e)
       by false e later = omega (arith, filter_later y xs e, later)
 
-  -- where one passes it is the first that does
+  -- Where one passes it is the first that does. If an earlier one passed, two would, as the one at the place passes too
+  -- (`some_passes`). So it does not matter in which way the row of a trip is found: the place that was told for it, or a search from
+  -- the first row on, give the same row.
   pub one_found : (xs : List A) (i : ℕ) (x : A) → i < length xs → x ≡ get_or xs i x → p x ≡ true →
       length (filter p xs) ≡ 1 → find p xs ≡ Some x
   one_found [] i x within is passes one = absurd (omega (arith, within))

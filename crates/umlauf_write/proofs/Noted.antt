@@ -26,7 +26,9 @@ set_there numbers item number trip e =
     let other : trip ≢ item = grind (arith, nat_tests) in
     get_or-set_other numbers item trip number 0 other
 
--- one item more is noted
+-- One item more is noted. A block's trips are noted one by one under its number. What is claimed of each trip of the day is the same
+-- all along: if it stands among the trips of the block that are left it gets the number, else it has what is noted now. So the order
+-- and any repeats do not matter.
 pub note_more : (items numbers : List ℕ) (i number trip : ℕ) (all : ℕ) → i < length items → slice_index items i < length numbers →
     (if list_any (λ item. item == trip) (drop i items) then number else slice_index numbers trip) ≡ all →
     (if list_any (λ item. item == trip) (drop (i + 1) items) then number else slice_index (set numbers (slice_index items i) number) trip)
@@ -39,7 +41,8 @@ note_more items numbers i number trip all within there so_far =
     let P : List ℕ → Type 0 = λ xs. (if list_any (λ k. k == trip) xs then number else slice_index numbers trip) ≡ all in
     step ∙ subst P at so_far
 
--- one block more is noted
+-- One block more is noted. Blocks are noted from the last to the first, so that of several blocks with a trip the first has the last
+-- word, as in `block_of`. So the numbers of all trips are found by going over all blocks once.
 pub block_more : (blocks : List Column) (left trip : ℕ) (block : Column) (old now : ℕ) → left < length blocks →
     block ≡ get_or blocks left block →
     now ≡ (if is_in trip block then left + 1 else old) → old ≡ block_of (left + 1 + 1) (drop (left + 1) blocks) trip →

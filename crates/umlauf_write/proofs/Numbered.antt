@@ -15,7 +15,9 @@ next_number : {A B : Type 0} (value : ℕ → A → B) (start i : ℕ) (items : 
     numbered value (start + i + 1) items ≡ numbered value (start + (i + 1)) items
 next_number value start i items = let e : start + i + 1 ≡ start + (i + 1) = omega arith in ap (λ n. numbered value n items) e
 
--- one item more: what was made so far and its value stand before the values of the others
+-- One item more: what was made so far and its value stand before the values of the others. It is the step of each loop that writes a
+-- table: what is written so far stands before the rows that the definition gives the items that are left. The first of these is taken
+-- off and its row put behind what is written, with the number that it has among all.
 pub numbered_more : {A B C : Type 0} (value : ℕ → A → B) (made : B → C) (start i : ℕ) (items : List A) (item : A) (all done now : List C) →
     i < length items → item ≡ get_or items i item → now ≡ done ++ made (value (start + i) item) ∷ [] →
     all ≡ done ++ map made (numbered value (start + i) (drop i items)) →

@@ -35,6 +35,8 @@ pub order_cheap : (cs : List Column) → AreCheap cs → AreCheap (printed cs)
 order_cheap [] are = tt
 order_cheap (c ∷ cs) are = put_cheap c (printed cs) are.0 (order_cheap cs are.1)
 
+-- To put a column among others changes neither how often an item stands in all nor how many columns a class has: it is counted in
+-- front or behind the one that it passes, and sums do not mind the order. Classes are counted the same way below.
 put_items : (i : ℕ) (c : Column) (cs : List Column) → times i (all_items (put c cs)) ≡ times i c.items + times i (all_items cs)
 put_items i c [] = times-append i c.items []
 put_items i c (next ∷ cs) = by (nat_lt (first_of_column next) (first_of_column c)) (put_items i c cs)
@@ -61,7 +63,9 @@ order_classes : (k : ℕ) (cs : List Column) → times k (all_classes (printed c
 order_classes k [] = refl
 order_classes k (c ∷ cs) = omega (arith, put_classes k c (printed cs), order_classes k cs)
 
--- a plan in printed order
+-- A plan in printed order. All that makes columns a plan is counted over all of them or asked of each: worths are asked of each
+-- (`put_columns`), items and classes are counted (`order_items`, `order_classes`). So a plan may be sorted before it is printed, and
+-- stays lawful.
 pub order_plan : (p : Problem) (cs : List Column) → IsPlan p cs → IsPlan p (printed cs)
 order_plan p cs plan = record {
   worths = order_columns p cs plan.worths;

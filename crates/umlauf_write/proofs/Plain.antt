@@ -66,6 +66,8 @@ zip_set (head ∷ heads) (old ∷ row) (suc place) field d within plain all =
 abbrev no_head : Head
 no_head = record { name = []; format = [] }
 
+-- One field of a plain row is replaced by a field that is plain in its column: a number in a column of numbers, digits in any other.
+-- All other fields stay, and so does the length of the row; so the table can be written, whatever format the company gave UM_UID.
 pub with_uid_plain : (heads : List Head) (place : Option ℕ) (row : List Field) (number : ℕ) → IfSome place (λ p. p < length heads) →
     number < 2 ^ 63 → is_plain_row heads row ≡ true → is_plain_row heads (with_uid heads place row number) ≡ true
 with_uid_plain heads None row number within small plain = plain
@@ -93,7 +95,7 @@ place_there name (head ∷ heads) =
     λ b. elim b as Goal [ true ↦ omega arith | false ↦ later (place_of name heads) (place_there name heads) ] in
     split (bytes_eq head.name name)
 
--- numbers of blocks are small
+-- Numbers of blocks are small. So a number of at most 3,001 is written, far below what a field can spell.
 pub block_small : (number : ℕ) (blocks : List Column) (trip : ℕ) → block_of number blocks trip ≤ number + length blocks
 block_small number [] trip = omega arith
 block_small number (block ∷ blocks) trip =

@@ -13,7 +13,9 @@ signed_append : (xs ys : List (List (Option ℤ))) → signed_rows (xs ++ ys) �
 signed_append [] ys = refl
 signed_append (x ∷ xs) ys = ap (λ rs. signed_row x ∷ rs) (signed_append xs ys)
 
--- one list more
+-- One list more. It is the step of the loops that write several rows for each block or duty: what is written so far stands before the
+-- rows of the lists that are left, and the next list's rows are put behind it all at once. The list's number is that of its place,
+-- from 1.
 pub all_more : {A : Type 0} (rows : ℕ → A → List (List (Option ℤ))) (i : ℕ) (items : List A) (item : A) (all done now : List (List Field)) →
     i < length items → item ≡ get_or items i item → now ≡ done ++ signed_rows (rows (i + 1) item) →
     all ≡ done ++ signed_rows (all_rows rows (1 + i) (drop i items)) →

@@ -29,6 +29,9 @@ pub record IsFound (p : Problem) (prices : List Price) (class : ℕ) (list : Lis
   pub is_value : least ≡ value_of prices worth list
   pub first : IsLeastOfClass p prices class (record { class = class; worth = worth; items = list })
 
+-- The search among labels knows nothing of worths: it finds the list that closes first of all. The tie of the two says that a list has
+-- a worth exactly where its label closes, and then with its value. So what is least, and first, among lists that close is so among
+-- columns.
 pub found-least : {L : Type 0} (w : Labelling L) (close : L → Option ℤ) (p : Problem) (prices : List Price) (class : ℕ)
     (list : List ℕ) (least : ℤ) →
     class < length p.caps → IsTied w close prices (p.worth class) → IsLeastClosed w close list least → IsFound p prices class list least
@@ -90,7 +93,9 @@ none-answer p prices class list least answer X found e =
     let P : Option Column → Type 0 = λ o. IfNone o X in
     subst P (sym (found-column p prices class list least answer found e)) tt
 
--- where each list closes above the limit, the class is paid
+-- Where each list closes above the limit, the class is paid. The search looks for closings of at most minus the class price less one;
+-- where there is none, no column has a value below minus the class price, as values are whole numbers. So with `found-least` a class
+-- is paid, or its first least list is told, and there is no third answer.
 pub above-paid : {L : Type 0} (w : Labelling L) (close : L → Option ℤ) (p : Problem) (prices : List Price) (class : ℕ) (class_price : ℤ) →
     IsTied w close prices (p.worth class) → AllCloseAbove w close (neg_ℤ class_price -ℤ pos 1) →
     IsAtMostAll p prices class (neg_ℤ class_price)
@@ -121,6 +126,8 @@ unpaid-refutes p prices class_prices column found paid =
     let high = found.unpaid in
     omega (arith, ints, low, high)
 
+-- This is the step of the loop over classes: those before are paid. The first class that is not paid ends it (`first-answer`), with
+-- its first least list; and where the loop ends otherwise all are paid.
 pub next-paid : (p : Problem) (prices : List Price) (class_prices : List ℤ) (class : ℕ) → AreClassesPaid p prices class_prices class →
     IsClassPaid p prices class_prices class →
     AreClassesPaid p prices class_prices (class + 1)

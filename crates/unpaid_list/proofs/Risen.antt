@@ -35,7 +35,8 @@ contains-stands : {L : Type 0} (xs : List L) (a : L) → Contains xs a → Stand
 contains-stands xs a h = (h.0, slice_get_read xs (length xs) h.0 a refl h.1 (sym h.2))
 
 module _ {L : Type 0} (m : Marking L) where
-  -- the same marks in other places
+  -- The same marks in other places. Marks are kept as a set; to sort them and to take repeats away moves them to other places, and
+  -- each promise of kept marks only asks that marks stand somewhere among them.
   pub kept-same : (xs ys : List L) → ((a : L) → Contains xs a → Contains ys a) → ((a : L) → Contains ys a → Contains xs a) →
       AreKept m xs → AreKept m ys
   kept-same xs ys onto from kept =
@@ -86,7 +87,10 @@ module _ {L : Type 0} (m : Marking L) where
       ((a : L) → StandsIn marks a → ClosesBelow m class_prices a → ⊥) → IsMarkCover m marks class_prices
   high-cover marks class_prices kept high = record { starts = kept.starts; steps = kept.steps; closes = high }
 
-  -- no kept mark closes below minus its class price, since it is a list's mark, and that list would be unpaid
+  -- No kept mark closes below minus its class price, since it is a list's mark, and that list would be unpaid. A kept mark is open by
+  -- a list of items, and if it closed too low, that list would have a worth, by the tie, and a value below minus the price of its
+  -- class, against the search that found all classes paid. That lists of one item and extensions are met is what kept marks are. So
+  -- the answer is a cover exactly where no list is unpaid.
   pub paid-cover : (p : Problem) (prices : List Price) (class_prices : List ℤ) (marks : List L) → IsPlaced m →
       AreMarksOf m p prices → AreKept m marks →
       AreClassesPaid p prices class_prices (length p.caps) → IsMarkCover m marks class_prices
