@@ -48,7 +48,8 @@ none_of : {X : Type 0} (f : X → List Part) → ((x : X) → bars_in (f x) ≡ 
 none_of f none [] = refl
 none_of f none (x ∷ xs) = none_before (f x) (flat_map f xs) (none x) ∙ none_of f none xs
 
--- items with one bar each
+-- Items with one bar each. With `none_of`, for items without bars, it splits a chart into stretches of parts: each has no bar, or one
+-- for each row.
 one_of : {X : Type 0} (f : X → List Part) (bar : X → Bar) → ((x : X) → bars_in (f x) ≡ bar x ∷ []) → (xs : List X) →
     bars_in (flat_map f xs) ≡ map bar xs
 one_of f bar one [] = refl
@@ -100,7 +101,8 @@ block_none vehicles lanes e =
     (lane_at lanes e.0).is_first)
     ∙ block_name_none vehicles e.1 (lane_at lanes e.0)
 
--- the chart of the blocks has one bar for each leg
+-- The chart of the blocks has one bar for each leg. The chart of the blocks is put together of a frame, the legs, the scale and the
+-- names of the lanes. All but the legs have no bar, so they may be taken away from before and behind, and the legs have one each.
 pub block_chart_bars : (sheet : BlockSheet) (hours : Hours) (starts : List ℕ) →
     bars_in (blocks.chart_parts sheet hours starts) ≡ map (blocks.leg_bar (lanes_by (blocks.pools_of sheet.blocks))) sheet.legs
 block_chart_bars sheet hours starts =
@@ -142,7 +144,9 @@ one_duty : (lanes : List Lane) (e : ℕ × DutyRow) → bars_in (duties.duty_at 
 unfolding duty_parts
 one_duty lanes e = refl
 
--- the chart of the duties has one bar for each duty, each pause and each piece
+-- The chart of the duties has one bar for each duty, each pause and each piece. So it is here, but three stretches in the middle have
+-- bars: the duties, the pauses and the pieces, in this order, so that what is later is drawn over what is earlier. A pause has a bar
+-- where there is time between two pieces of one duty.
 pub duty_chart_bars : (sheet : DutySheet) (hours : Hours) (starts : List ℕ) →
     bars_in (duties.chart_parts sheet hours starts) ≡ map (duty_bar_at (lanes_by (duties.groups_of sheet.duties)))
     (enumerate_from 0 sheet.duties)

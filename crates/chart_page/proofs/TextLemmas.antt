@@ -22,6 +22,7 @@ piece_plain b = piece_by b (b == 38) (b == 60) (b == 62) (b == 34) (b == 39) ref
 
 -- Each byte of a text is written as itself or as a reference to a character, and neither has a byte that begins or ends markup: of a
 -- reference by looking at the five, of a byte since it is then none of them.
+-- So no text of the tables can close an attribute or begin an element of the page: all its markup is one of the page's constants.
 pub escaped_plain : (text : List ℕ) → list_all (λ c. not (is_markup c)) (escaped text) ≡ true
 escaped_plain [] = refl
 escaped_plain (b ∷ text) =

@@ -3,7 +3,9 @@ use Rattle.std.proofs.Common.{◌≡◌, ℕ, suc, ◌+◌, ◌-◌, ◌<◌, Li
 use Rattle.vdv451_text.specs.declared.table.Field.{Field}
 use Rattle.day_maker.specs.Made.{fields_of, next_state, rows_of, trip_row, trip_rows}
 
--- one trip more
+-- One trip more. It is the step of the loop that draws trips: the rows so far stand before those that the definition makes of the
+-- state reached. One trip takes three draws, each from the state before it, and the third state is that of the next trip. So one
+-- number gives one table of trips.
 pub trip_more : (trips i s a b d : ℕ) (all done now : List (List Field)) → i < trips → a ≡ next_state s →
     b ≡ next_state a → d ≡ next_state b →
     now ≡ done ++ rows_of (trip_row (i + 1) a b d ∷ []) → all ≡ done ++ rows_of (trip_rows (trips - i) (i + 1) s) →

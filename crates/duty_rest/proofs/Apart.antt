@@ -88,7 +88,8 @@ from-none (o ∷ os) parts k i before =
       | false ↦ rest
     ]
 
--- a piece is there at most once, and where its part is one of the duty's
+-- A piece is there at most once, and where its part is one of the duty's. Pieces are counted on from `k`; a number comes from its own
+-- place alone, since those behind have greater ones (`from-none`).
 from-once : (os : List (Option (ℕ × ℕ))) (parts : List (ℕ × ℕ)) (k j i : ℕ) → i ≡ k + j →
     times i (begun_from os parts k) ≤ cond (is_one_of (part_at os j) parts) 1 0
 from-once [] parts k j i is = omega arith
@@ -132,6 +133,8 @@ module _ (d : DutyFacts) (begun : List (Option (ℕ × ℕ))) (moment : ℕ) whe
         | Some class ↦ let few = head-times i row.parts class pieces in omega (arith, few, once, one)
       ]
 
+  -- A head has the begun pieces of its duty, or there is none; so of each duty the piece counts at most once, and only where its part
+  -- is one of the duty's. Added up over all duties, heads hold it at most as often as all duties name its part.
   rows-times : (i : ℕ) (rows : List DutyRow) → held_times i (row_heads d begun moment rows) ≤ named (part_at begun i) (all_parts rows)
   rows-times i [] = omega arith
   rows-times i (row ∷ rows) =
@@ -175,6 +178,8 @@ past-from l t (suc n) k past =
     let test : nat_eq l k ≡ false = grind (arith, nat_tests) in
     rw test (omega (arith, rest))
 
+-- Going over the pieces from `k` on, a head is taken at its first piece alone; where that is before `k` it is not taken at all
+-- (`past-from`).
 one-from : (o : Option ℕ) (t n k : ℕ) → times_from o t n k ≤ t
 one-from None t n k = omega (arith, none-from t n k)
 one-from (Some l) t zero k = omega arith
@@ -197,6 +202,8 @@ at-times i h hs k =
       | false ↦ omega arith
     ]
 
+-- To put heads in order with one head more adds what is taken of that head at each piece. It splits the count by heads, so that what
+-- is shown of one head going over all pieces can be added up.
 pub head-more : (i : ℕ) (h : DutyHead) (hs : List DutyHead) (n k : ℕ) →
     held_times i (by_first (h ∷ hs) n k) ≡ times_from (slice_get h.pieces 0) (times i h.pieces) n k + held_times i (by_first hs n k)
 head-more i h hs zero k = refl
@@ -211,6 +218,7 @@ no-heads : (i n k : ℕ) → held_times i (by_first [] n k) ≡ 0
 no-heads i zero k = refl
 no-heads i (suc n) k = no-heads i n (suc k)
 
+-- To put heads in order takes none of them twice, as each is taken at its first piece alone (`one-from`).
 first-times : (i : ℕ) (hs : List DutyHead) (n k : ℕ) → held_times i (by_first hs n k) ≤ held_times i hs
 first-times i [] n k = omega (arith, no-heads i n k)
 first-times i (h ∷ hs) n k =
@@ -249,6 +257,10 @@ below-times n (x ∷ xs) each =
     let same : (x == x) ≡ true = grind (arith, nat_tests) in
     (each x (rw same (omega arith)), below-times n xs (λ j some. each j (omega (arith, some))))
 
+-- The heads of an earlier plan are heads of the day's duties. That none is empty is seen head by head. The rest is a count: heads hold
+-- a piece at most as often as all earlier duties name its part (`few`). A number past all pieces has no part, so none holds it; a
+-- begun piece has a part that is named once at most, which is the premise; any other piece has no part. It is the contract of
+-- `heads_are_heads`, by which each head may be one item of the rest.
 pub heads-are : HeadsAreHeads
 heads-are d blocks earlier moment each =
     let begun : List (Option (ℕ × ℕ)) = begun_parts blocks earlier.blocks.columns moment d.pieces in

@@ -26,7 +26,8 @@ both-true : (a b : Bool) → (a && b) ≡ true → (a ≡ true) × (b ≡ true)
 both-true true b e = (refl, e)
 both-true false b e = absurd (cc)
 
--- a begun piece of a duty is found
+-- A begun piece of a duty is found. Pieces are counted on from `k`, so that the induction goes along the parts, and the piece `k + j`
+-- is met at its place. With it the begun pieces of a duty hold all that a part of the duty stands for.
 from-there : (os : List (Option (ℕ × ℕ))) (parts : List (ℕ × ℕ)) (k j i : ℕ) → i ≡ k + j → is_one_of (part_at os j) parts ≡ true →
     1 ≤ times i (begun_from os parts k)
 from-there [] parts k j i is one = none parts one
@@ -98,6 +99,9 @@ module _ (d : DutyFacts) (begun : List (Option (ℕ × ℕ))) (moment : ℕ) whe
       let P : Option ℕ → Type 0 = λ o. 1 ≤ held_times i (listed (option_map (head_with d begun moment parts class pieces) o)) in
       subst P (sym last) (omega (arith, some, none))
 
+  -- A piece belongs to a duty where one of the duty's parts stands for it and the duty's group is there. The first puts it among the
+  -- begun pieces (`from-there`), so these have a last one and there is a head; the second gives the head its class. So the head has
+  -- the piece.
   duty-holds : (i : ℕ) (row : DutyRow) → belongs d.params.groups (part_at begun i) row ≡ true →
       1 ≤ held_times i (listed (duty_head d begun moment row))
   duty-holds i row own =
@@ -111,6 +115,8 @@ module _ (d : DutyFacts) (begun : List (Option (ℕ × ℕ))) (moment : ℕ) whe
         | Some class ↦ λ e. head-holds i row.parts class pieces some
       ] there
 
+  -- Of the duties that a piece belongs to one comes first, and the head that holds the piece is that duty's; heads of the others only
+  -- add more.
   rows-hold : (i : ℕ) (rows : List DutyRow) → belongs_to d.params.groups (part_at begun i) rows ≡ true →
       1 ≤ held_times i (row_heads d begun moment rows)
   rows-hold i [] own = absurd (cc)
@@ -135,6 +141,9 @@ from-all l t (suc n) k low high =
           omega (arith, rest)
     ] refl
 
+-- No head is lost where heads are ordered. They are put in order by going over all n pieces and taking at each the heads that begin
+-- with it. By induction over the heads: one head more adds its pieces at its own first piece (`head-more`), and this is one of the n,
+-- since a head's pieces are numbers of pieces (`rows-start`). That none comes twice is not needed here.
 all-first : (i n : ℕ) (hs : List DutyHead) → AllStart n hs → held_times i hs ≤ held_times i (by_first hs n 0)
 all-first i n [] start = omega arith
 all-first i n (h ∷ hs) start =
@@ -172,6 +181,8 @@ at-most x (b ∷ bs) (suc j) c at =
     let rest = at-most x bs j c at in
     omega (arith, both, rest)
 
+-- Both columns add to how often the piece stands in all, and that is once at most; so they are one, at one place. It goes along the
+-- plan until the first of the two places.
 same-place : (x : ℕ) (cs : List Column) (j k : ℕ) (c e : Column) → times x (all_items cs) ≤ 1 → slice_get cs j ≡ Some c →
     slice_get cs k ≡ Some e → 1 ≤ times x c.items → 1 ≤ times x e.items → c ≡ e
 same-place x [] j k c e once atc ate here there = absurd (cc)
@@ -205,7 +216,8 @@ module _ (d : DutyFacts) (blocks : List Column) (earlier : PlanText) (moment : �
   abbrev heads : List DutyHead
   heads = duty_heads_of d blocks earlier moment
 
-  -- a begun piece of a duty is there, and stands in a head
+  -- A begun piece of a duty is there, and stands in a head. A begun piece of an earlier duty is a number of the day's pieces, and its
+  -- duty's head, in order with the others, holds it (`rows-hold`, `all-first`).
   holds : (k : ℕ) → has_begun_in d blocks earlier moment k ≡ true → (k < length d.pieces) × (1 ≤ held_times k heads)
   holds k own =
       elim (slice_get d.pieces k) as (λ o. slice_get d.pieces k ≡ o →
@@ -229,6 +241,9 @@ module _ (d : DutyFacts) (blocks : List Column) (earlier : PlanText) (moment : �
       let same : times x c.items ≡ times x (h.items ++ begins.more) = ap (times x) begins.items in
       omega (arith, both, same, some)
 
+  -- Going along a list of pieces that are all in one duty of the plan: were one of them begun in an earlier duty, a head would hold
+  -- it, and the head would be the initial part of some duty of the plan. Both have the piece, which stands once, so they are one duty
+  -- (`same-place`), and this one begins with a head, against the assumption.
   none-all : (columns : List Column) → IsPlan (duties d) columns → KeepsBegun (begun_of heads) may_begin columns → (j : ℕ) (c : Column) →
       slice_get columns j ≡ Some c →
       ((k : ℕ) (h : Begun) → slice_get (begun_of heads) k ≡ Some h → BeginsWith h c → ⊥) → (list : List ℕ) →
@@ -252,6 +267,9 @@ module _ (d : DutyFacts) (blocks : List Column) (earlier : PlanText) (moment : �
             absurd (others m h found (subst P one begins))
       ] refl
 
+-- A plan that keeps the heads is asked here for more: that a duty without a head has no piece that has begun in an earlier duty. It
+-- holds of itself, by counting alone (`none-all` of all pieces of the duty). So the search need not test it, and
+-- `kept_leaves_none_begun` may say that what drivers have begun stays with them.
 pub none-begun : KeptLeavesNoneBegun
 none-begun d blocks earlier moment columns plan keeps = record {
   kept = keeps.kept;

@@ -36,6 +36,9 @@ alone_worth day pool k t pool_is at is =
     let driven : can_be_driven day pool (k ∷ []) ≡ true = driven_is day pool (k ∷ []) ∙ alone_drives day pool k t at is in
     rw (pool_is, driven, at, admitted, out_is, in_is) refl
 
+-- A trip alone is a block of the first pool: it is admitted, has a pull-out and a pull-in, and these with the trip are driven within
+-- four and a half hours, so that the one piece that such a block has may be driven. As the pool has as many vehicles as there are
+-- trips, no number of such blocks is too many.
 pub room_for_trips : (day : DayFacts) (pool : Pool) (group : Group) (way : ℕ) → IsRoomyWith day pool group way → HasRoomForTrips day
 room_for_trips day pool group way roomy k within =
     let (t, at) = there day.trips k within in

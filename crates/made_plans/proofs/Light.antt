@@ -38,7 +38,9 @@ pub record IsLight (day : DayFacts) (group : Group) (way : ℕ) (p : Piece) : Ty
   pub runs : IsRunning day group way p
   pub short : p.driving ≤ longest_driving
 
--- one drive of at most four and a half hours in a spread of at most thirteen is lawful
+-- One drive of at most four and a half hours in a spread of at most thirteen is lawful. A duty of one piece has no pause: its driving
+-- is one stretch of at most four and a half hours, below all limits of a day, and its spread is within the regular thirteen. So it is
+-- lawful with either allowance and with none, and the group's allowances need not be known.
 lawful_one : (ten reduced : Bool) (driving spread : ℕ) → driving ≤ longest_driving → spread ≤ regular.spread →
     is_lawful (limits_for ten reduced) (record { pause = 0; driving = driving } ∷ []) spread ≡ true
 lawful_one ten reduced driving spread low within =
@@ -80,7 +82,9 @@ module _ (day : DayFacts) (pool : Pool) (group : Group) (way : ℕ) (roomy : IsR
       let lawful = lawful_one group.ten group.reduced p.driving spread light.short fits in
       (group.fixed + group.rate * spread, rw (group_is, at, out_is, in_is, whole, lawful) refl)
 
-  -- the pieces of a block are light
+  -- The pieces of a block are light. That the block has a worth says that its legs are there and that each of its pieces is driven
+  -- within four and a half hours; that the day is roomy says that these legs leave no time between them (`legs_whole`), so its pieces
+  -- last as long as their driving (`pieces_running`).
   block_light : (number : ℕ) (column : Column) (worth : ℕ) → block_worth day false column.class column.items ≡ Some worth →
       All (IsLight day group way) (block_pieces day number column)
   block_light number column worth e =
@@ -120,6 +124,8 @@ module _ (day : DayFacts) (pool : Pool) (group : Group) (way : ℕ) (roomy : IsR
       All-append (IsLight day group way) (block_pieces day number column) (pieces_by_block day (number + 1) columns)
       (block_light number column column.worth are.0.1) (blocks_light (number + 1) columns are.1)
 
+  -- Each piece of the blocks of any plan is light and alone a duty of the first group. There are no more pieces than trips, as a piece
+  -- has a trip and each trip stands once; and the group has as many drivers as there are trips.
   pub room_for_pieces : HasRoomForPieces day
   room_for_pieces columns plan k within =
       let ps : List Piece = pieces_by_block day 1 columns in

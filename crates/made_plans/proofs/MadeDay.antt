@@ -114,7 +114,8 @@ joins fid (Ok t) (Ok ts) trips e = (t, ts, refl, refl, ok_same (t ∷ ts) trips 
 ok_none : (ts : List Trip) → ◌≡◌ {A = Result (List Trip) DayModelFault} (Ok []) (Ok ts) → [] ≡ ts
 ok_none ts e = let f : Result (List Trip) DayModelFault → List Trip = λ r. elim r as (λ r. List Trip) [ Ok z ↦ z | Err z ↦ [] ] in ap f e
 
--- made rows that are timed are made trips
+-- Made rows that are timed are made trips. Each row of a made day has its times where all have, and a row that is timed is a made
+-- trip; so the trips of the day are made trips, as many as there are rows.
 timed_made : (seed trips : ℕ) (rows : List TripRow) (ts : List Trip) → All IsMadeRow rows →
     timed_rows (made_net seed trips) 1 rows ≡ Ok ts → All IsMadeTrip ts × (length ts ≡ length rows)
 timed_made seed trips [] ts all e =
@@ -165,6 +166,9 @@ one_version seed trips day version = by (nat_le 20260101 day)
     by true e = let f : Option ℕ → ℕ = λ o. unwrap_or o 1 in ap f e
     by false e = absurd (cc)
 
+-- The tables hold no draw but in the rows of trips: settings, pools, groups, ways and deadheads are computed once for all seeds. Of
+-- the trips it is enough to know that each goes from a terminal to another, when it begins at the earliest, and how long it takes at
+-- most.
 pub made_is : (seed trips day : ℕ) (facts : DayFacts) → trips ≤ 3000 → IsMadeDay seed trips day facts → IsMade trips facts
 made_is seed trips day facts few made =
     let version : 1 ≡ facts.kind.version = one_version seed trips day facts.kind.version made.kind_is.version in

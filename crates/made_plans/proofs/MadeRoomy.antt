@@ -23,7 +23,8 @@ use Rattle.made_plans.specs.Roomy.{IsAlone, IsNear, IsRoomy, IsRoomyWith}
 use Rattle.made_plans.proofs.MadeDay.{IsMade, made_dead, made_group, made_is, made_params, made_pool}
 use Rattle.made_plans.proofs.Places.{all_there, and_both, and_then_some, le_test, some_same}
 
--- what holds of each terminal
+-- What holds of each of the eight terminals holds of all. The lemmas below are shown by it, terminal by terminal, by computing with
+-- the day's tables, so that later only arithmetic over the numbers of terminals is left.
 by_terminal : (P : ℕ → Type 0) → P 1 → P 2 → P 3 → P 4 → P 5 → P 6 → P 7 → P 8 → (a : ℕ) → IsTerminal a → P a
 by_terminal P p1 p2 p3 p4 p5 p6 p7 p8 a is = on a is.low is.high
   where
@@ -53,6 +54,7 @@ from_terminal : (a : ℕ) → Between a 1 → Between a 2 → Between a 3 → Be
     (b : ℕ) → IsTerminal b → Between a b
 from_terminal a = by_terminal (Between a)
 
+-- The 64 pairs of terminals are computed one by one; the answer is a formula, 300 seconds for each step from terminal to terminal.
 between_is : (a b : ℕ) → IsTerminal a → IsTerminal b → Between a b
 between_is a b at to =
     by_terminal (λ a. (b : ℕ) → IsTerminal b → Between a b)
@@ -98,6 +100,7 @@ home_ways : (trips a : ℕ) → IsTerminal a → Home trips a
 home_ways trips = by_terminal (Home trips) (refl, refl) (refl, refl) (refl, refl) (refl, refl) (refl, refl)
     (refl, refl) (refl, refl) (refl, refl)
 
+-- The home of the first group is the first depot, beside the second terminal; the eighth terminal is farthest, 2,100 seconds away.
 near_terminal : (trips a : ℕ) → IsTerminal a → IsNear (made_params trips) (made_group 1 101 trips) 2100 (point a)
 near_terminal trips a at =
     let ways = home_ways trips a at in
@@ -265,7 +268,10 @@ module _ (trips : ℕ) (day : DayFacts) (made : IsMade trips day) where
     out_is = dead_is q.depot u.from pool.d next.from (beside pool.p next.from) pool.depot_is next.from_is
         (pool.depot.out next.from next.from_there)
 
-    -- where there is no direct connection the vehicle stands long at the depot
+    -- Where there is no direct connection the vehicle stands long at the depot. The way over the depot takes at least 600 seconds more
+    -- than the direct deadhead, so if it can be driven, time for a minimum layover would be left on the direct one; that it is refused
+    -- must then be for the greatest wait. So more than 7,200 seconds are left for it, of which the two ways take at most 4,200, and
+    -- 300 for a handover remain.
     stands_long : (s : ℕ) → direct_link day t u ≡ None →
         (u.begin.0 -ℤ t.end.0 -ℤ pos (beside pool.p trip.to) -ℤ pos (beside pool.p next.from)) ≡ pos s → 300 ≤ s
     stands_long s none is =
@@ -310,6 +316,8 @@ module _ (trips : ℕ) (day : DayFacts) (made : IsMade trips day) where
         let P : Link → Type 0 = λ l. Cut l in
         subst P (some_same (Depot i o stand) l is) here
 
+    -- A direct connection has its minimum layover of 300 seconds, which is a handover too, at a terminal, where drivers are relieved;
+    -- one via the depot stands there for 300 at least (`stands_long`), and a depot is a place for cuts. So no piece has a stand in it.
     cut : (l : Link) → link day q t u ≡ Some l → is_cut_on day q u l ≡ true
     cut l e = either Cut (direct_link day t u) (depot_link day q t u) l direct by_depot e
 
@@ -329,6 +337,9 @@ module _ (trips : ℕ) (day : DayFacts) (made : IsMade trips day) where
     cuts = λ class j k q t u l q_is t_is u_is e. cut class q t u q_is (trip_at j t t_is) (trip_at k u u_is) l e;
   }
 
+-- Ways, pull-outs and pull-ins take at most 2,100 seconds, as a depot lies beside the second or the seventh of eight terminals, and
+-- trips at most 5,700; so a trip alone is driven within four and a half hours, and twice the ways with sign-on and sign-off leave
+-- thirteen hours open. What is left is that each connection has a cut (`cut`). With it `made_days_are_planned` is that of roomy days.
 pub made_roomy : (seed trips day : ℕ) (facts : DayFacts) → trips ≤ 3000 → IsMadeDay seed trips day facts → IsRoomy facts
 made_roomy seed trips day facts few made =
     record {

@@ -71,6 +71,9 @@ row_right before fid start line out place keys few few_seconds few_lines =
     ∙ ap (λ k. key_fault schema.trips.name place before k) (key_is fid start line out few)
     ∙ ap (λ b. when b (fault kinds.KeyTwice schema.trips.name [] place)) (not_twice fid before keys)
 
+-- Trips' rows are made one after another with rising numbers, and the keys of the rows before are those of smaller numbers
+-- (`AreKeysBelow`), so none comes twice. Draws are remainders, so departure and line stay in their ranges whatever the state is. All
+-- other tables hold no draw, and their faults are computed.
 rows_right : (n fid s : ℕ) (before : List (List ReadCell)) (place : ℕ) → AreKeysBelow fid before → fid + n ≤ 1000000 →
     row_faults schema.trips table before place (rows_of (trip_rows n fid s)) ≡ []
 rows_right zero fid s before place keys few = refl

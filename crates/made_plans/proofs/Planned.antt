@@ -44,6 +44,9 @@ none_left : (facts : DayFacts) (asked : Asked) (side : Side) (item : ℕ) (name 
 none_left facts asked Vehicles item name partial trips pieces left = left.0.no_room trips
 none_left facts asked Drivers item name partial trips pieces left = left.is_left.no_room (pieces left.blocks.columns left.blocks_are.plan)
 
+-- The causes are taken in turn: that a side has no plan is refuted by `has_plan`, vehicles by the room for trips, and drivers by the
+-- room for the pieces of whatever blocks were found; that an item is left says itself that not each had room. There remains running
+-- out of memory.
 refused : (facts : DayFacts) → HasRoomForTrips facts → HasRoomForPieces facts → IsRefusedForMemory facts
 refused facts trips pieces asked (faults.NoPlan side bound places) cause = absurd (both_sides facts asked side trips pieces cause.1)
 refused facts trips pieces asked (faults.NotPlaced side item name partial) cause =

@@ -57,6 +57,8 @@ module _ (day : DayFacts) (pool : Pool) (group : Group) (way : ℕ) where
   grown_running block index None at l is meets sound uncut = (begun_running block index l sound uncut, refl)
   grown_running block index (Some p) at l is meets sound uncut = (continued_running p l is.0 (is.1 ∙ meets) sound uncut, refl)
 
+  -- The cutting rule goes leg by leg with the piece in hand, which ends where the next leg begins. A leg that is no cut is no stand,
+  -- so it adds to the piece's driving as much as to its time; a cut puts the piece out and is itself in none.
   cut_running : (block index : ℕ) (held : Option Piece) (from to : ℤ) (legs : List Leg) →
       AreWhole day pool group way from to legs → Held from held →
       All Running (cut_on day pool block index held legs)
@@ -84,7 +86,8 @@ module _ (day : DayFacts) (pool : Pool) (group : Group) (way : ℕ) where
 abbrev pub IsShort : Piece → Type 0
 IsShort p = p.driving ≤ longest_driving
 
--- the number of a block changes nothing of the driving of its pieces
+-- The number of a block changes nothing of the driving of its pieces. That a block can be driven was tested on its pieces with the
+-- number 1, and the plan's pieces have the block's number: driving depends on the legs alone.
 pub pieces_short : (one other index at : ℕ) (ps : List (List Leg)) → list_all may_be_driven (pieces_from one index ps) ≡ true →
     All IsShort (pieces_from other at ps)
 pieces_short one other index at [] all = All-nil IsShort

@@ -54,6 +54,9 @@ given_is : {A : Type 0} (b : Bool) (o : Option A) (y : A) → given b o ≡ Some
 given_is true o y e = e
 given_is false o y e = absurd (cc)
 
+-- A direct connection: the stand is what the time between the trips leaves after the deadhead, and a deadhead between equal points
+-- takes no time. Both are read off the computation that gives the connection. That via the depot, below, has two deadheads with the
+-- stand between them.
 direct_filled : (day : DayFacts) (pool : Pool) (t u : TheTrip) (l : Link) → direct_link day t u ≡ Some l → IsFilled pool t u l
 direct_filled day pool t u l e =
     let (move, is_dead, stands) =
@@ -112,7 +115,8 @@ module _ (day : DayFacts) (pool : Pool) (group : Group) (way : ℕ) where
   whole_append a b c [] ys first second = let P : ℤ → Type 0 = λ from. AreWhole day pool group way from c ys in subst P (sym first) second
   whole_append a b c (l ∷ ls) ys first second = (first.0, first.1, whole_append l.end.0 b c ls ys first.2 second)
 
-  -- legs that are left out leave no time between the others
+  -- Legs that are left out leave no time between the others. A leg that is left out, a move between equal points or a stand of no
+  -- time, begins and ends at one moment; so the leg behind it begins where the leg before it ended, and the chain has no gap.
   whole_shown : (a c : ℤ) (ls : List Leg) → AreWhole day pool group way a c ls → AreWhole day pool group way a c (shown ls)
   whole_shown a c [] whole = whole
   whole_shown a c (l ∷ ls) whole = by (is_shown l) refl (whole_shown l.end.0 c ls whole.2)
@@ -123,7 +127,8 @@ module _ (day : DayFacts) (pool : Pool) (group : Group) (way : ℕ) where
       by false e rest =
           let P : ℤ → Type 0 = λ from. AreWhole day pool group way from c (shown ls) in subst P (sym (whole.0 ∙ whole.1.hidden e)) rest
 
-  -- a move
+  -- A move. Moves are pull-outs, pull-ins and deadheads. Such a leg is no stand, so it is driven for all its time, and it is left out
+  -- only where both its points are equal; then it takes no time.
   moved : (kind : LegKind) (from to : Point) (begin end : ℤ) (m : ℕ) → is_stand kind ≡ false →
       is_trip kind ≡ false → (end -ℤ begin) ≡ pos m →
       (point_eq from to ≡ true → m ≡ 0) → Near from → Near to → IsSound day pool group way (leg kind None from begin to end)
@@ -156,7 +161,9 @@ module _ (day : DayFacts) (pool : Pool) (group : Group) (way : ℕ) where
         to = near;
       }
 
-  -- the legs of a connection that has a cut
+  -- The legs of a connection that has a cut. The legs between two trips fill the time between them: the deadhead, and then the stand
+  -- until the next trip; or the way to the depot, the stand there, and the way out. The stand is a cut, as each connection of a roomy
+  -- day has one, and all points are near the group's home.
   link_whole : (t u : TheTrip) (l : Link) → IsFilled pool t u l → is_cut_on day pool u l ≡ true → Near t.to → Near u.from →
       Near pool.depot → AreWhole day pool group way t.end.0 u.begin.0 (link_legs pool t u l)
   link_whole t u (Direct move stand) filled cut near_to near_from near_depot =
@@ -194,7 +201,9 @@ module _ (day : DayFacts) (pool : Pool) (group : Group) (way : ℕ) where
 
   module _ (first : Pool) (class : ℕ) (roomy : IsRoomyWith day first group way) (pool_is : slice_get day.params.pools class ≡ Some pool)
     where
-      -- the legs from a trip on, until some moment
+      -- The legs from a trip on, until some moment. By induction over the trips that follow, for any first trip: its leg, the legs of
+      -- the connection to the next trip, and the legs from this one on are put one behind the other; at the last trip the pull-in ends
+      -- the block. The end is found along with it.
       from_whole : (k : ℕ) (t : TheTrip) (js : List ℕ) (ls : List Leg) → slice_get day.trips k ≡ Some t →
           legs_from day pool k t js ≡ Some ls →
           (end : ℤ) × AreWhole day pool group way t.begin.0 end ls
@@ -247,7 +256,10 @@ module _ (day : DayFacts) (pool : Pool) (group : Group) (way : ℕ) where
           let (leaves, is_left, same) = and_then_some (λ (n : ℕ). Some move) (seconds (t.begin.0 -ℤ pos move)) out left in
           is ∙ same
 
-      -- the legs of a block
+      -- The legs of a block. The legs of a block of a roomy day leave no time between them, and each stand is a cut. So between two
+      -- cuts the vehicle is driven all the time: a piece lasts as long as its driving, at most four and a half hours, and begins and
+      -- ends near the group's home. With the ways, sign-on and sign-off its spread is within thirteen hours, and it is a lawful duty
+      -- alone, on which `roomy_days_are_planned` rests.
       pub legs_whole : (list : List ℕ) (legs : List Leg) → legs_of day pool list ≡ Some legs →
           (begin : ℤ) × (end : ℤ) × AreWhole day pool group way begin end legs
       legs_whole [] legs e = absurd (cc)

@@ -15,6 +15,9 @@ plan_of : (p : Problem) (r : Rounded) → HasListedColumns p → HasRoomForEach 
 plan_of p (whole columns) listed room is = (columns, is)
 plan_of p (left item columns) listed room is = absurd (not_stuck p item columns listed room is)
 
+-- Rounding is stuck at an item only where each class in which it alone has a worth is full. A class with as many places as items is
+-- not full while an item is left, so rounding is never stuck, and even from no columns at all it ends with a plan. So planning is
+-- refused neither for lack of plans nor for an item that is left (`not_refused`).
 pub has_plan : (p : Problem) → HasListedColumns p → HasPlan p
 has_plan p listed room = plan_of p (rounded p []) listed room (rounds_to_plan p listed [] tt)
 

@@ -18,7 +18,6 @@ use Rattle.one_answer.proofs.Verdicts.{one-verdict}
 use Rattle.one_answer.proofs.Parts.{no-gap, no-negative, not-high, one-high, one-negative, one-uncovered}
 use Rattle.one_answer.proofs.Steps.{AfterBlocks, AfterCert, AfterCharges, AfterCovers, AfterDuties, AfterTables, AfterText, ByBlocks, ByDuties, InSteps, answer-steps}
 
--- It is the last step: a bound that is too high, the first by pass, or a yes with the plan's numbers.
 covers-once : (c : Case) (text : PlanText) (blocks duties : Plan) (cert : Cert) (a b : Answered) → AfterCovers c text blocks duties cert a →
     AfterCovers c text blocks duties cert b → a ≡ b
 covers-once c text blocks duties cert a b h k =

@@ -12,7 +12,6 @@ use Rattle.one_answer.proofs.Firsts.{one-first, place-there}
 
 pub one-times : (number : ℕ) (lists : List Column) (item count item' count' : ℕ) → IsFirstTimes number lists item count →
     IsFirstTimes number lists item' count' → Times item count ≡ Times item' count'
--- Both items are the first that does not stand once, so they are one (`one-first`), and its count is how often it stands.
 one-times number lists item count item' count' h k =
     let P : ℕ → Type 0 = λ n. times n (all_items lists) ≡ 1 in
     let items = one-first P item item' h.first (λ one. h.other (sym h.count_is ∙ one)) k.first (λ one. k.other (sym k.count_is ∙ one)) in

@@ -17,7 +17,9 @@ said_from entry n (x ∷ xs) none =
     said_step n (entry x) (position_from (λ y. is_none (entry y)) (n + 1) xs) (filter_map entry xs) (map entry xs)
     none (said_from entry (n + 1) xs)
 
--- Where no row is the first that says nothing, each row says something: the first row since it is not that row, and so on.
+-- Where no row is the first that says nothing, each row says something: the first row since it is not that row, and so on. So what is
+-- kept of the rows, one by one, are all of them in their order: none is left out. By it `rows_are_said` says that each leg, duty and
+-- piece of the page comes from its row.
 pub all_said : {X A : Type 0} (entry : X → Option A) (xs : List X) → position (λ x. is_none (entry x)) xs ≡ None →
     map (λ (a : A). Some a) (filter_map entry xs) ≡ map entry xs
 all_said entry xs none = said_from entry 0 xs (sym (position_from-zero (λ x. is_none (entry x)) xs) ∙ none)

@@ -66,6 +66,8 @@ pub record AreRows (before : List DriverDay) (turns : List Turn) : Type 0 where
   pub apart : AllPairs AreApart turns
   pub new : All (IsNew before) turns
 
+-- By induction down the rows, for any keys before them: the rows behind are new to these keys and to this row's own. The latter says
+-- that the row's duty differs in driver or day from each behind it, and the former is handed up to the row before.
 pub are_rows : (number : ℕ) (before : List DriverDay) (rows : List RowFields) → row_faults number before rows ≡ [] →
     AreRows before (map row_turn rows)
 are_rows number before [] none =

@@ -35,6 +35,8 @@ civil_of day (year, month, dom) = (
   ),
 )
 
+-- Days of the years 1 to 9998 lie behind 1 February of the year 0 and before 1 January 9999, as the calendar counts more days to a
+-- later year. So the Monday of a duty's week and the Sunday of the next week are days whose year has at most four digits.
 pub duty_number : (day : ℕ) → IsDutyDay day → IsDutyNumber (number_of day)
 duty_number day duty =
     let civil = civil_of day duty.civil in
@@ -76,7 +78,8 @@ date_of_civil n m d civil = (
   ),
 )
 
--- a date written as YYYYMMDD
+-- A date written as YYYYMMDD. Year, month and day are digits of one number: since months have two digits and days too, division gives
+-- back each of the three, and with them the number and the day of the calendar.
 pub written : (y : ℤ) (n m d : ℕ) → y ≡ pos n → IsCivilDate y m d → (number_of (n * 10000 + m * 100 + d) ≡ days_from_civil y m d)
     × IsDay (n * 10000 + m * 100 + d)
 written y n m d e civil =

@@ -31,6 +31,8 @@ turn_order_total =
 pub before_order : IsStrictWeakOrder is_before
 before_order = ranks_by turn_order_total (λ (t : Turn). t)
 
+-- The duties are split into those looked at and those left, and what is found so far and what is left to find are the whole (`Leads`).
+-- One duty more moves from one part to the other, with what is denied of it. Weeks and rests go the same way below.
 pub daily_more : (old mid new : List Denial) (xs : List Turn) (i : ℕ) (earlier : List Turn) (t : Turn) → Adds mid new (daily_of earlier t) →
     earlier ≡ take i xs → i < length xs → t ≡ get_or xs i t → Leads old mid (daily_from (take i xs) (drop i xs)) (daily_from [] xs) →
     Leads old new (daily_from (take (i + 1) xs) (drop (i + 1) xs)) (daily_from [] xs)
@@ -169,6 +171,8 @@ longer_by false current t = omega (arith, length-append current (t ∷ []))
 pub continued_few : (current : List Turn) (t : Turn) → length (continued current t) ≤ length current + 1
 continued_few current t = longer_by (ends_before current t) current t
 
+-- One duty more either continues the driver's list or ends it; where it ends it, what is denied of the complete list is added now. So
+-- the findings come list by list in one pass over the sorted duties, with the list of the driver so far in hand.
 pub drivers_more : (old mid new : List Denial) (xs : List Turn) (i : ℕ) (current next : List Turn) (t : Turn) →
     Adds mid new (flat_map findings_of (ended current t)) → next ≡ continued current t → i < length xs → t ≡ get_or xs i t →
     Leads old mid (flat_map findings_of (lists_from current (drop i xs))) (flat_map findings_of (drivers_lists xs)) →
@@ -206,6 +210,8 @@ sums_are a b m n z turns first second e f =
     let two : b ≡ week_sum (z +ℤ pos 7) turns = second ∙ ap (λ k. week_sum k turns) f in
     ap (λ k. k + b) one ∙ ap (λ k. week_sum z turns + k) two
 
+-- It puts together what `denials` promises: the sorted duties are those of the roster, cut at each new driver into lists that are all
+-- of them and of one driver each; the findings are those of these lists; and to sort the denials moves them only.
 pub denials_are : (turns ordered slice : List Turn) (start found sorted result : List Denial) → IsPermutation turns ordered →
     IsSorted turn_order ordered → slice ≡ ordered → start ≡ [] → Adds start found (flat_map findings_of (drivers_lists slice)) →
     IsPermutation found sorted → IsSorted denial_order sorted → result ≡ sorted → AreDenials turns result

@@ -54,6 +54,8 @@ all_taken P turns i e all = subst (λ ts. All P ts) (take_all i turns (omega (ar
 apart_by : (a b first last : ℤ) → first ≤ℤ b → a ≤ℤ last → last ≤ℤ (first +ℤ pos 13) → a ≤ℤ (b +ℤ pos 13)
 apart_by a b first last low high near = omega (arith, signed_arith, low, high, near)
 
+-- No day is before the first or after the last, so of two days neither is more than the span after the other. So the first and the
+-- last day, found in one pass, decide for all pairs of duties.
 pub all_near : (turns : List Turn) (first last : ℕ) → IsFirstDay turns first → IsLastDay turns last →
     number_of last ≤ℤ (number_of first +ℤ pos 13) → AllPairs AreNear turns
 all_near turns first last begins ends near = λ i j d order within.

@@ -45,6 +45,7 @@ civil_days turns each = λ k d within. (each k d within).day.civil
 one_by : (a b : ℕ) → IsDay a → IsDay b → number_of a ≤ℤ number_of b → number_of b ≤ℤ number_of a → a ≡ b
 one_by a b first second low high = one_day a b first second (omega (arith, signed_arith, low, high))
 
+-- Each of two first days is a duty's, and no duty's day is before the other; so neither is before the other, and they have one number.
 first_one : (turns : List Turn) (a b : ℕ) → All IsTurn turns → IsFirstDay turns a → IsFirstDay turns b → a ≡ b
 first_one turns a b each x y =
     let f = found turns a x.there in
@@ -74,6 +75,8 @@ number_at turns a f d = ap (λ (t : Turn). number_of t.day) (at_place turns f.at
 within_by : (a b x y : ℤ) → x ≡ a → y ≡ b → y ≤ℤ (x +ℤ pos 13) → b ≤ℤ (a +ℤ pos 13)
 within_by a b x y e f near = omega (arith, signed_arith, e, f, near)
 
+-- The first and the last day are those of two duties, or of one. Any two duties of a roster are at most 13 days apart, whichever
+-- stands first, and days that are far apart are at least 14.
 not_far : (turns : List Turn) (a b : ℕ) → AllPairs AreNear turns → AreFar turns a b → ⊥
 not_far turns a b near far = by_order (cases_order f.at g.at)
   where
@@ -130,6 +133,9 @@ turns_few tables few = by (roster_of tables) refl
 no_first : (tables : List Table) (fault : TableFault) → roster_faults tables ≡ [] → first (roster_faults tables) ≡ Some fault → ⊥
 no_first tables fault none some = cc
 
+-- The answers are taken in pairs. A roster says that there is no fault, and a fault in the tables that there is one; days that lie far
+-- apart presuppose tables without a fault and deny that the duties are near. Two of one kind name the same: the duties that the tables
+-- tell, the first fault, or the first and the last day.
 pub one_answer : (tables : List Table) (a b : Result (List Turn) RosterFault) → IsAnswer tables a → IsAnswer tables b →
     a ≢ Err Memory → b ≢ Err Memory → a ≡ b
 one_answer tables (Ok turns) (Ok others) x y m n = ap Ok (x.1 ∙ sym y.1)

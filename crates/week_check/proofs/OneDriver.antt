@@ -21,6 +21,8 @@ joined_step : (b : Bool) (current : List Turn) (t : Turn) →
 joined_step true current t = ap (λ ts. ts ++ t ∷ []) (joined_complete current)
 joined_step false current t = refl
 
+-- The list so far is carried along: the duties of the complete lists and then the duties of the list so far are those gone over. A
+-- list that ends is put out whole, and an empty one, before the first duty, leaves no list.
 joined_from : (current ts : List Turn) → joined (lists_from current ts) ≡ current ++ ts
 joined_from current [] = joined_complete current ∙ sym (append-nil current)
 joined_from current (t ∷ ts) =
@@ -60,6 +62,8 @@ one_ended : (b : Bool) (current : List Turn) → HasOneDriver current → All Ha
 one_ended true current one = one_complete current one
 one_ended false current one = All-nil HasOneDriver
 
+-- A duty is put to the list so far only where its driver is that of the list's first duty; else it begins a list of its own. So the
+-- list so far is always one driver's, and so is each that is put out.
 one_from : (current ts : List Turn) → HasOneDriver current → All HasOneDriver (lists_from current ts)
 one_from current [] one = one_complete current one
 one_from current (t ∷ ts) one =

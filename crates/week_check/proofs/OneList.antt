@@ -57,6 +57,8 @@ AreSame {X} xs ys = (f : X → ℕ) → sum_by f xs ≡ sum_by f ys
 same_from : {X : Type 0} (xs ys : List X) → IsPermutation xs ys → AreSame xs ys
 same_from xs ys p = λ f. sym (sum_by-IsPermutation f xs ys p)
 
+-- Were the other list's first item below the one that no item of this list is below, then "how many items are below it" would sum to 0
+-- over this list and to at least 1 over the other; but all sums over the two are the same. So no matching of the items is needed.
 not_below : {X : Type 0} (R : X → X → Ordering) (x y : X) (xs ys : List X) → AreSame xs (y ∷ ys) → All (λ z. is_lt (R z x) ≡ false) xs →
     is_lt (R y x) ≡ false
 not_below R x y xs ys same all =
@@ -76,6 +78,8 @@ tail_rising R x xs up = λ i j d order within. up (suc i) (suc j) d (omega (arit
 not_empty : {X : Type 0} (x : X) (xs : List X) → AreSame [] (x ∷ xs) → 1 ≤ 0
 not_empty x xs same = omega (arith, same (λ _. 1), sum_by-cons (λ _. 1) x xs)
 
+-- By induction over both lists: neither first item is below the other (`not_below`, twice), so they tie, and what ties is the same.
+-- Taking it off both takes the same from each sum, so the rest have the same items still, and stay sorted.
 pub one_sorted : {X : Type 0} (R : X → X → Ordering) → IsTotalOrder R → CmpEqualImpliesEq R → (xs ys : List X) → IsRising R xs →
     IsRising R ys → AreSame xs ys → xs ≡ ys
 one_sorted R o exact [] [] first second same = refl
@@ -125,6 +129,8 @@ parts_before a b order = by_year (cases_order (year_of a) (year_of b))
     by_year (inr (inl years)) = inl years
     by_year (inr (inr years)) = absurd (omega (arith, order, years))
 
+-- A day YYYYMMDD that is a smaller number is an earlier day: its year is smaller, or its month in one year, or its day in one month
+-- (`parts_before`), and in each case the calendar counts fewer days (`day_before`).
 pub number_rises : (a b : ℕ) → IsDay a → IsDay b → a < b → number_of a <ℤ number_of b
 number_rises a b first second order =
     let less = day_before a b (civil_of a first) (civil_of b second) order (parts_before a b order) in
@@ -166,6 +172,7 @@ exact_bool true false e = cc
 exact_bool false true e = cc
 exact_bool false false e = refl
 
+-- The order compares every field of a duty, so what ties is the same; so it is with findings below.
 turn_exact : CmpEqualImpliesEq turn_order
 turn_exact a b e =
     let p = both_equal _ _ e in
@@ -221,6 +228,8 @@ denial_order_total =
     (then_total (on_total (λ (d : Denial). d.from) nat_cmp_total)
     (then_total (on_total (λ (d : Denial). d.to) nat_cmp_total) (on_total (λ (d : Denial). d.value) int_cmp_total))))
 
+-- Denials are sorted by their days as YYYYMMDD, and findings have the numbers of days. Both orders are one, as days and their numbers
+-- have one order, so a sorted list of denials is a sorted list of findings (`findings_rise`).
 finding_agrees : (a b : Denial) → HasDays a → HasDays b → denial_order a b ≡ finding_order (finding_of a) (finding_of b)
 finding_agrees a b first second =
     ap (λ o. ordering_then (nat_cmp a.driver b.driver)
@@ -269,7 +278,9 @@ denials_one (x ∷ xs) (y ∷ ys) first second e =
     ap (λ d. d ∷ xs) (finding_one x y (All-head HasDays x xs first) (All-head HasDays y ys second) head)
     ∙ ap (λ ds. y ∷ ds) (denials_one xs ys (All-tail HasDays x xs first) (All-tail HasDays y ys second) tail)
 
--- there is one list of what is denied
+-- There is one list of what is denied. The duties have one order, as two sorted lists with the same duties are one (`one_sorted`); so
+-- what is denied of them, driver by driver, is one list of findings but for its order. Both lists of denials are sorted and have these
+-- findings, so again they are one, and findings are turned back into denials, as a day has one number. By it `denials` has one answer.
 pub one_list : (turns : List Turn) (a b : List Denial) → AreDenials turns a → AreDenials turns b → a ≡ b
 one_list turns a b first second =
     let orders : IsPermutation first.ordered second.ordered =

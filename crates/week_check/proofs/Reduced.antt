@@ -29,6 +29,8 @@ any_true : (rs : List Rest) (r : Rest) → is_weekly r ≡ true → list_any is_
 any_true rs r e = list_any-append is_weekly rs (r ∷ []) ∙ ap (λ b. list_any is_weekly rs || b) (any_one r true e)
     ∙ or_true (list_any is_weekly rs)
 
+-- Where the rest that comes is no weekly rest, the last weekly rest stays where it is, so the rests after it are one more; where it is
+-- one, there is none after it (`since_none`). The definition looks for the last weekly rest from the front each time.
 since_more : (rs : List Rest) (r : Rest) → is_weekly r ≡ false → since_weekly (rs ++ r ∷ []) ≡ since_weekly rs ++ r ∷ []
 since_more [] r e = ap (λ b. if b then [] else r ∷ []) (any_one r false e)
 since_more (q ∷ rs) r e =
@@ -63,7 +65,8 @@ more_by rs r false false e f =
     ∙ length-append (filter is_reduced (since_weekly rs)) (filter is_reduced (r ∷ []))
     ∙ ap (λ k. reduced_in rs + k) (count_one r false f) ∙ plain
 
--- one rest more
+-- One rest more. So one number carried along the rests is enough: it goes back to 0 at a weekly rest and up by one at a reduced rest,
+-- and equals what the definition counts by looking back from each rest. This is what article 8(4) is tested with.
 pub reduced_more : (rs : List Rest) (r : Rest) → reduced_in (rs ++ r ∷ []) ≡ reduced_after (reduced_in rs) r
 unfolding after
 reduced_more rs r = more_by rs r (is_weekly r) (is_reduced r) refl refl

@@ -14,6 +14,8 @@ use Rattle.week_check.specs.RosterAnswers.{IsFirstOf}
 use Rattle.week_check.proofs.Adding.{rest_at}
 use Rattle.week_check.proofs.Entries.{find_split}
 
+-- Reading gives up at the first thing that is wrong in what it has gone over; what is wrong behind cannot come before it. With
+-- `refused_after`, for steps that find nothing wrong, each step only has to tell the first of its own faults.
 pub refused_front : (front rest : List TableFault) (r : RosterFault) → IsFirstOf front r → IsFirstOf (front ++ rest) r
 refused_front front rest Memory given = tt
 refused_front front rest (Days a b) given = given
