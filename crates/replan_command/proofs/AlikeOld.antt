@@ -77,6 +77,8 @@ module _ (one other : DayFacts) (alike : AreAlike one other) where
       )
   against_alike text reason h = h
 
+  -- Reading the tables and judging the plan look at the day's trips, settings and deadheads alone, in which alike days agree; so each
+  -- part of an answer is carried over by putting one day's for the other's.
   pub old_alike : (tables : List Table) (answer : OldPlan) → IsOldAnswer one tables answer → IsOldAnswer other tables answer
   old_alike tables (Good text) h = (sym (read_alike tables) ∙ h.0, old_plan_alike text h.1)
   old_alike tables (Bad (reasons.PlanForm table row)) h = sym (read_alike tables) ∙ h

@@ -96,6 +96,8 @@ module _ (one other : DayFacts) (alike : AreAlike one other) (earlier : PlanText
   ends_alike ending h = let P : DayProblems → Type 0 = λ problems. DayEndsAs problems numbers ending in
       subst P (same_problems one other alike earlier moment) h
 
+  -- The method ends alike, since what is left is the same problem. That bounds hold of all plans that keep what has begun needs both
+  -- directions: such a plan of the second day must be one of the first, so the likeness is turned round (`turned`).
   replanned_alike : (blocks duties : SidePlan) → IsReplanned a numbers blocks duties → IsReplanned b numbers blocks duties
   replanned_alike blocks duties h = record {
     ends = ends_alike (answered blocks duties) h.ends;

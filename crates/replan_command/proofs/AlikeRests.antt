@@ -120,6 +120,8 @@ module _ (one other : DayFacts) (alike : AreAlike one other) (earlier : PlanText
       let items : List Head → List Trip → List (List ℕ) = λ heads trips. bodies (begun_blocks_of heads) (length trips) in
       ap (λ heads. items heads one.trips) same_heads ∙ ap (λ trips. items (block_heads (replan_of other earlier moment)) trips) alike.trips
 
+  -- All that the method is given of what is left is made of the rest of the blocks, of what its items stand for, and of what duties
+  -- are made of. Each of the three is the same on both days, and they are exchanged one after another.
   pub same_problems : rest_problems (replan_of one earlier moment) ≡ rest_problems (replan_of other earlier moment)
   same_problems =
       let problems : (Bool → Problem) → List (List ℕ) → (List Column → Bool → DutyFacts) → DayProblems = λ problem items facts.

@@ -58,6 +58,8 @@ module _ (day : DayFacts) (moment : ℕ) where
         stands-left (heads_at day moment blocks from) (heads_from day moment blocks n (suc from)) h here.0 here.1
   ]
 
+  -- Heads are gathered trip by trip, and at each trip block by block; a block that leaves before the moment puts its head at its first
+  -- trip. So it is met at this trip (`heads-there`) and at its block (`at-there`).
   pub head-there : (blocks : List Column) (n place : ℕ) (c : Column) (first : ℕ) (rest : List ℕ) → first < n →
       slice_get blocks place ≡ Some c → c.items ≡ first ∷ rest → leaves_before day moment c.class first ≡ true →
       Stands (heads_from day moment blocks n 0) (head-of c.class first rest)
@@ -127,6 +129,8 @@ module _ (day : DayFacts) (moment : ℕ) where
     pub is : ts ≡ kept ++ more
     pub ends : ends_before day moment (last_trip t kept) ≡ true → more ≡ []
 
+  -- A trip is kept where it follows a kept one that is over at the moment, so keeping stops behind the first that is not. Where even
+  -- the last kept one is over, nothing stopped the keeping, and no trip is left.
   pub front : (t : ℕ) (ts : List ℕ) → HasFront t ts (kept_after day moment t ts)
   front t [] = record { more = []; is = refl; ends = λ e. refl }
   front t (u ∷ us) = by (ends_before day moment t) refl (front u us)
@@ -172,7 +176,8 @@ begins-so first d rest is =
     let same : nat_eq first first ≡ true = grind (arith, nat_tests) in
     ap (λ (l : List ℕ). option_map_or (λ u. nat_eq u first) (slice_get l 0) false) is ∙ same
 
--- where a trip stands once the first block that begins with it is the one that does
+-- Where a trip stands once the first block that begins with it is the one that does. Blocks are looked through for one that begins
+-- with the trip; as the trip stands once in all, no earlier block has it at all, and so none begins with it.
 pub block-found : (blocks : List Column) (number place : ℕ) (c : Column) (first : ℕ) (rest : List ℕ) → times first (all_items blocks) ≤ 1 →
     slice_get blocks place ≡ Some c → c.items ≡ first ∷ rest →
     block_with blocks number first ≡ Some (number + place)

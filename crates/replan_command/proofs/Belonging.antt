@@ -37,7 +37,9 @@ one-named x (y ∷ ys) some =
       | false ↦ λ s. one-named x ys (omega (arith, s))
     ] some
 
--- a part that duties name belongs to one of them, where their groups are there
+-- A part that duties name belongs to one of them, where their groups are there. Named at least once by all duties together, it is
+-- named by some duty, of which the first counts; its group is there, as tables that name another group are not read. So the piece
+-- belongs to that duty.
 rows-belong : (groups : List Group) (x : ℕ × ℕ) (rows : List DutyRow) → AreKnown groups rows → 1 ≤ part_times x (all_parts rows) →
     belongs_to groups (Some x) rows ≡ true
 rows-belong groups x [] known some = absurd (omega (arith, some))
@@ -82,6 +84,9 @@ named-once day earlier once x n q at block index =
     let there = number-there pieces x n q at block index in
     sym (rows-times day.params.groups pieces x there earlier.duties) ∙ once (part_number pieces x) there
 
+-- A begun piece of the new blocks is a piece of the earlier blocks, by its name (`IsFound`, from `same_cut`). There each piece stands
+-- in one duty, once (`named-once`), since the earlier plan is good. So it has its duty, and one alone, and what a driver has begun can
+-- be kept.
 pub have_duties : (day : DayFacts) (old : List Table) (earlier : PlanText) (moment : ℕ) (blocks : List Column) →
     IsOldAnswer day old (Good earlier) →
     IsFound day earlier moment blocks → HaveDuties day earlier moment blocks

@@ -124,7 +124,8 @@ module _ (day : DayFacts) (pool : Pool) where
       by true after on s = either after (stands-either (ended held) (cut_on day pool block (next_index index held) None ls) p s.0 s.1)
       by false after on s = on s
 
-  -- where legs begin at a moment or later, and a piece that is begun too, all pieces do
+  -- Where legs begin at a moment or later, and a piece that is begun too, all pieces do. The cutting rule is followed with the piece
+  -- in hand: it begins where its first leg does, and a piece begun later begins with a later leg.
   pub none-before : (z : ℤ) (block index : ℕ) (held : Option Piece) (ls : List Leg) (p : Piece) → HeldFrom z held → AreFrom z ls →
       Stands (cut_on day pool block index held ls) p → z ≤ℤ p.begin.0
   none-before z block index held [] p is from s = ended-from z held p is s
@@ -141,7 +142,8 @@ module _ (day : DayFacts) (pool : Pool) where
       ]
       by false after on s = on s
 
-  -- of these only the one that was begun may begin earlier
+  -- Of these only the one that was begun may begin earlier. The piece in hand may have begun before; each other begins with a leg of
+  -- these. So what begins early has the index of the piece in hand.
   first-alone : (z : ℤ) (block index : ℕ) (h : Piece) (ls : List Leg) (p : Piece) → h.index ≡ index → AreFrom z ls →
       Stands (cut_on day pool block index (Some h) ls) p → p.begin.0 <ℤ z → p.index ≡ index
   first-alone z block index h [] p is from s early = ap (λ (p : Piece). p.index) (sym (stands-alone h p s)) ∙ is
@@ -158,7 +160,9 @@ module _ (day : DayFacts) (pool : Pool) where
       ]
       by false after on s = on s
 
-  -- a piece that begins before a moment has its index by the legs before those that begin at the moment or later
+  -- A piece that begins before a moment has its index by the legs before those that begin at the moment or later. Along the front,
+  -- pieces are counted (`count`); at its end only the piece in hand may begin before the moment, which the count has already. So a
+  -- piece that begins before has one of the indices that are counted in front, whatever is behind.
   in-front : (z : ℤ) (block index : ℕ) (held : Option Piece) (front back : List Leg) (p : Piece) → IsHeld block index held →
       AreFrom z back → Stands (cut_on day pool block index held (front ++ back)) p →
       p.begin.0 <ℤ z → p.index < index + count (is_some held) front
@@ -189,7 +193,9 @@ module _ (day : DayFacts) (pool : Pool) where
       ]
       by false after on s = on s
 
-  -- there is a piece of each index, as many as pieces are counted
+  -- There is a piece of each index, as many as pieces are counted. Indices are given one after another, so each up to the count is had
+  -- by a piece: the piece in hand has the first, and at each cut the next index begins. The index of the start is any, so that the
+  -- induction can go past a cut.
   each-index : (block index : ℕ) (held : Option Piece) (ls : List Leg) (i : ℕ) → IsHeld block index held → i < count (is_some held) ls →
       HasPiece block (index + i) (cut_on day pool block index held ls)
   each-index block index None [] i is few = absurd (omega (arith, few))
@@ -223,7 +229,10 @@ pub record Share (z : ℤ) (one other : List Leg) : Type 0 where
   pub other_is : other ≡ front ++ more
   pub later : AreFrom z back
 
--- each piece of the first that begins before the moment has one of its index in the second
+-- Each piece of the first that begins before the moment has one of its index in the second. A piece of the one list that begins before
+-- the moment has an index among those counted in the shared front (`in-front`), and the other list has as many pieces at least, since
+-- what follows takes none away (`more-pieces`); so it has one of this index (`each-index`). The piece may be longer or end otherwise
+-- there: named by block and index it is the same piece of work that has begun.
 pub same-index : (day : DayFacts) (pool : Pool) (z : ℤ) (block number : ℕ) (one other : List Leg) (p : Piece) → Share z one other →
     Stands (cut_on day pool block 1 None one) p → p.begin.0 <ℤ z →
     HasPiece number p.index (cut_on day pool number 1 None other)

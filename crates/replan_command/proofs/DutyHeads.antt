@@ -48,7 +48,9 @@ list-free day earlier moment blocks have (k ∷ ks) free =
     not-both true e f = cc
     not-both false e f = cc
 
--- a plan of the duties that keeps the heads leaves no begun piece to other duties
+-- A plan of the duties that keeps the heads leaves no begun piece to other duties. That a duty without a head has no piece of an
+-- earlier duty comes for nothing (`none-begun`); and each piece that has begun is one of an earlier duty (`HaveDuties`). So such a
+-- duty has no piece that begins before the moment at all, though the search sets it no such rule.
 pub none_begun_kept : (r : Replan) (blocks columns : List Column) → HaveDuties r.day r.earlier r.moment blocks →
     IsPlan (duties_over r.day blocks false) columns →
     KeepsBegun (begun_duties r blocks) may_begin columns → KeepsDuties r blocks columns

@@ -30,6 +30,9 @@ record Follows (pool : Pool) (t u : Trip) (l : Link) : Type 0 where
   pub from : AreFrom t.end.0 (link_legs pool t u l)
   pub next : t.end.0 ≤ℤ u.begin.0
 
+-- A direct connection is driven between the two trips: its deadhead begins when the first has ended, its stand when this is over, and
+-- the stand lasts until the second begins. All is read off the computation that gives the connection, whose waits are no less than 0.
+-- Via the depot, below, there are two deadheads and a stand between them.
 direct-follows : (day : DayFacts) (pool : Pool) (t u : Trip) (l : Link) → direct_link day t u ≡ Some l → Follows pool t u l
 direct-follows day pool t u l e =
     let moved = and_then_some (λ (m : ℕ). direct_for day.params.settings m (seconds (u.begin.0 -ℤ t.end.0 -ℤ pos m)))
@@ -91,7 +94,8 @@ module _ (day : DayFacts) (pool : Pool) where
   abbrev homeward : ℕ → Trip → ℕ → List Leg
   homeward k t inward = trip_leg k t ∷ leg PullIn None t.to t.end.0 pool.depot (t.end.0 +ℤ pos inward) ∷ []
 
-  -- the first of legs from a trip on is the trip, and the others begin when it has ended or later
+  -- The first of legs from a trip on is the trip, and the others begin when it has ended or later. A trip's leg is told by the trip
+  -- alone; of the legs behind it no more than their time is known.
   record Behind (k : ℕ) (t : Trip) (legs : List Leg) : Type 0 where
     pub others : List Leg
     pub is : legs ≡ trip_leg k t ∷ others
@@ -107,6 +111,8 @@ module _ (day : DayFacts) (pool : Pool) where
     pub on : legs_from day pool j next js ≡ Some rest
     pub is : legs ≡ (trip_leg k t ∷ link_legs pool t next way) ++ rest
 
+  -- The computation of the legs is opened at one trip that is followed by another: the other trip, the connection to it, and the legs
+  -- from it on are all there. Both `behind` and `fronted` go on from trip to trip by it.
   goes : (k : ℕ) (t : Trip) (j : ℕ) (js : List ℕ) (legs : List Leg) → legs_from day pool k t (j ∷ js) ≡ Some legs → Goes k t j js legs
   goes k t j js legs e =
       let second = and_then_some
@@ -127,6 +133,8 @@ module _ (day : DayFacts) (pool : Pool) where
             sym (some_same ((trip_leg k t ∷ link_legs pool t u linked.0) ++ others.0) legs others.2);
       }
 
+  -- By induction over the trips that follow: the connection's legs begin when the trip has ended or later, and so do the legs from the
+  -- next trip on, which begin with that trip or when it has ended. At the last trip the pull-in begins when it has ended.
   behind : (k : ℕ) (t : Trip) (js : List ℕ) (legs : List Leg) → All IsDaily day.trips →
       legs_from day pool k t js ≡ Some legs → Behind k t legs
   behind k t [] legs daily e =
@@ -162,7 +170,8 @@ module _ (day : DayFacts) (pool : Pool) where
       let P : List Leg → Type 0 = λ ls. AreFrom t.begin.0 ls in
       subst P (sym b.is) (omega (arith, ints), from-lower t.begin.0 t.end.0 b.others order b.later)
 
-  -- the legs from a trip up to the last one of some trips
+  -- The legs from a trip up to the last one of some trips. It is the same computation with nothing behind the last trip: no connection
+  -- and no pull-in, as these hang on what follows.
   abbrev legs-up : ℕ → Trip → List ℕ → Option (List Leg)
   legs-up k t [] = Some (trip_leg k t ∷ [])
   legs-up k t (j ∷ js) = option_and_then (λ (u : Trip). option_and_then (λ (l : Link). onward k t u (legs-up j u js) l) (link day pool t u))
@@ -187,6 +196,9 @@ module _ (day : DayFacts) (pool : Pool) where
       sym (ap (λ (o : Option Trip). option_map_or (λ (trip : Trip). int_lt trip.end.0 (pos moment)) o false) at) ∙ runs in
       grind (arith, ints)
 
+  -- By induction over the first trips: the legs are those up to the last of them, which hang on these trips and the pool alone, and
+  -- what is behind. Where the last of them ends at the moment or later, so that it is not over, all behind it begins at the moment or
+  -- later, as it begins when that trip has ended (`behind`). The trips that follow, `more`, are any.
   fronted : (moment k : ℕ) (t : Trip) (js more : List ℕ) (legs : List Leg) → All IsDaily day.trips → slice_get day.trips k ≡ Some t →
       legs_from day pool k t (js ++ more) ≡ Some legs →
       Fronted moment (last_trip k js) (legs-up k t js) legs
@@ -260,6 +272,10 @@ module _ (day : DayFacts) (pool : Pool) where
       block-up first js ≡ Some (shown (outward t out ∷ front))
   up-is first js t out front at leaves up = rw (at, leaves, up) refl
 
+  -- The same of a whole block: the pull-out hangs on the first trip and the pool, and legs that are not shown are left out of both
+  -- parts alike. So two blocks of one pool with the same first trips have the same front, which is computed from these trips
+  -- (`block-up`), and differ in legs that begin at the moment or later. On this `SameCuts` rests, and with it that begun pieces keep
+  -- their duties.
   pub block-fronted : (moment first : ℕ) (js more : List ℕ) (legs : List Leg) → All IsDaily day.trips →
       legs_of day pool (first ∷ (js ++ more)) ≡ Some legs →
       Fronted moment (last_trip first js) (block-up first js) legs
@@ -275,7 +291,9 @@ module _ (day : DayFacts) (pool : Pool) where
         later = λ runs. from-shown (pos moment) f.back (f.later runs);
       }
 
-  -- where a block leaves its depot at a moment or later all its legs begin then or later
+  -- Where a block leaves its depot at a moment or later all its legs begin then or later. A block that leaves at the moment or later
+  -- has nothing that begins before: its pull-out does not, and each leg from the first trip on begins when that trip does or later
+  -- (`all-from`). So a piece that begins before the moment is of a block that has a head.
   pub leaves-later : (moment class first : ℕ) (others : List ℕ) (legs : List Leg) → All IsDaily day.trips →
       slice_get day.params.pools class ≡ Some pool → legs_of day pool (first ∷ others) ≡ Some legs →
       leaves_before day moment class first ≡ false → AreFrom (pos moment) legs

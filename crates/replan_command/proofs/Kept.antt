@@ -46,7 +46,8 @@ module _ (p : Problem) (heads : List Begun) (may : ℕ → List ℕ → Bool) (l
   abbrev rest : Problem
   rest = rest_of p heads may
 
-  -- each plan that keeps what has begun has as many columns as a plan of the rest, and its cost
+  -- Each plan that keeps what has begun has as many columns as a plan of the rest, and its cost. A plan that keeps what has begun is a
+  -- plan of the rest, written out, and to write it out changes neither how many columns it has nor what they cost.
   in-rest : (columns : List Column) → KeepsOf p heads may columns →
       (found : List Column) × IsPlan rest found × (length columns ≡ length found) × (cost columns ≡ cost found)
   in-rest columns of =
@@ -54,6 +55,9 @@ module _ (p : Problem) (heads : List Begun) (may : ℕ → List ℕ → Bool) (l
       let bs : List (List ℕ) = bodies heads p.items in
       (found, plan, ap length (sym is) ∙ written-number bs found, ap cost (sym is) ∙ written-cost bs found)
 
+  -- The method plans the rest. Its plan, written out, is a plan that keeps what has begun, and stays so in printed order
+  -- (`order-keeps`). Bounds are of the rest; any other plan that keeps what has begun has its match there (`in-rest`), so they are
+  -- bounds of all such plans.
   pub kept-side : (side : SidePlan) (columns : List Column) → IsPlan rest columns →
       side.columns ≡ printed (written_plan (bodies heads p.items) columns) →
       IsCountBoundOf rest side.count.bound → IsBoundOf rest side.cost.bound → IsKeptSide (KeepsOf p heads may) side

@@ -91,7 +91,9 @@ number-names pieces x m is below =
           (p, subst P same at, block, index)
     ] refl is
 
--- parts have one number exactly where they are the same
+-- Parts have one number exactly where they are the same. A part and a number of a piece name each other: the number is that of the
+-- first piece with the part's block and index, and that piece tells both again. Where a part names no piece it has the number past
+-- all, which no part with a piece has.
 same-number : (pieces : List Piece) (x y : ℕ × ℕ) → part_number pieces x < length pieces →
     (part_number pieces x == part_number pieces y) ≡ same_part x y
 same-number pieces x y below =
@@ -136,7 +138,8 @@ parts-times pieces x below (y ∷ ys) =
     ap (λ (t : Bool). cond t 1 0 + times (part_number pieces x) (map (part_number pieces) ys)) here
     ∙ ap (λ (n : ℕ). cond (same_part x y) 1 0 + n) rest
 
--- a part stands in duties as often as its number in their lists
+-- A part stands in duties as often as its number in their lists. So counting parts in the rows of X_DIENST_STUECK and counting piece
+-- numbers in lists of duties is the same, and "each piece once", which is said of numbers, may be used of parts.
 pub rows-times : (groups : List Group) (pieces : List Piece) (x : ℕ × ℕ) → part_number pieces x < length pieces → (rows : List DutyRow) →
     times (part_number pieces x) (all_items (map (duty_list groups pieces) rows)) ≡ part_times x (all_parts rows)
 rows-times groups pieces x below [] = refl

@@ -47,6 +47,9 @@ blocks-onto r columns of = record { plan = of.plan; keeps = of.keeps }
 blocks-back : (r : Replan) (columns : List Column) → KeepsBlocks r columns → KeepsBlocksOf r columns
 blocks-back r columns of = record { plan = of.plan; keeps = of.keeps }
 
+-- What the method made over the rest of the blocks is turned into what is promised of the day's: the columns as they are written, and
+-- a side that keeps what has begun with bounds that hold of all plans that do (`kept-side`). Duties go the same way below, once each
+-- begun piece has its duty, and so does a refusal: where the rest has no plan, none keeps what has begun (`kept-none`).
 pub new-blocks : (r : Replan) (numbers : Numbers) (side : SidePlan) → IsEarlierPlan r.day r.earlier →
     IsMadeSide (blocks_left r true) (blocks_left r false) (block_items r) numbers side → AreNewBlocks r numbers side
 new-blocks r numbers side earlier made = record {
@@ -175,6 +178,8 @@ cheap-cost : (columns : List Column) → AreCheap columns → cost columns ≤ 4
 cheap-cost [] cheap = omega arith
 cheap-cost (c ∷ cs) cheap = let first = cheap.0 in omega (arith, first, cheap-cost cs cheap.1)
 
+-- Each bound holds of the plan itself, which keeps what has begun; so no bound is above the plan's own number or cost, and these are
+-- small.
 pub printable : (r : Replan) (numbers : Numbers) (blocks duties : SidePlan) → IsReplanned r numbers blocks duties →
     length r.day.trips ≤ 3000 → length (pieces_of_plan r.day blocks.columns) ≤ 3000 →
     AreCheap blocks.columns → AreCheap duties.columns → IsPrintable r.day blocks duties

@@ -36,6 +36,8 @@ use Rattle.replan_command.specs.ReplanText.{IsReplanCauseOver, IsReplanTextOver,
 
 -- what is left ends in one way
 module _ (r : Replan) (numbers : Numbers) (fixed : numbers.climb ≡ false) where
+  -- What is left is planned by fixed rounds, and these end in one way; two texts, or two causes, each tell an ending. So all below is
+  -- to compare endings: two of a kind have the same contents, and two of different kinds cannot both be.
   rest_once : (one other : DayEnding) → DayEndsAs (rest_problems r) numbers one → DayEndsAs (rest_problems r) numbers other → one ≡ other
   rest_once = one_day (rest_problems r) numbers fixed
 
@@ -72,7 +74,8 @@ module _ (r : Replan) (numbers : Numbers) (fixed : numbers.climb ≡ false) wher
       ∙ (ap (λ (n : ItemName). plans.NotPlaced other j n a) names
       ∙ ap (λ (cs : List Column). plans.NotPlaced other j other_name (record { columns = cs })) columns))
 
-  -- two causes in what is left are the same, but for running out of memory
+  -- Two causes in what is left are the same, but for running out of memory. Each tells an ending of what is left, and there is one.
+  -- The name of an item that is left is told by the item and, for pieces, by the new blocks, which are one too (`one_blocks`).
   cause_once : (one other : PlanFault) → IsRestCause r numbers one → IsRestCause r numbers other →
       (one ≡ other) ⊎ ((one ≡ plans.Memory) ⊎ (other ≡ plans.Memory))
   cause_once plans.Memory other h k = inr (inl refl)
@@ -160,6 +163,8 @@ same_faults one other (inr (inl none)) = inr (inl (lacks one none))
 same_faults one other (inr (inr none)) = inr (inr (lacks other none))
 
 module _ (day : DayFacts) where
+  -- The tables of an earlier plan say one plan (`one_earlier`), the rest of it ends in one way, and the text is written of that
+  -- ending. So any number of workers prints the same bytes.
   pub one_text : HasOneText day
   one_text = λ old moment numbers fixed table one other h k. same_text day old moment numbers fixed table one other h k
 
@@ -203,6 +208,8 @@ module _ (day : DayFacts) where
   reason_of old moment numbers reason bad (faults.Plan fault) (inl none) = inr (lacks fault none)
   reason_of old moment numbers reason bad (faults.Plan fault) (inr rest) = absurd (good_or_bad day old rest.earlier reason rest.good bad)
 
+  -- An earlier plan is judged before anything is planned, so no method enters: a text and every other cause presuppose that it is
+  -- good.
   pub refused_alone : RefusedAlone day
   refused_alone = λ old moment numbers reason bad. record {
     no_text = λ table bytes h. good_or_bad day old h.earlier reason h.good bad;

@@ -40,7 +40,8 @@ put-stays c d (next ∷ cs) (suc j) at = by (nat_lt (first_of_column next) (firs
     by true rest = later next d (put c cs) rest
     by false rest = (suc (suc j), at)
 
--- and no other comes
+-- And no other comes. To put a column in place loses none and brings none in: the others stand where they stood, or one place further
+-- on.
 put-from : (c d : Column) (cs : List Column) (j : ℕ) → slice_get (put c cs) j ≡ Some d → IsIn d (c ∷ cs)
 put-from c d [] j at = (j, at)
 put-from c d (next ∷ cs) j at = by (nat_lt (first_of_column next) (first_of_column c)) j at (λ i is. put-from c d cs i is)
@@ -70,7 +71,8 @@ there-printed d (c ∷ cs) j at = go (put-from c d (printed cs) j at) (λ i is. 
     go (zero, is) rest = (0, is)
     go (suc i, is) rest = later c d cs (rest i is)
 
--- columns that keep what has begun keep it in printed order
+-- Columns that keep what has begun keep it in printed order. What has begun is kept by columns wherever they stand: a head asks for
+-- some column that begins with it, and each other column is asked alone. So it is enough that the same columns stand in both orders.
 pub order-keeps : (heads : List Begun) (may : ℕ → List ℕ → Bool) (cs : List Column) → KeepsBegun heads may cs →
     KeepsBegun heads may (printed cs)
 order-keeps heads may cs keeps = record {

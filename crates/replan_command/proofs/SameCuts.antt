@@ -61,7 +61,9 @@ part-is blocks earlier p place c first number others of at items found =
     ∙ ap (λ (o : Option ℕ). option_map (λ (number : ℕ). (number, p.index)) o) found
 
 module _ (day : DayFacts) (moment : ℕ) (daily : All IsDaily day.trips) where
-  -- blocks of one pool that begin with the same kept trips share their legs up to the moment
+  -- Blocks of one pool that begin with the same kept trips share their legs up to the moment. Either the last kept trip is over at the
+  -- moment; then the head is the whole block in both plans and the legs are equal. Or it is not; then both lists begin with the legs
+  -- up to it, and what follows in each begins at the moment or later (`block-fronted`).
   shares : (pool : Pool) (first : ℕ) (kept more further : List ℕ) (one other : List Leg) →
       legs_of day pool (first ∷ (kept ++ more)) ≡ Some one → legs_of day pool (first ∷ (kept ++ further)) ≡ Some other →
       (ends_before day moment (last_trip first kept) ≡ true → more ≡ []) →
@@ -92,7 +94,10 @@ module _ (day : DayFacts) (moment : ℕ) (daily : All IsDaily day.trips) where
   module _ (earlier blocks : List Column) (same : heads_of day moment blocks ≡ heads_of day moment earlier)
       (once : (trip : ℕ) → trip < length day.trips → times trip (all_items earlier) ≤ 1)
       (worths : All (HasWorth day) earlier) where
-    -- with the block of the earlier plan that has the head of the piece's block
+    -- With the block of the earlier plan that has the head of the piece's block. The head of the piece's block is also that of a block
+    -- of the earlier plan (`comes-from`). Both blocks have its pool and begin with its trips, so they share their legs up to the
+    -- moment, and the piece has one of its index there (`same-index`). The earlier block is found by its first trip, as that stands
+    -- once in the earlier plan (`block-found`).
     with-head : (p : Piece) (b : IsOfBlock day 1 blocks p) (l : HasLegs day (1 + b.place) b.block p) (first : ℕ) (others : List ℕ) →
         b.block.items ≡ first ∷ others → p.begin.0 <ℤ pos moment → first < length day.trips →
         ComesFrom day moment earlier (head-of day moment b.block.class first others) → HasSameCut day earlier blocks p
@@ -169,7 +174,10 @@ module _ (day : DayFacts) (moment : ℕ) (daily : All IsDaily day.trips) where
         let b = of-one day 1 blocks p (ordered-out begin_moment (pieces_by_block day 1 blocks) p (k, at)) in
         found-one p b (has-legs day (1 + b.place) b.block p b.stands) b.block.items refl early
 
--- in a plan that keeps what has begun of an earlier one each piece that begins before the moment is one of the earlier plan
+-- In a plan that keeps what has begun of an earlier one each piece that begins before the moment is one of the earlier plan. A plan
+-- that keeps what has begun has the same heads as the earlier plan (`kept-is-same`); this turns what is promised of blocks into a
+-- promise about pieces. It is what `HaveDuties` needs: duties of the earlier plan name pieces by block and index, and these names go
+-- over.
 pub same_cut : (day : DayFacts) (earlier blocks : List Column) (moment : ℕ) → All IsDaily day.trips → AreOfDay day earlier →
     IsEachOnce day earlier → All (HasWorth day) earlier →
     IsPlan (blocks_of day false) blocks → KeepsBegun (begun_of (heads_of day moment earlier)) (may_begin day moment) blocks →
