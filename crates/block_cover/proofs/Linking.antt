@@ -21,10 +21,10 @@ both-given true true o e h = refl
 both-given true false o e h = absurd (cc)
 both-given false b o e h = absurd (cc)
 
--- The mark's step tests all again: that the later trip is there, comes later, is admitted by the pool's vehicles and can be reached.
--- Each of these is known from the link that was found, by opening the look-ups in their order, so every test passes and what is left
--- is the driving and the value. So the code may ask the day for each of them by itself, and then work out the open block over the link
--- alone.
+-- A mark with a later trip more is what is made over the connection to this trip. The definition's step tests all again: that the trip
+-- is there, comes later, is admitted by the pool's vehicles and can be reached. Each of these is known from the connection that was
+-- found, by opening the look-ups in their order, so every test passes and the driving and the value are left. So the code may ask the
+-- day for each of them by itself.
 pub extended-with : (day : DayFacts) (counts : Bool) (prices : List Price) (m : BlockMark) (k : ℕ) (pool : Pool) (next : Trip) (l : Link) →
     slice_get day.params.pools m.class ≡ Some pool → slice_get day.trips k ≡ Some next → m.trip < k → admits_at day m.class k ≡ true →
     link_at day m.class m.trip k ≡ Some l →

@@ -87,8 +87,8 @@ counted-fits : (c : Case) (pieces : List Piece) → NetFits (duties_over c piece
 counted-fits c pieces fits = record { few = fits.few; shifts = fits.shifts; params = fits.params }
 
 -- Of four parts the first two are over blocks and the last two over duties, and of each two one counts and one has costs; so each plan
--- gets its two bounds from two parts (`blocks_shown`, `duties_shown`), since a plan by cost is one that is counted too. Other numbers
--- of parts are no certificate.
+-- gets its two bounds from two parts (`blocks_shown`, `duties_shown`), as a plan with costs is one where columns are counted too.
+-- Other numbers of parts are no certificate.
 both-shown : AreLaws → (c : Case) (blocks : Plan) (duty_columns : List Column) (bounds : List ℕ) (parts : List CertPart) →
     IsPlan (blocks_in c false) (printed blocks.columns) → IsPlan (duties_in c (printed_pieces c blocks) false) duty_columns →
     NetFits (duties_over c (printed_pieces c blocks) false) →

@@ -148,9 +148,9 @@ pub record FitsTables (day : DayFacts) (blocks duties : List Column) : Type 0 wh
   pub cheap_duties : AreCheap duties
 
 -- A plan's blocks and duties in printed order have their ranges: each column keeps its class and its worth, and as many items. It is
--- shown of each column by itself, and kept first by the new numbers (`again_each`) and then by the order (`order_each`). That no more
--- columns and items are there than pieces comes from the plan before, in which each piece stands once. Which pieces the new numbers
--- name is not asked: so the tables can be made and compared before it is known whether the duties in printed order are still a plan.
+-- shown of each column by itself, and kept first by the new numbers (`again_each`) and then by the order (`order_each`). There are no
+-- more duties than pieces, as in the plan before each piece stands once. Which pieces the new numbers name is not asked: so the tables
+-- can be made and compared before it is known whether the duties in printed order are still a plan.
 pub in_ranges : (c : Case) (blocks duties : Plan) → IsPlan (blocks_in c false) blocks.columns →
     IsPlan (duties_in c (pieces_in c blocks.columns) false) duties.columns →
     length blocks.columns ≤ 3000 → length (pieces_in c blocks.columns) ≤ 3000 → AreCheap blocks.columns → AreCheap duties.columns →
@@ -207,6 +207,6 @@ items_few : (cs : List Column) → AllByRecursion (λ (c : Column). length c.ite
 items_few [] few = omega arith
 items_few (c ∷ cs) few = let one = few.0 in omega (arith, one, length-append c.items (all_items cs), items_few cs few.1)
 
--- So the items of all duties together can be counted in 32 bits, which judging them asks for.
+-- Few duties with few pieces each have few pieces in all: these can be counted in 32 bits, which judging the duties asks for.
 pub all_few : (cs : List Column) → length cs ≤ 3000 → All (λ (c : Column). length c.items ≤ 3000) cs → length (all_items cs) < 2 ^ 32
 all_few cs few each = omega (arith, few, items_few cs (recursion_from_All (λ (c : Column). length c.items ≤ 3000) cs each))

@@ -63,7 +63,8 @@ early row (art ∷ bound ∷ []) is = by (nat_lt row 4) refl is
     by false test is = absurd (cc)
 early row (art ∷ bound ∷ more ∷ rest) is = absurd (cc)
 
--- Row by row: each row gives a bound, as none is wrong, and only the first four can; so after a row there is room for one row less.
+-- No more than four rows can each give a bound. Row by row: each gives one, as none is wrong, and only the first four can; so after a
+-- row there is room for one row less.
 at-most : (t : List ℕ) (k row : ℕ) (rows : List (List (Option ℤ))) → row ≤ 4 → entry_faults t k (entries_from bound_entry row rows) ≡ [] →
     row + length rows ≤ 4
 at-most t k row [] low none = omega arith

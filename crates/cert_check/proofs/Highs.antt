@@ -78,8 +78,8 @@ pub all-low : (c : Case) (blocks : Plan) (bounds : List ℕ) (p : FourParts) →
     AreShown c blocks bounds zero (listed p)
 all-low c blocks bounds p low = (low.0, (low.1, (low.2, (low.3, tt))))
 
--- The first that is. The four passes are looked at one after another, by a chain of four alternatives; the definition goes over the
--- parts of the certificate. As there are four, one is the other written out.
+-- The first bound that is too high: the four passes are looked at one after another, by a chain of four alternatives, and the
+-- definition goes over the parts of the certificate. As there are four, one is the other written out.
 pub first-high : (c : Case) (blocks : Plan) (bounds : List ℕ) (p : FourParts) (found : TooHigh) →
     IsFirstHigh bounds (pool_caps c.day) (group_caps c.day) p found →
     IsFirstTooHigh c blocks bounds zero (listed p) found.pass found.printed found.shown

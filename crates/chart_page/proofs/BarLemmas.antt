@@ -101,8 +101,8 @@ block_none vehicles lanes e =
     (lane_at lanes e.0).is_first)
     ∙ block_name_none vehicles e.1 (lane_at lanes e.0)
 
--- The chart of the blocks has one bar for each leg. The chart of the blocks is put together of a frame, the legs, the scale and the
--- names of the lanes. All but the legs have no bar, so they may be taken away from before and behind, and the legs have one each.
+-- The chart of the blocks has one bar for each leg. It is put together of a frame, the legs, the scale and the names of the lanes. All
+-- but the legs have no bar, so they may be taken away from before and behind, and the legs have one each.
 pub block_chart_bars : (sheet : BlockSheet) (hours : Hours) (starts : List ℕ) →
     bars_in (blocks.chart_parts sheet hours starts) ≡ map (blocks.leg_bar (lanes_by (blocks.pools_of sheet.blocks))) sheet.legs
 block_chart_bars sheet hours starts =

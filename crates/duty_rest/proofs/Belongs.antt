@@ -181,8 +181,8 @@ at-most x (b ∷ bs) (suc j) c at =
     let rest = at-most x bs j c at in
     omega (arith, both, rest)
 
--- Both columns add to how often the piece stands in all, and that is once at most; so they are one, at one place. It goes along the
--- plan until the first of the two places.
+-- Two columns of a plan that have one piece are one: both add to how often the piece stands in all, and that is once at most. The
+-- induction goes along the plan until the first of the two places.
 same-place : (x : ℕ) (cs : List Column) (j k : ℕ) (c e : Column) → times x (all_items cs) ≤ 1 → slice_get cs j ≡ Some c →
     slice_get cs k ≡ Some e → 1 ≤ times x c.items → 1 ≤ times x e.items → c ≡ e
 same-place x [] j k c e once atc ate here there = absurd (cc)

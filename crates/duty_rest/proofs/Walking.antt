@@ -23,9 +23,8 @@ pub after-more : {L : Type 0} (w : Labelling L) (a : L) (o : Option L) (list : L
 after-more w a o list i within is =
     ap (λ l. label_after w (Some a) l) (drop_more list i 0 within) ∙ ap (λ o. label_after w o (drop (i + 1) list)) (sym is)
 
--- What an item stands for, more. An item of the rest stands for several pieces. The written-out list puts them before those of the
--- items that follow, and a label that goes along two lists one behind the other goes along both (`after-append`). So the walk may go
--- item by item of the rest.
+-- An item of the rest stands for several pieces. The written-out list puts them before those of the items that follow, and a label
+-- that goes along two lists one behind the other goes along both (`after-append`). So the walk may go item by item of the rest.
 pub after-body : {L : Type 0} (w : Labelling L) (a : L) (o : Option L) (bs : List (List ℕ)) (list : List ℕ) (i : ℕ) → i < length list →
     o ≡ label_after w (Some a) (body_at bs (slice_index_or list i 0)) →
     label_after w (Some a) (written bs (drop i list)) ≡ label_after w o (written bs (drop (i + 1) list))

@@ -23,8 +23,7 @@ exact-start : (a b : Sec) → a.0 ≡ b.0 → a ≡ b
 exact-start a b e = let second : ℤ → Sec = λ z. record { 0 = z } in ap second e
 
 -- An order that compares one field after another ends with no difference only where each field shows none, and numbers, times and
--- truth values without a difference are equal. So to put marks in order and to take those away that repeat loses none, and the cover
--- is one list.
+-- truth values without a difference are equal. So marks may be put in order, and those that repeat be taken away, and no mark is lost.
 pub mark-exact : (a b : Mark) → mark_order a b ≡ Equal → a ≡ b
 mark-exact a b e =
     let p = both-equal _ _ e in

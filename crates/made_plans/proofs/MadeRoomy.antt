@@ -316,8 +316,9 @@ module _ (trips : ℕ) (day : DayFacts) (made : IsMade trips day) where
         let P : Link → Type 0 = λ l. Cut l in
         subst P (some_same (Depot i o stand) l is) here
 
-    -- A direct connection has its minimum layover of 300 seconds, which is a handover too, at a terminal, where drivers are relieved;
-    -- one via the depot stands there for 300 at least (`stands_long`), and a depot is a place for cuts. So no piece has a stand in it.
+    -- A direct connection stands for its minimum layover of 300 seconds at least, which is a handover too, and at a terminal, where
+    -- drivers are relieved; one via the depot stands there for 300 at least (`stands_long`), and a depot is a place for cuts. So each
+    -- connection has a cut, and no piece a stand in it.
     cut : (l : Link) → link day q t u ≡ Some l → is_cut_on day q u l ≡ true
     cut l e = either Cut (direct_link day t u) (depot_link day q t u) l direct by_depot e
 

@@ -53,6 +53,8 @@ both P front back false = back
 abbrev Courses : ℕ → Type 0
 Courses l = (out : Bool) → HasCourse l out
 
+-- Seven lines go out and back; of these fourteen variants the stops, both run times and the dwell are looked up in the tables by
+-- computing. The times are told by the line's number, so all that follows is arithmetic over it.
 courses : (l : ℕ) → 1 ≤ l → l ≤ 7 → Courses l
 courses =
     by_line Courses
@@ -71,7 +73,7 @@ courses =
     (both (HasCourse 7) (record { area = refl; course = refl; first = refl; second = refl; dwell = refl })
     (record { area = refl; course = refl; first = refl; second = refl; dwell = refl }))
 
--- a stop sequence of three points
+-- A course of three points. A trip over three points lasts the run times of both sections and the dwell between them.
 three : (time_of : Point × Point → Option ℕ) (dwell_of : Point → ℕ) (row : TripRow) (a m b : Point) (s t d : ℕ) → time_of (a, m) ≡ Some s →
     time_of (m, b) ≡ Some t → dwell_of m ≡ d →
     timed_on time_of dwell_of row (a ∷ m ∷ b ∷ []) ≡ ended row a b (s + t + d)
@@ -131,6 +133,8 @@ module _ (seed trips : ℕ) (row : TripRow) (made : IsMadeRow row) where
       (dwells_are seed trips)
       ∙ ap (λ o. unwrap_or o 0) course_is.dwell
 
+  -- A row names its line and variant, and these are looked up in the tables of the made network, which are the same for all seeds. So
+  -- all of the trip's times are known but its departure.
   timed_is : timed (made_net seed trips) 1 row ≡ ended row (point (start_of out l)) (point (end_of out l))
       (2400 + 60 * l + (2400 + 60 * l) + 60)
   timed_is =

@@ -57,8 +57,9 @@ module _ (day : DayFacts) (pool : Pool) (group : Group) (way : ℕ) where
   grown_running block index None at l is meets sound uncut = (begun_running block index l sound uncut, refl)
   grown_running block index (Some p) at l is meets sound uncut = (continued_running p l is.0 (is.1 ∙ meets) sound uncut, refl)
 
-  -- The cutting rule goes leg by leg with the piece in hand, which ends where the next leg begins. A leg that is no cut is no stand,
-  -- so it adds to the piece's driving as much as to its time; a cut puts the piece out and is itself in none.
+  -- Pieces that are cut from legs with no time between them last as long as they are driven. The cutting rule goes leg by leg with the
+  -- piece in hand, which ends where the next leg begins. A leg that is no cut is no stand, so it adds to the piece's driving as much
+  -- as to its time; a cut puts the piece out and is itself in none.
   cut_running : (block index : ℕ) (held : Option Piece) (from to : ℤ) (legs : List Leg) →
       AreWhole day pool group way from to legs → Held from held →
       All Running (cut_on day pool block index held legs)

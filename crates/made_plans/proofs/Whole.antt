@@ -256,10 +256,10 @@ module _ (day : DayFacts) (pool : Pool) (group : Group) (way : ℕ) where
           let (leaves, is_left, same) = and_then_some (λ (n : ℕ). Some move) (seconds (t.begin.0 -ℤ pos move)) out left in
           is ∙ same
 
-      -- The legs of a block. The legs of a block of a roomy day leave no time between them, and each stand is a cut. So between two
-      -- cuts the vehicle is driven all the time: a piece lasts as long as its driving, at most four and a half hours, and begins and
-      -- ends near the group's home. With the ways, sign-on and sign-off its spread is within thirteen hours, and it is a lawful duty
-      -- alone, on which `roomy_days_are_planned` rests.
+      -- The legs of a block of a roomy day leave no time between them, and each stand is a cut. So between two cuts the vehicle is
+      -- driven all the time: a piece lasts as long as its driving, at most four and a half hours, and begins and ends near the group's
+      -- home. With the ways, sign-on and sign-off its spread is within thirteen hours, and it is a lawful duty alone, on which
+      -- `roomy_days_are_planned` rests.
       pub legs_whole : (list : List ℕ) (legs : List Leg) → legs_of day pool list ≡ Some legs →
           (begin : ℤ) × (end : ℤ) × AreWhole day pool group way begin end legs
       legs_whole [] legs e = absurd (cc)

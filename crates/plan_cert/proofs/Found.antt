@@ -104,6 +104,8 @@ kept-there P (None ∷ os) all each = absurd (cc)
 kept-there P (Some x ∷ os) all each =
     let rest = kept-there P os all each.1 in let long = rest.long in record { long = omega arith; each = (each.0, rest.each) }
 
+-- Prices are kept in slots, one for each number; where all slots are filled, their values are the list of prices, as long as the slots
+-- are many. What holds of each value that is there holds of each price (`kept-there`).
 pub there-all : {A : Type 0} (P : A → Type 0) (os : List (Option A)) (xs : List A) → all_there os ≡ Some xs →
     AllSome P os → AreThere P os xs
 there-all {A} P os xs e each =
@@ -133,6 +135,8 @@ found-each P pass n (x ∷ xs) each z e = elim (is_of pass n x) as (λ t. (if t 
   | false ↦ λ f. found-each P pass n xs each.1 z f
 ] e
 
+-- A price that is found in a slot is that of some entry (`found-each`), and an entry is what a row says; so what each row's price must
+-- keep holds of all prices, whichever rows gave them.
 pub found-all : (P : ℤ → Type 0) (pass : Pass) (from count : ℕ) (es : List Entry) → Each (λ (e : Entry). P e.price) es →
     AllSome P (map (λ n. found_price pass n es) (range_with_len from count))
 found-all P pass from zero es each = tt

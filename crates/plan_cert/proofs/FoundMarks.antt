@@ -138,9 +138,9 @@ one-pass DutyCost BlockCost e = absurd (cc)
 one-pass DutyCost DutyNumber e = absurd (cc)
 one-pass DutyCost DutyCost e = refl
 
--- Each mark that is read was said by a row, and a row says a mark only where its class and item are there and its numbers have 32
--- bits. The pass of the row stands within that; the marks of a pass are picked by its number, and passes with one number are one
--- (`one-pass`).
+-- Each mark that is read was said by a row, and a row says a mark only where its class and item are there in the pass that it names
+-- and its numbers have 32 bits. The marks of a pass are picked by the pass's number, and passes with one number are one (`one-pass`),
+-- so this holds of the pass that is asked for.
 pub all-duties : (s : Shape) (columns : DutyColumns) (pass : Pass) (rows : List (List Field)) →
     Each (IsMarkOf (items_of s pass) (length (numbers_in s.classes pass))) (marks_in_pass pass (filter_map (duty_entry s columns) rows))
 all-duties s columns pass rows =

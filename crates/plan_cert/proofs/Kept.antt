@@ -41,9 +41,9 @@ other-pass count pass es e off =
     same-on (λ n. found_price pass n (es ++ e ∷ [])) (λ n. found_price pass n es) 0 count
     (λ n. found-other pass n es e (ap (λ (t : Bool). t && nat_eq e.number n) off))
 
--- The prices of the entry's own pass. One price more changes the prices found of its own pass at its own number, where none was found
--- before, and nowhere else; for numbers of the pass are told apart. Prices found of other passes stay as they are (`other-pass`). So
--- to write a price into its empty slot is to let the definition see one entry more, which is `put-slot`.
+-- The prices of the entry's own pass. One price more changes what is found of its own pass at its own number, where nothing was found
+-- before, and nothing else, as an entry is of one number. Prices of other passes stay as they are (`other-pass`). So to write a price
+-- into its empty slot is to let the definition see one entry more, which is `put-slot`.
 own-pass : (count : ℕ) (pass : Pass) (es : List Entry) (e : Entry) → same_pass e.pass pass ≡ true → e.number < count →
     found_price pass e.number es ≡ None →
     found_prices count pass (es ++ e ∷ []) ≡ slice_set (found_prices count pass es) e.number (Some e.price)

@@ -157,8 +157,8 @@ unpicked pick tag [] other = refl
 unpicked {A} {M} pick tag (m ∷ ms) other =
     ap (λ (o : Option M). cons_option o (filter_map pick (map tag ms))) (other m) ∙ unpicked pick tag ms other
 
--- The rows of the cheaper pass stand behind those of the first; picking a pass leaves nothing of the other's marks and all of its own,
--- in their order. So one table with a column for the pass keeps both lists apart.
+-- The rows of the pass with costs stand behind those of the pass that counts; picking a pass leaves nothing of the other's marks and
+-- all of its own, in their order. So one table with a column for the pass keeps both lists apart.
 pub duties-kept : (three four : List Mark) → duty_marks (map (duty_tag DutyNumber) three ++ map (duty_tag DutyCost) four)
     ≡ record { of_number = three; of_cost = four }
 duties-kept three four =

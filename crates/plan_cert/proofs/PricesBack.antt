@@ -145,8 +145,8 @@ class-row s pass class number z found =
     let g : Option ℕ → Option Entry = λ o. o >>= λ n. Some (entry pass n z) in
     ap f (pass-back pass) ∙ ap g found
 
--- The rows of class prices say them. The rows of class prices, each with the number of its class, say the classes in order: numbers
--- rise, so each stands once among them, and the row gives the very class that it was written for (`class-back`).
+-- The rows of class prices, each with the number of its class, say the classes in order: numbers rise, so each stands once among them,
+-- and the row gives the very class that it was written for (`class-back`).
 pub classes-say : (s : Shape) (pass : Pass) (class : ℕ) (zs : List ℤ) → class + length zs ≤ length (numbers_in s.classes pass) →
     AllPairs (λ (earlier later : ℕ). earlier < later) (numbers_in s.classes pass) →
     Says (entry_of Classes s three_columns) (signed_rows (class_rows pass (numbers_in s.classes pass) class zs)) (entries pass class zs)

@@ -138,10 +138,10 @@ part-is : (items classes : ℕ) (numbers class_prices : List ℤ) (part-of : IsL
     (classes-of : IsList Any classes class_prices) → (length (map price numbers) ≡ items) × All IsModerate (map price numbers)
 part-is items classes numbers class_prices part-of classes-of = (length-map numbers price ∙ part-of.long, moderate-all numbers part-of.each)
 
--- What is read has its parts. What is read has its parts, from wherever the tables come. Reading is opened from its end: where it
--- succeeds each of its four steps has (`next`), and so each table was there, had its columns and no wrong row. A price that is read
--- was said by a row, which had to be moderate (`said-each`); slots are as many as items, and all were filled. So the checker may use a
--- certificate's prices, classes and items untested.
+-- What is read has its parts, from wherever the tables come. Reading is opened from its end: where it succeeds each of its four steps
+-- has (`next`), and so each table was there, had its columns and no wrong row. A price that is read was said by a row, which had to be
+-- moderate (`said-each`); slots are as many as items, and all were filled. So the checker may use a certificate's prices, classes and
+-- items untested.
 pub parts-are : (s : Shape) (tables : List Table) (cert : Cert) → read_of s tables ≡ Ok cert → AreParts s cert.parts
 parts-are s tables cert e =
     let x = next (prices_of Items s tables) _ cert e in

@@ -101,8 +101,8 @@ and-false : (a : Bool) → a && false ≡ false
 and-false true = refl
 and-false false = refl
 
--- Prices whose numbers rise are new. It goes along the numbers: what is asked of the entries before is that they give nothing from
--- this number on, and one entry more leaves this true from the next number on.
+-- Prices whose numbers rise are new. By induction along the numbers: what is asked of the entries before is that they give nothing
+-- from this number on, and one entry more leaves this true from the next number on.
 pub rising-new : (before : List Entry) (pass : Pass) (number : ℕ) (zs : List ℤ) →
     ((n : ℕ) → number ≤ n → found_price pass n before ≡ None) → AreNew before (entries pass number zs)
 rising-new before pass number [] none = tt

@@ -23,8 +23,8 @@ change-beyond f place [] beyond = refl
 change-beyond f zero (x ∷ xs) beyond = absurd (omega arith)
 change-beyond f (suc place) (x ∷ xs) beyond = ap (λ ys. x ∷ ys) (change-beyond f place xs (omega arith))
 
--- Entries of which one differs. It goes to the place in step with the list, and the entries' places are counted on from any `from`. So
--- to put one row's item behind those of its block is to let the definition see one row more.
+-- Entries of which one differs. The induction goes to the place in step with the list, and the entries' places are counted on from any
+-- `from`. So to put one row's item behind those of its block is to let the definition see one row more.
 change-entries : {A B : Type 0} (h : A → A) (f g : ℕ → B → A) (from place : ℕ) (xs : List B) →
     ((k : ℕ) (x : B) → k ≢ from + place → f k x ≡ g k x) → ((x : B) → h (f (from + place) x) ≡ g (from + place) x) →
     change h place (entries_from f from xs) ≡ entries_from g from xs

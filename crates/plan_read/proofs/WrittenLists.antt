@@ -80,10 +80,10 @@ part-times i k [] d within = absurd (omega arith)
 part-times i zero (c ∷ cs) d within = omega (arith, times-append i c.items (all_items cs))
 part-times i (suc k) (c ∷ cs) d within = omega (arith, times-append i c.items (all_items cs), part-times i k cs d (omega arith))
 
--- A trip that is in one block alone is in the block of its number, and in no other. It goes by the blocks in order. Where the first
--- has the trip, the number is the first's, and no later block has the trip, as it would stand twice; where the first has it not, the
--- trip stands once among the others, which are counted on from the next number. So `block_of`, which stops at the first block that has
--- the trip, decides for every block whether the trip is its own.
+-- A trip that is in one block alone is in the block of its number, and in no other. By induction over the blocks: where the first has
+-- the trip, the number is the first's, and no later block has the trip, as it would stand twice; where the first has it not, the trip
+-- stands once among the others, which are counted on from the next number. So `block_of`, which stops at the first block that has the
+-- trip, decides for every block whether the trip is its own.
 owner : (first : ℕ) (cs : List Column) (i k : ℕ) (d : Column) → 0 < first → k < length cs → times i (all_items cs) ≡ 1 →
     stands i (get_or cs k d).items ≡ nat_eq (block_of first cs i) (first + k)
 owner first [] i k d one within once = absurd (omega arith)

@@ -83,7 +83,9 @@ entries-known day tables parts (zs ∷ rest) row from =
       | Some g ↦ λ is. (entry-known day tables row zs g is, entries-known day tables parts rest (row + 1) (from + 1))
     ] refl
 
--- the groups of the duties that tables say are there
+-- The groups of the duties that tables say are there. Tables that say a plan are read row by row of X_DIENST, and what a row gives is
+-- a number that was found among those of the groups (`among-known`). So no duty of an earlier plan is without its group, and each
+-- begun piece of it has a head.
 pub groups-known : (day : DayFacts) (old : List Table) (earlier : PlanText) → read_of day old ≡ Ok earlier →
     AreKnown day.params.groups earlier.duties
 groups-known day old earlier is =

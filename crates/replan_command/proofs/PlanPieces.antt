@@ -25,6 +25,8 @@ module _ (day : DayFacts) where
     pub there : slice_get blocks place ≡ Some block
     pub stands : Stands (block_pieces day (number + place) block) p
 
+  -- The pieces of a plan stand block by block, and blocks are numbered on from `number`; so a piece is of the block at some place, and
+  -- the number of that block is the place's. The other way round is `in-all`.
   pub of-one : (number : ℕ) (blocks : List Column) (p : Piece) → Stands (pieces_by_block day number blocks) p → IsOfBlock number blocks p
   of-one number [] p s = absurd (stands-none p s)
   of-one number (c ∷ cs) p s = elim (stands-either (block_pieces day number c) (pieces_by_block day (number + 1) cs) p s.0 s.1) [
@@ -68,6 +70,8 @@ module _ (day : DayFacts) where
   abbrev by-pool : ℕ → List ℕ → Option Pool → List Piece
   by-pool number list o = unwrap_or (option_and_then (λ (pool : Pool). pieces_of day pool number list) o) []
 
+  -- The definition parts a block's legs at the cuts and makes a piece of each part; the cutting rule goes leg by leg with a piece in
+  -- hand. Both give the same (`cut_whole`), so a piece of a plan can be followed along its legs. `legs-in` is the way back.
   pub has-legs : (number : ℕ) (column : Column) (p : Piece) → Stands (block_pieces day number column) p → HasLegs number column p
   has-legs number column p s = of-pool (slice_get day.params.pools column.class) refl s
     where
@@ -117,6 +121,7 @@ module _ (day : DayFacts) where
   cost-if pool list = given (can_be_driven day pool list)
       (option_and_then (λ (ts : List Trip). option_and_then (λ (c : ℕ). Some c) (block_cost day pool ts)) (trips_at day.trips list))
 
+  -- A block has a worth only where it can be driven, which is tested on its pieces; so its legs are there.
   pub worth-legs : (class : ℕ) (list : List ℕ) (pool : Pool) → is_some (block_worth day false class list) ≡ true →
       slice_get day.params.pools class ≡ Some pool → (legs : List Leg) × (legs_of day pool list ≡ Some legs)
   worth-legs class list pool some there =

@@ -50,7 +50,9 @@ pub of-day : (day : DayFacts) (columns : List Column) → AreOldOfDay day column
 of-day day [] are = tt
 of-day day (c ∷ cs) are = (are.0, of-day day cs are.1)
 
--- new blocks that keep what has begun leave each begun piece its one earlier duty
+-- New blocks that keep what has begun leave each begun piece its one earlier duty. Here the two halves meet: a plan of blocks that
+-- keeps what has begun cuts begun pieces as the earlier plan does (`same_cut`), and there each of them has its one duty
+-- (`have_duties`). It is what `replan_text` needs before the duties of the rest can be asked for.
 pub have : (r : Replan) → All IsDaily r.day.trips → IsEarlierPlan r.day r.earlier → (blocks : List Column) → KeepsBlocks r blocks →
     HaveDuties r.day r.earlier r.moment blocks
 have r daily earlier blocks keeps =

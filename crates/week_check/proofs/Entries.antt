@@ -36,6 +36,8 @@ pub record AreRight (e : Entry) : Type 0 where
 abbrev wrong_in : Entry → List RosterColumn → Option RosterColumn
 wrong_in e cs = find (λ column. not (is_right e column)) cs
 
+-- The search for a wrong column goes over the six columns in order; where it finds none it has passed each of them, and they are taken
+-- off one by one (`find_split`). So "no wrong column" is said value by value, as a duty needs it.
 pub all_right : (e : Entry) → wrong_column e ≡ None → AreRight e
 all_right e h =
     let a = find_split Driver (wrong_in e (Day ∷ Begin ∷ End ∷ Driving ∷ Pause ∷ [])) (not (is_right e Driver)) h in
@@ -132,7 +134,9 @@ small_word : (z : ℤ) (most : ℕ) → pos 0 ≤ℤ z → z ≤ℤ pos most →
 small_word (pos n) most low high = omega (arith, signed_arith, high)
 small_word (negsuc n) most low high = absurd (omega (arith, signed_arith, low))
 
--- the duty of a row whose values are right
+-- The duty of a row whose values are right. A duty counts seconds from 1970: the day's number of days and the row's seconds of the
+-- day. So its start and end keep the distance from the day that the row's values have, and their order; day and driving are as they
+-- were tested.
 pub turn_is : (e : Entry) → AreRight e → IsTurn (turn_of e)
 turn_is e right =
     let begin = within e.begin (neg_ℤ (pos 172800)) (pos 345600) right.begin in

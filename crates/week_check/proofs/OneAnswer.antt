@@ -45,7 +45,8 @@ civil_days turns each = λ k d within. (each k d within).day.civil
 one_by : (a b : ℕ) → IsDay a → IsDay b → number_of a ≤ℤ number_of b → number_of b ≤ℤ number_of a → a ≡ b
 one_by a b first second low high = one_day a b first second (omega (arith, signed_arith, low, high))
 
--- Each of two first days is a duty's, and no duty's day is before the other; so neither is before the other, and they have one number.
+-- Duties have one first day. Each of two first days is a duty's, and no duty's day is before the other; so neither is before the
+-- other, and they have one number. The last day goes the same way below.
 first_one : (turns : List Turn) (a b : ℕ) → All IsTurn turns → IsFirstDay turns a → IsFirstDay turns b → a ≡ b
 first_one turns a b each x y =
     let f = found turns a x.there in
@@ -75,8 +76,8 @@ number_at turns a f d = ap (λ (t : Turn). number_of t.day) (at_place turns f.at
 within_by : (a b x y : ℤ) → x ≡ a → y ≡ b → y ≤ℤ (x +ℤ pos 13) → b ≤ℤ (a +ℤ pos 13)
 within_by a b x y e f near = omega (arith, signed_arith, e, f, near)
 
--- The first and the last day are those of two duties, or of one. Any two duties of a roster are at most 13 days apart, whichever
--- stands first, and days that are far apart are at least 14.
+-- No days of a roster lie far apart. The first and the last day are those of two duties, or of one. Any two duties of a roster are at
+-- most 13 days apart, whichever stands first, and days that are far apart are at least 14.
 not_far : (turns : List Turn) (a b : ℕ) → AllPairs AreNear turns → AreFar turns a b → ⊥
 not_far turns a b near far = by_order (cases_order f.at g.at)
   where

@@ -8,6 +8,8 @@ use Rattle.umlauf_write.specs.Printed.{first_of_column, printed}
 use Rattle.umlauf_write.proofs.Order.{order_cheap, order_plan}
 use Rattle.umlauf_write.proofs.printed.in_printed_order.Goals as goal
 
+-- The program sorts by first items, and the definition puts column after column in its place. The sort is stable, so of columns with
+-- one first item each keeps its turn, and both give one list (`sorted_items`).
 pub returns-clause-order : goal.returns-clause-order
 returns-clause-order c =
     c.from_vec.ensures
