@@ -70,8 +70,8 @@ IsLawful (verdicts.Times item count) = ⊥
 IsLawful (verdicts.Unlawful place) = ⊥
 IsLawful (verdicts.Over class used) = ⊥
 
--- Lists that are lawful get no other verdict. Of lists that are a plan the other verdicts are false (`plans-found`); this is asked as
--- a predicate on verdicts, so that each case of a reason ends by computing.
+-- Lists that are lawful get no other verdict: of lists that are a plan all other verdicts are false (`plans-found`). It is said as a
+-- property of verdicts which only a lawful one has, so that each reason that comes with another verdict is refuted by it.
 only-lawful : (p : Problem) (lists : List Column) (plan : Plan) (verdict : PlanVerdict) → IsVerdict p lists (verdicts.Lawful plan) →
     IsVerdict p lists verdict → IsLawful verdict
 only-lawful p lists plan verdict h k = subst IsLawful (sym (plans-found p lists plan.columns verdict h.0 h.1 k)) tt

@@ -257,9 +257,9 @@ below-times n (x ∷ xs) each =
     let same : (x == x) ≡ true = grind (arith, nat_tests) in
     (each x (rw same (omega arith)), below-times n xs (λ j some. each j (omega (arith, some))))
 
--- The heads of an earlier plan are heads of the day's duties. That none is empty is seen head by head. The rest is a count: heads hold
--- a piece at most as often as all earlier duties name its part (`few`). A number past all pieces has no part, so no head holds it; a
--- begun piece has a part that is named once at most, which is the premise; any other piece has no part. It is the contract of
+-- The heads of an earlier plan are heads of the day's duties. That none is empty is seen head by head, and all else is a count: heads
+-- hold a piece at most as often as all earlier duties name its part (`few`). A number past all pieces has no part, so no head holds
+-- it; a begun piece has a part that is named once at most, which is the premise; any other piece has no part. It is the contract of
 -- `heads_are_heads`, by which each head may be one item of the rest.
 pub heads-are : HeadsAreHeads
 heads-are d blocks earlier moment each =

@@ -116,7 +116,7 @@ module _ (day : DayFacts) (pool : Pool) (group : Group) (way : ℕ) where
   whole_append a b c (l ∷ ls) ys first second = (first.0, first.1, whole_append l.end.0 b c ls ys first.2 second)
 
   -- Legs that are left out leave no time between the others. A leg that is left out, a move between equal points or a stand of no
-  -- time, begins and ends at one moment; so the leg behind it begins where the leg before it ended, and the chain has no gap.
+  -- time, begins and ends at one moment; so the leg behind it begins when the leg before it ended.
   whole_shown : (a c : ℤ) (ls : List Leg) → AreWhole day pool group way a c ls → AreWhole day pool group way a c (shown ls)
   whole_shown a c [] whole = whole
   whole_shown a c (l ∷ ls) whole = by (is_shown l) refl (whole_shown l.end.0 c ls whole.2)

@@ -58,8 +58,8 @@ no-stands i (x ∷ xs) off =
     none x i n e nil = let turned : i == x ≡ false = grind (arith, nat_tests) in
         let one : ◌≡◌ {A = ℕ} (cond (i == x) 1 0) 0 = rw turned refl in omega (arith, one, nil)
 
--- A block that comes later has a later number, or none has the trip. The rest of the blocks is numbered on from `first`; so in `owner`
--- no block behind can have the number of one before it.
+-- A block that comes later has a later number, or none has the trip. Blocks are numbered on from `first`; so in `owner` no block
+-- behind can have the number of one before it.
 numbers-later : (first : ℕ) (cs : List Column) (i : ℕ) → (first ≤ block_of first cs i) ⊎ (block_of first cs i ≡ 0)
 numbers-later first [] i = inr refl
 numbers-later first (c ∷ cs) i =

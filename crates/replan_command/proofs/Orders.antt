@@ -40,8 +40,8 @@ put-stays c d (next ∷ cs) (suc j) at = by (nat_lt (first_of_column next) (firs
     by true rest = later next d (put c cs) rest
     by false rest = (suc (suc j), at)
 
--- And no other comes. To put a column in place loses none and brings none in: the others stand where they stood, or one place further
--- on.
+-- And no other comes: to put a column in place loses none and brings none in, as the others stand where they stood, or one place
+-- further on.
 put-from : (c d : Column) (cs : List Column) (j : ℕ) → slice_get (put c cs) j ≡ Some d → IsIn d (c ∷ cs)
 put-from c d [] j at = (j, at)
 put-from c d (next ∷ cs) j at = by (nat_lt (first_of_column next) (first_of_column c)) j at (λ i is. put-from c d cs i is)

@@ -79,7 +79,7 @@ not_empty : {X : Type 0} (x : X) (xs : List X) → AreSame [] (x ∷ xs) → 1 �
 not_empty x xs same = omega (arith, same (λ _. 1), sum_by-cons (λ _. 1) x xs)
 
 -- By induction over both lists: neither first item is below the other (`not_below`, twice), so they tie, and what ties is the same.
--- Taking it off both takes the same from each sum, so the rest have the same items still, and stay sorted.
+-- Taking it off both takes the same from each sum, so what is left has the same items still, and stays sorted.
 pub one_sorted : {X : Type 0} (R : X → X → Ordering) → IsTotalOrder R → CmpEqualImpliesEq R → (xs ys : List X) → IsRising R xs →
     IsRising R ys → AreSame xs ys → xs ≡ ys
 one_sorted R o exact [] [] first second same = refl

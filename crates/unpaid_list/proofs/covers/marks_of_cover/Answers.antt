@@ -16,6 +16,8 @@ returns-then-not-closes_below-clause-cover g c =
     let high = rw c.as_slice.ensures at (c.closes_below.ensures.none c.if-not-closes_below.true) in
     high-cover m c.args.marks c.args.class_prices.now c.requires.kept high
 
+-- Where no kept mark closes too low the marks are a cover, and no search is made. That no list of any class is unpaid, which a search
+-- would have told, follows from the cover itself (`cover-at-least`).
 pub returns-then-not-closes_below-clause-paid : goal.returns-then-not-closes_below-clause-paid
 returns-then-not-closes_below-clause-paid g c =
     let s = c.args.m.now in

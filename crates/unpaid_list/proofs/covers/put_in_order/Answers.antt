@@ -6,6 +6,8 @@ use Rattle.std.specs.List.{dedup}
 use Rattle.unpaid_list.proofs.Risen.{exact-by-order}
 use Rattle.unpaid_list.proofs.covers.put_in_order.Goals as goal
 
+-- Marks are sorted, and of neighbours that count as equal one is kept; so each mark that is left is below the next. The order tells
+-- marks apart, so what counts as equal is the same mark, and no mark is lost by this (`returns-clause-keeps`).
 pub returns-clause-rising : goal.returns-clause-rising
 returns-clause-rising g c =
     let E = g.T.PartialEq.eq in
