@@ -73,7 +73,7 @@ courses =
     (both (HasCourse 7) (record { area = refl; course = refl; first = refl; second = refl; dwell = refl })
     (record { area = refl; course = refl; first = refl; second = refl; dwell = refl }))
 
--- A course of three points. A trip over three points lasts the run times of both sections and the dwell between them.
+-- A stop sequence of three points. A trip over three points lasts the run times of both sections and the dwell between them.
 three : (time_of : Point × Point → Option ℕ) (dwell_of : Point → ℕ) (row : TripRow) (a m b : Point) (s t d : ℕ) → time_of (a, m) ≡ Some s →
     time_of (m, b) ≡ Some t → dwell_of m ≡ d →
     timed_on time_of dwell_of row (a ∷ m ∷ b ∷ []) ≡ ended row a b (s + t + d)
