@@ -150,6 +150,10 @@ module _ (facts : DayFacts) (table : Table) (blocks duties : SidePlan) (cert : C
     shown = are-shown;
   }
 
+-- The checker asks four things, and each is one that the planner's offers have: tables and certificate are read back as they were
+-- (`has-cert`); class prices are at least 0 and each bound is the one its part gives (`offer-charged`, `offer-bound`), since the
+-- offers are paid; and the marks are a cover under the certificate's own prices, since those are the offers' (`block-cover`,
+-- `duty-cover`).
 pub written-accepted : PlanReadsBack → ((shape : Shape) → ReadsBack shape) → WrittenAreAccepted
 written-accepted back cert_back facts table blocks duties cert is certifies =
     accepted facts table blocks duties cert is certifies back cert_back

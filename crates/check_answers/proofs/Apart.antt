@@ -61,6 +61,9 @@ module _ {A : Type 0} (test : A → A → Bool) where
       ]
 
   -- the order of the members changes nothing
+  -- Being apart is asked both ways round (`IsOther`), so it does not hang on which of two comes first; the proof puts one member after
+  -- another into the list in order, where it is other than each (`order-each`). So pieces and classes may be looked up in printed
+  -- order.
   pub order-apart : (number : A → ℕ) (xs : List A) → Apart xs → Apart (in_order number xs)
   order-apart number [] apart = tt
   order-apart number (x ∷ xs) apart =
@@ -70,6 +73,9 @@ module _ {A : Type 0} (test : A → A → Bool) where
   IsOwn = (a : A) → test a a ≡ true
 
   -- the first that passes a member's test is that member
+  -- A look-up by a member's own test passes over those before it, which are other than it, and stops at the member, whose test it
+  -- passes itself (`IsOwn`). By this a block is found again by its first trip and a piece by block and index, which is how the tables
+  -- of a plan name them.
   pub place-at : IsOwn → (xs : List A) (k from : ℕ) (d : A) → Apart xs → k < length xs →
       position_from (test (get_or xs k d)) from xs ≡ Some (from + k)
   place-at own [] k from d apart within = absurd (omega (arith, within))

@@ -62,6 +62,9 @@ module _ {L : Type 0} (m : Marking L) (sound : L → Type 0) (safe : AreSafe m s
   open-sound : (a : L) → IsOpenMark m a → sound a
   open-sound a (class, there, list, has) = list-sound class list a has
 
+  -- A property that the first label of every list has and that each extension keeps holds of the marks of all open lists, by induction
+  -- over the list, and a least cover has no other marks. So the ranges of marks, which reading a certificate asks, follow from one
+  -- step of the search and need no look at how the cover was made.
   least-sound : (order : L → L → Ordering) (marks : List L) → AreMinimal m order marks → All sound marks
   least-sound order marks least =
       λ k d there. open-sound (get_or marks k d) (least.only (get_or marks k d) (k, slice_get-get_or marks k d there)).0

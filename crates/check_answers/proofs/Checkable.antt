@@ -11,6 +11,9 @@ use Rattle.check_answers.specs.Checkable.{DayPlansAreCheckable}
 stays : IsPrintedOnce → (columns made : List Column) → columns ≡ printed made → printed columns ≡ columns
 stays once columns made order = ap printed order ∙ (once made ∙ sym order)
 
+-- What the method promises of its ending is nearly what the checker asks. One thing is to be shown: the columns, which were put in
+-- printed order once, stay as they are when that is done again (`stays`), so that tables made of what was read are those that were
+-- written.
 pub plans-checkable : IsPrintedOnce → (facts : DayFacts) (table : Table) → DayPlansAreCheckable facts table
 plans-checkable once facts table = λ numbers blocks duties day plan. record {
   day = day;

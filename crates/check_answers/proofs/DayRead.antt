@@ -94,6 +94,9 @@ short-moves net facts day times = λ from to.
     (record { version = version; area = area; group = group; from = from; to = to }) times in
     subst P (sym (day.deads from to)) (either-time (point_eq from to) (dead_time_on net version area group from to) noted)
 
+-- Each field comes from what a table without a fault keeps: keys of its own (`trips-differ`, `pools-rise`, `groups-rise`), columns
+-- that are there, values in the ranges of their schema (`ranges_of`), and the one row for each trip that was shown when the day was
+-- read. So whoever reads a day has to prove nothing of it before its plan is checked.
 pub day-checkable : ReadDaysAreCheckable
 day-checkable tables facts table is =
     let net : Net = net_of needs.All tables in

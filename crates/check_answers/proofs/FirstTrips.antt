@@ -60,6 +60,9 @@ not-first p item (d ∷ ds) listed are none =
     )
 
 -- In a plan no trip stands twice, so no two blocks begin with one trip.
+-- A block is no empty list, so its first trip stands in it; if another block began with it too, the trip would stand twice in the
+-- plan. The induction needs only that each trip stands at most once, which the later blocks of a plan keep, where `exactly once` would
+-- be lost.
 firsts-apart : (p : Problem) (columns : List Column) → HasListedColumns p → AreColumns p columns →
     ((item : ℕ) → item < p.items → times item (all_items columns) ≤ 1) →
     Apart same_begin columns
@@ -118,6 +121,9 @@ module _ (facts : DayFacts) (blocks : List Column) (plan : IsPlan (blocks_of fac
       ap (λ (n : ℕ). n ∷ map new items) (piece-kept item below.0 few) ∙ ap (λ (ns : List ℕ). item ∷ ns) (items-kept items below.1 few)
 
   -- And duties over the pieces are numbered anew as they are.
+  -- The checker puts blocks in printed order and numbers pieces anew. Where blocks are in that order already, a block is found again
+  -- at its own number by its first trip (`number-kept`), and a piece by its block's number and its index (`piece-kept`); so nothing in
+  -- a duty changes, and the duties that the checker judges are those that were planned.
   pub duties-kept : (p : Problem) (duties : List Column) → p.items ≡ length (pieces_of_plan facts blocks) →
       length (pieces_of_plan facts blocks) ≤ 3000 → HasListedColumns p →
       AreColumns p duties → map (renumbered blocks (pieces_of_plan facts blocks) (pieces_of_plan facts (printed blocks))) duties ≡ duties

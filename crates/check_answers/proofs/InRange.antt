@@ -54,6 +54,8 @@ params-in-range net version ranges none = record {
 
 -- A trip begins not before midnight and ends not before it begins, within two days.
 module _ (row : TripRow) (trip : Trip) where
+  -- A trip exists only where the test of its end passed: start and run time with dwell are at most two days. So its range needs
+  -- nothing of the sections it runs over, and all lemmas down to `timed-daily` only lead from a row to this test.
   over-daily : (from to : Point) (seconds : ℕ) (b : Bool) → nat_le (row.start + seconds) 172800 ≡ b →
       (if b then Ok (trip_over row from to seconds) else Err PastEnd) ≡ Ok trip → IsDaily trip
   over-daily from to seconds true test e =

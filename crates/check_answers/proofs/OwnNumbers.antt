@@ -69,12 +69,17 @@ module _ {A : Type 0} (number : A → ℕ) where
       let test : nat_eq n m ≡ false = other.0 in
       grind (arith, nat_tests)
 
+  -- What is put in order by number does not fall (`order_rises`), and putting in order keeps members apart (`order-apart`). Members
+  -- that are apart by number and do not fall rise: at any two places the numbers are in order and not the same. By this pools and
+  -- groups that have rows of their own have rising numbers, as certificates ask of the classes they tell of.
   pub order-rise : (xs : List A) → Apart by_number xs → AllPairs (λ (a b : A). number a < number b) (in_order number xs)
   order-rise xs apart = λ i j d below within.
       let sorted : List A = in_order number xs in
       above (get_or sorted i d) (get_or sorted j d) (order_rises number xs i j d below within)
       (pairs-apart sorted (order-apart by_number number xs apart) i j d below within)
 
+-- A test of made things that says of each two no more than the test of what they are made from finds them apart as well. So rows that
+-- are apart by their first column make pools and groups that are apart by number.
 map-apart : {A B : Type 0} (test : A → A → Bool) (test' : B → B → Bool) (f : A → B) →
     ((a b : A) → IsOther test a b → IsOther test' (f a) (f b)) → (xs : List A) → Apart test xs → Apart test' (map f xs)
 map-apart test test' f step [] apart = tt
@@ -96,6 +101,8 @@ differ-cells m n differ = λ same.
     let no : true ≡ false = sym own ∙ bad in
     cc
 
+-- The two readings of a key meet here. Tables without a fault have keys whose cells differ; the planner's rows have numbers, which are
+-- what these cells hold. So where cells of a number differ, the numbers of the rows do, and the rows are apart.
 tells-number : (a b : List ℕ) (one other : Cell) (m n : ℕ) → row_number a ≡ number_of one → row_number b ≡ number_of other →
     one ≡ Number m → other ≡ Number n → same_cells (other ∷ []) (one ∷ []) ≡ false →
     IsOther (by_number row_number) a b
@@ -161,6 +168,9 @@ drivers-in None right = tt
 drivers-in (Some table) right = drivers-apart table right
 
 -- The numbers of the pools and of the groups that are read rise.
+-- The proof: each row of X_HOF has a number in its key column (`depot-number`), no two keys are the same, so rows are apart by number
+-- (`depots-apart`), and the pools made of them, put in order, rise (`order-rise`). Groups go the same way from X_FAHRER. A day without
+-- the table has no pools, and nothing is to be shown.
 pub pools-rise : (tables : List Table) → IsRightIn schema.depots (table_of schema.depots tables) →
     AllPairs (λ (earlier later : Pool). earlier.number < later.number) (pools_of (net_of needs.All tables))
 pools-rise tables right =
@@ -211,6 +221,8 @@ differ-keys v f w g differ versions fids =
     let no : true ≡ false = sym (same-key w g) ∙ subst Q fids (subst P versions differ) in
     cc
 
+-- The same for a key of two cells: rows of REC_FRT with different keys differ in the version or in the number, and so no test that
+-- asks both to be the same passes either way round.
 tells-trip : (table : Table) (row other : List Field) (place place' : ℕ) → HasTrip table row → HasTrip table other →
     same_cells (key_of schema.trips table other) (key_of schema.trips table row) ≡ false →
     IsOther same_trip (trip_row (cells schema.trips table row) place) (trip_row (cells schema.trips table other) place')
@@ -256,6 +268,9 @@ none-passes p (x ∷ xs) all =
     let rest = none-passes p xs all.1 in
     omega (arith, every, off, rest)
 
+-- Counting: if any two that pass `p` are the same by the test, and no two of the list are, then at most one passes. For behind one
+-- that passes none does (`none-passes`), and one that fails counts nothing. With `one-row` no number stands twice among the rows of a
+-- version.
 apart-once : {A : Type 0} (test : A → A → Bool) (p : A → Bool) → ((a b : A) → p a ≡ true → p b ≡ true → test a b ≡ true) → (xs : List A) →
     Apart test xs → count_if p xs ≤ 1
 apart-once test p same [] apart = omega arith
@@ -288,6 +303,8 @@ module _ (version kind : ℕ) where
   is_fid fid day = nat_eq day.fid fid
 
   -- a day has no more trips of a number than its version has rows
+  -- A day picks of the rows of its version those of its day type that are passenger trips, and each picked trip has the number of its
+  -- row. So each trip that is counted has a row that is counted too, by induction over the rows with the place as a free number.
   day-few : (fid place : ℕ) (rows : List TripRow) → count_if (is_fid fid) (trips_from version kind place rows) ≤ count_if (is_trip fid) rows
   day-few fid place [] = omega arith
   day-few fid place (row ∷ rows) = by (is_of_day version kind row) refl (day-few fid (place + 1) rows)
@@ -322,6 +339,9 @@ module _ (version kind : ℕ) where
     pub at : slice_get rows k ≡ Some row
     pub fid : row.fid ≡ day.fid
 
+  -- By induction over the rows, with the place from which they are counted left free: the row at hand is at place 0 of the rest, and
+  -- what is found behind it is one place further. From this a trip's place leads back to its row, whatever order the trips are put in
+  -- later.
   days-at : (place : ℕ) (rows : List TripRow) → AllByRecursion (IsAt rows place) (trips_from version kind place rows)
   days-at place [] = tt
   days-at place (row ∷ rows) =
@@ -417,6 +437,9 @@ module _ {A : Type 0} (number : A → ℕ) where
         not-there n xs (omega (arith, all, none)),
       )
 
+  -- If every number is counted at most once, no two places have one number: the number of the first member is counted there already,
+  -- so none behind it has it. Counts do not depend on the order, which is why the proof of `trips-differ` goes by counts and not by
+  -- pairs.
   once-differ : (xs : List A) → ((n : ℕ) → count_if (λ x. nat_eq (number x) n) xs ≤ 1) → AllPairs (λ (a b : A). number a ≢ number b) xs
   once-differ [] few = λ i j d below within. absurd (omega (arith, within))
   once-differ (x ∷ xs) few =
@@ -429,6 +452,8 @@ module _ {A : Type 0} (number : A → ℕ) where
       (once-differ xs (λ n. omega (arith, few n, all n)))
 
 -- The trips of a day have the numbers of the rows that its calendar has, in their order.
+-- The proof goes from trips to timed rows (`timed-fids`), from rows to places, and from places back to the picked trips (`fids-at`);
+-- that each place is one of a row of its number survives putting the trips in order, since it is said of each trip alone.
 pub day-fids : (net : Net) (facts : DayFacts) (day : IsDayOf net facts.kind facts) →
     map (λ (t : Trip). t.fid) facts.trips ≡ map (λ (d : DayTrip). d.fid) day.rows.ordered
 day-fids net facts day =
@@ -446,6 +471,9 @@ day-fids net facts day =
     ∙ fids-at version kind rows ordered (recursion_from_All (IsAt version kind rows 0) ordered is_at))
 
 -- No two trips of a day have one FRT_FID.
+-- A chain of counts of one number: among the trips of the day as often as among the picked trips in order (`day-fids`), as often as
+-- before they were put in order, no more often than among the rows of the version (`day-few`), and there at most once, as the rows
+-- have keys of their own (`apart-once`). So `HaveOwnNumbers` holds of a day that is read: the checker finds each trip by FRT_FID.
 pub trips-differ : (tables : List Table) (table : Table) (facts : DayFacts) → table_of schema.trips tables ≡ Some table →
     IsRight schema.trips table → IsDayOf (net_of needs.All tables) facts.kind facts →
     AllPairs (λ (earlier later : Trip). earlier.fid ≢ later.fid) facts.trips

@@ -125,6 +125,8 @@ long-cell table row name most named place same there none =
     (column-there table.columns row name same there) none
 
 -- What follows for a row that is whole and without fault follows for each.
+-- A plain row has as many fields as its table has columns, and a table without a fault has rows without one, whatever keys stood
+-- before and at whatever place counting begins; so both are free in the induction, and the property of a row may ask both facts.
 pub each-row : (s : Schema) (table : Table) (Good : List Field → Type 0) →
     ((place : ℕ) (row : List Field) → length table.columns ≡ length row → cell_faults s table place row ≡ [] → Good row) →
     (before : List (List Cell)) (place : ℕ) (rows : List (List Field)) → list_all (is_plain_row table.columns) rows ≡ true →
@@ -177,6 +179,9 @@ pub record IsRight (s : Schema) (table : Table) : Type 0 where
   pub own : AllPairs (λ (earlier later : List Cell). same_cells later earlier ≡ false)
       (flat_map (λ (row : List Field). own_key (key_of s table row)) table.rows)
 
+-- All that later lemmas ask of a table of the day, taken once from `the tables are plain and have no fault`: its columns and rows have
+-- none, its rows are as wide as its columns, and no two have one key. So the lemmas on X_HOF, X_FAHRER and REC_FRT look at one table
+-- each.
 pub is-right : (s : Schema) (tables : List Table) (table : Table) → are_plain tables ≡ true → table_faults s tables ≡ [] →
     HasOwnKeys tables s → table_of s tables ≡ Some table → IsRight s table
 is-right s tables table plain none own found =
@@ -225,6 +230,9 @@ module _ {A : Type 0} (test : A → A → Bool) (row_of : List Cell → ℕ → 
       )
 
   -- so the rows of the table are apart
+  -- The idea: no two rows have one key (`own`), and for one who knows that both rows are good the key tells apart what is made of them
+  -- (`tells`). The induction keeps the places of the rows free, since the typed rows are numbered and the test does not look at that
+  -- number.
   pub rows-apart : IsRight s table → AllByRecursion Good table.rows → Apart test (typed row_of 0 (map (cells s table) table.rows))
   rows-apart right good =
       typed-apart table.rows 0 good

@@ -114,6 +114,9 @@ in-blocks day number (column ∷ columns) =
     (each P R (λ p is. (omega (arith, is.0), omega (arith, is.0), omega (arith, both, is.2))) here (in-block day number column))
     (each Q R (λ p is. (omega (arith, is.0), omega (arith, is.1), omega (arith, both, is.2))) later (in-blocks day (number + 1) columns))
 
+-- Within a block indexes rise from 1 on (`block-apart`), and blocks have numbers that rise (`in-blocks`), so no two pieces of a plan
+-- agree in both. The induction carries from which number on blocks are counted, by which the pieces of later blocks are other than
+-- those of this one.
 blocks-apart : (day : DayFacts) (number : ℕ) (columns : List Column) → Apart same_piece (pieces_by_block day number columns)
 blocks-apart day number [] = tt
 blocks-apart day number (column ∷ columns) =
@@ -155,6 +158,8 @@ pieces-of-blocks facts columns few =
     (in-blocks facts 1 columns)))
 
 -- A piece is found again by its block and its index.
+-- Pieces are apart by block and index, before and after they are put in order by time (`order-apart`), so the first with both is the
+-- piece itself (`place-at`). X_DIENST_STUECK names pieces by block and index alone; so the checker reads back the duties' own items.
 pub number-again : (facts : DayFacts) (columns : List Column) (item : ℕ) (d : Piece) → item < length (pieces_of_plan facts columns) →
     let pieces = pieces_of_plan facts columns in
     let piece = slice_index_or pieces item d in

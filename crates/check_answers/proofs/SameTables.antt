@@ -140,6 +140,9 @@ from-places : {A : Type 0} (P : A → Type 0) (xs : List A) → ((k : ℕ) (d : 
 from-places P [] all = tt
 from-places P (x ∷ xs) all = (all 0 x (omega arith), from-places P xs (λ k d within. all (suc k) d (omega (arith, within))))
 
+-- A table is the same as itself column by column and row by row, with or without a column aside (`own-table`), and it is the only one
+-- of its name where the names are apart (`only-itself`). So the tables that the checker makes of a plan and those that the planner
+-- wrote do not differ once they are the same list.
 pub no-difference : (table column : List ℕ) (ts : List Table) → Apart named ts → first_difference table column ts ts ≡ None
 no-difference table column ts apart =
     no-difference-on table column ts 0 ts

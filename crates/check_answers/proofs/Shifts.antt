@@ -87,6 +87,9 @@ short-in (Some m) n short e = subst IsTime (some_same m n e) short
 
 module _ (day : DayFacts) (daily : All IsDaily day.trips) (short : HasShortMoves day) where
   -- The legs from a trip on stand one after another, from its start on and within four days.
+  -- The invariant is that the legs fill the time from the start of the trip at hand to four days, one after another. A connection has
+  -- the legs that fill the time between its two trips exactly (`link-fills`); at the end a pull-in of at most two days follows a trip
+  -- that ends within two days. Where a deadhead were longer the sum of four days would not hold, and hence `HasShortMoves` is asked.
   from-timed : (pool : Pool) (k : ℕ) (t : TheTrip) (js : List ℕ) (ls : List Leg) → IsDaily t → legs_from day pool k t js ≡ Some ls →
       AreTimed t.begin.0 (pos 345600) ls
   from-timed pool k t [] ls own e =
@@ -187,6 +190,9 @@ held-shift : (held : Option Piece) (from : ℤ) → IfSome held (λ (p : Piece).
 held-shift None from before = tt
 held-shift (Some p) from before = before.0
 
+-- The pieces are made leg by leg, and what is carried is the piece that is open, with what is known of it: it ends not after the next
+-- leg begins (`AreAfter`). So a leg that it takes over lengthens it by a later time and by no more driving than the leg lasts, and a
+-- cut closes it as it is. Legs in time order thus give pieces with the ranges that duties ask, whatever way they are cut.
 cut-shifts : (day : DayFacts) (pool : Pool) (block index : ℕ) (held : Option Piece) (legs : List Leg) → AreAfter held legs →
     AllByRecursion IsShift (cut_on day pool block index held legs)
 cut-shifts day pool block index held [] after = ended-shift held (held-shift held after.from after.before)

@@ -29,7 +29,10 @@ pub record IsReadSo (begin : Stage) (contents : List (List ℕ)) (i : ℕ) (stag
       (file line : ℕ) (kind : TextKind) →
       HasTextFault begin 1 contents file line kind → HasTextFault stage (i + 1) (drop i contents) file line kind
 
--- no file is read yet
+-- Before the first file nothing is read and all files are left, so both directions are the identity. The loop of `read_files` begins
+-- here, `more_so` takes it over one file, and `whole_so`, `only_so`, `none_wrong`, `fault_so`, `refused_only` and `refused_exact` read
+-- the clauses of the contract off the four fields. Each field is said of ALL tables or faults of what is left, so the loop needs to
+-- know nothing of later files.
 pub none_so : (begin : Stage) (contents : List (List ℕ)) → IsReadSo begin contents 0 begin []
 none_so begin contents = record {
   forth = λ more spell. spell;
@@ -47,6 +50,8 @@ pub record IsGiven (stage : Stage) (bytes : List ℕ) (first : List Table) : Typ
 -- One more file is read. Its tables are the next part of whatever all files spell, since it gives no others; and as its text has no
 -- fault, the first fault of all is that of the files behind it. The stage behind it is that of as many bytes as the file holds, so what
 -- the other files may have is counted from what is held, and not from what was asked for.
+-- The proof puts the file's tables before those of the others and asks the field of one file less (`forth`), or cuts the first part
+-- off what is left and knows it by `only` (`back`); faults go the same two ways.
 pub more_so :
     (begin : Stage) (contents : List (List ℕ)) (i : ℕ) (stage : Stage) (parts : List (List Table)) (first : List Table) (bytes : List ℕ) →
     drop i contents ≡ bytes ∷ drop (i + 1) contents → IsGiven stage bytes first → IsReadSo begin contents i stage parts →
@@ -109,6 +114,10 @@ held_place held (name ∷ names) contents (suc i) d told within =
     let P : List (List ℕ) → Type 0 = λ c. drop (suc i) c ≡ rest.0 ∷ drop (suc (suc i)) c in
     (rest.0, rest.1, subst P (sym f.4) rest.2)
 
+-- Where the bytes under all names are told, what is left after i files begins with the bytes under the name at place i: names and
+-- contents are walked together, since all are told only where the first is and the others are (`held_first`). A read changes nothing
+-- that is held, so what reading one file answers, in terms of its name and of the files as they are by then, is said of the next of
+-- `contents`, as `more_so` asks.
 held_at :
     (held now : List ℕ → Option (List ℕ)) (names contents : List (List ℕ)) (i : ℕ) (name : List ℕ) →
     ((other : List ℕ) → now other ≡ held other) → name ≡ slice_index_or names i name → held_under held names ≡ Some contents →
@@ -150,7 +159,8 @@ append_nil : (xs : List (List Table)) → xs ++ [] ≡ xs
 append_nil [] = refl
 append_nil (x ∷ xs) = ap (λ (t : List (List Table)). x ∷ t) (append_nil xs)
 
--- at the end
+-- At the end no file is left, and no files spell no tables; so by `forth` the tables read are what all files spell. This is the clause
+-- `found` of `read_files`.
 pub whole_so :
     (begin : Stage) (contents : List (List ℕ)) (i : ℕ) (stage : Stage) (parts : List (List Table)) → drop i contents ≡ [] →
     IsReadSo begin contents i stage parts → SpellTables begin contents parts
@@ -159,6 +169,8 @@ whole_so begin contents i stage parts ended so =
     let Q : List (List Table) → Type 0 = λ all. SpellTables begin contents all in
     subst Q (append_nil parts) (so.forth [] (subst P (sym ended) refl))
 
+-- Whatever tables all files spell, they are those read and then what no files spell (`back`), which is nothing. So there are no
+-- others: the clause `only` of `read_files`, from which callers have that a command's answer rests on one reading of its files.
 pub only_so :
     (begin : Stage) (contents : List (List ℕ)) (i : ℕ) (stage : Stage) (parts all : List (List Table)) → drop i contents ≡ [] →
     IsReadSo begin contents i stage parts → SpellTables begin contents all → parts ≡ all
@@ -168,6 +180,8 @@ only_so begin contents i stage parts all ended so spell =
     let none : b.0 ≡ [] = subst P ended b.1 in
     sym (b.2 ∙ ap (λ (t : List (List Table)). parts ++ t) none ∙ append_nil parts)
 
+-- A first fault of text in all files would be one in those that are left (`fault_back`), and none is left. So where every file was
+-- read, no fault of text is there to be answered: the clause `exact` of `read_files` with tables as the answer.
 none_wrong :
     (begin : Stage) (contents : List (List ℕ)) (i : ℕ) (stage : Stage) (parts : List (List Table)) (file line : ℕ) (kind : TextKind) →
     drop i contents ≡ [] → IsReadSo begin contents i stage parts → ¬ HasTextFault begin 1 contents file line kind
@@ -175,7 +189,9 @@ none_wrong begin contents i stage parts file line kind ended so = λ fault.
     let P : List (List ℕ) → Type 0 = λ files. HasTextFault stage (i + 1) files file line kind in
     subst P ended (so.fault_back file line kind fault)
 
--- a file that is refused: its fault is the first of all
+-- A file is refused: its fault is the first one of the files that are left, since these begin with it, and so the first of all
+-- (`fault_forth`). The files before it are right, which `HasTextFault` asks; those behind it are not looked at. This is the clause
+-- `cause` of `read_files` for a fault of text.
 pub fault_so :
     (begin : Stage) (contents : List (List ℕ)) (i : ℕ) (stage : Stage) (parts : List (List Table)) (bytes : List ℕ) (line : ℕ)
     (kind : TextKind) → drop i contents ≡ bytes ∷ drop (i + 1) contents → IsReadSo begin contents i stage parts →
@@ -184,7 +200,9 @@ fault_so begin contents i stage parts bytes line kind at so fault =
     let P : List (List ℕ) → Type 0 = λ files. HasTextFault stage (i + 1) files (i + 1) line kind in
     so.fault_forth (i + 1) line kind (subst P (sym at) (inl (refl, fault)))
 
--- and no tables are spelled, nor is there another fault, where the file's own answer says so
+-- If this file gives tables only where A holds, all files spell tables only where A holds: what they all spell has, behind the parts
+-- read, a part that this file gives (`back`). With `memory ran out or a read failed` for A this is the clause `only` of `read_files`
+-- at a refusal.
 pub refused_only :
     (begin : Stage) (contents : List (List ℕ)) (i : ℕ) (stage : Stage) (parts all : List (List Table)) (bytes : List ℕ) (A : Type 0) →
     drop i contents ≡ bytes ∷ drop (i + 1) contents → IsReadSo begin contents i stage parts →
@@ -198,6 +216,8 @@ refused_only begin contents i stage parts all bytes A at so only spell =
 -- A file is refused, and its own answer is exact. Where the first fault of all is said to be in it, the answer is that fault; where it
 -- is said to be in a later file, this one would give tables, and then it is refused for running out of memory or a failed read alone. So no
 -- later file takes anything away from the answer.
+-- The proof takes the fault of all back to the files that are left (`fault_back`) and looks in which of these two ways it is one
+-- there.
 pub refused_exact :
     (begin : Stage) (contents : List (List ℕ)) (i : ℕ) (stage : Stage) (parts : List (List Table)) (bytes : List ℕ) (file line : ℕ)
     (kind : TextKind) (answer : FileFault) → drop i contents ≡ bytes ∷ drop (i + 1) contents → IsReadSo begin contents i stage parts →
@@ -282,6 +302,9 @@ right_so begin contents i stage parts ended so = record {
 
 -- What is read of the first i files, beside what the first `count` of them hold: these are being read, or they are right. So it is
 -- known of each initial part of the names by itself, and names behind that part may hide what they hold.
+-- The contract says of a fault in file n that it is one of the first n files, whatever is held under later names, and these may not be
+-- told. So `IsReadSo` for all names at once would be too weak an invariant: the loop keeps this record for EVERY count; `right`
+-- answers for the counts that it has passed.
 pub record IsReadTo (begin : Stage) (contents : List (List ℕ)) (count i : ℕ) (stage : Stage) (parts : List (List Table)) : Type 0 where
   pub so : i ≤ count → IsReadSo begin contents i stage parts
   pub right : count ≤ i → AreRight begin contents
@@ -320,6 +343,7 @@ ended_to held names contents count told few =
 
 -- One more file is read, beside each initial part of the names. An initial part that ends with this file is right from here on; a shorter
 -- one was right before; for a longer one the file's bytes are those held at its place.
+-- So the step from `so` to `right` is made once for each count, where nothing of that initial part is left (`right_so`).
 pub next_to :
     (begin : Stage) (held now : List ℕ → Option (List ℕ)) (names contents : List (List ℕ)) (count i : ℕ) (stage next : Stage) (size : ℕ)
     (name : List ℕ) (parts : List (List Table)) (first : List Table) →
@@ -354,7 +378,8 @@ told_whole held names contents told =
     let P : List (List ℕ) → Type 0 = λ ns. held_under held ns ≡ Some contents in
     subst P (sym (take_all (length names) names (omega arith))) told
 
--- at the end of the names
+-- At the end of the names the initial part with all of them is the whole, so what the loop has kept for every count gives, for that
+-- one, what `whole_so` and `only_so` start from.
 pub whole_to :
     (begin : Stage) (held : List ℕ → Option (List ℕ)) (names contents : List (List ℕ)) (stage : Stage) (parts : List (List Table)) →
     ((count : ℕ) (contents : List (List ℕ)) → held_under held (take count names) ≡ Some contents →
@@ -363,6 +388,9 @@ pub whole_to :
 whole_to begin held names contents stage parts to told =
     (to (length names) contents (told_whole held names contents told)).so (omega arith)
 
+-- At the end of the names no initial part has a fault of text. One that was passed is right; one with at least as many names as there
+-- are is all of them, and their files were all read (`none_wrong`). So where tables are answered the clause `exact` holds for every
+-- number of a file, also for one above the number of the names.
 pub right_to :
     (begin : Stage) (held : List ℕ → Option (List ℕ)) (names contents : List (List ℕ)) (count : ℕ) (stage : Stage)
     (parts : List (List Table)) (file line : ℕ) (kind : TextKind) →

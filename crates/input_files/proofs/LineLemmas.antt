@@ -21,6 +21,9 @@ more_taken (Some o) now next done part so_far more =
     let step : next ≡ Some ((o ++ done) ++ part) = rw so_far at more in
     step ∙ ap (λ (t : List ℕ). Some t) (append_assoc o done part)
 
+-- A further part is written whole. Of the line the parts written so far are `done`, and what is still to be written is `rest`, so a
+-- part moves from the one to the other and `done ++ rest` stays the line; nothing has to be known of the line beside this.
+-- `write_part` has it as its contract for every line and rest, so a line is proved by naming its parts one after another.
 pub part_written : (old now next : Option (List ℕ)) (before f g : ℕ) (line part rest : List ℕ) →
     IsTelling old now before f line (part ++ rest) true → IfSome now (λ bytes. next ≡ Some (bytes ++ part)) → f ≤ g →
     IsTelling old next before g line rest true
@@ -60,6 +63,9 @@ front_taken (Some o) now next line done part rest all so_far front =
 rose_since : (before f g : ℕ) → before ≤ f → Rose f g → Rose before g
 rose_since before f g first rose = omega (arith, first, rose)
 
+-- A write of a part failed, and an initial part of it was taken. Behind `done` this is an initial part of the whole line, as long as
+-- both together (`front_taken`), and the count of faults rose since the line was begun. No later part changes that: `write_part`
+-- writes nothing then.
 pub part_failed : (old now next : Option (List ℕ)) (before f g : ℕ) (line part rest : List ℕ) →
     IsTelling old now before f line (part ++ rest) true → IfSome now (λ bytes. TakesFront bytes next part) → Rose f g →
     IsTelling old next before g line rest false
@@ -78,6 +84,8 @@ whole_front : (old new : Option (List ℕ)) (line : List ℕ) → IfSome old (λ
 whole_front None new line taken = tt
 whole_front (Some o) new line taken = (length line, omega arith, taken ∙ ap (λ (t : List ℕ). Some (o ++ t)) (sym (take-length line)))
 
+-- After the last part the rest is empty: either every part was written, and `done` is the line, or one failed, and an initial part is
+-- there and the count rose. This is `IsTold`, which `run` promises of the line of a refusal.
 pub telling_ends : (old new : Option (List ℕ)) (before now : ℕ) (line : List ℕ) (is_whole : Bool) →
     IsTelling old new before now line [] is_whole → IsTold old new before now line
 telling_ends old new before now line true told =

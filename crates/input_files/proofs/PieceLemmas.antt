@@ -39,7 +39,9 @@ pub append_nothing : (xs : List ℕ) → xs ++ [] ≡ xs
 append_nothing [] = refl
 append_nothing (x ∷ xs) = ap (λ (t : List ℕ). x ∷ t) (append_nothing xs)
 
--- a read of nothing into room that is there ends the file
+-- A read of no byte into room that is there says that the place is at or behind the file's end (`ends`). So of what was read so far
+-- and what the file holds from that place on, which together are all that it holds (`piece_read`), the latter is empty. So the loop of
+-- `read_pieces` may end there with the clause `bytes`.
 pub all_read :
     (first now : Option (List ℕ)) (bytes buf : List ℕ) (at count : ℕ) → now ≡ first → IfSome first (λ held. bytes ++ drop at held ≡ held) →
     IfSome now (λ held. ReadsAt held at count buf) → count ≡ 0 → 0 < length buf → IfSome first (λ held. bytes ≡ held)

@@ -37,7 +37,9 @@ use Rattle.planner_run.proofs.CertOutcomes.{cert_text_no_cause}
 use Rattle.planner_run.proofs.PlanOutcomes.{one_plan_cause, plan_text_no_cause, short_text_no_cause}
 use Rattle.planner_run.proofs.ReplanOutcomes.{one_replan_cause, replan_text_no_cause}
 
--- a task has one answer for the tables of each file and a day, unless it is left open
+-- The tables of each file have one cause why a command refuses them, and each command's own uniqueness says so (`one_cause`,
+-- `one_model_cause`, `one_plan_cause` and such). Left open is only how planning by climbing is refused. With `no_cause` this makes a
+-- refusal exact: whatever the body answers, a cause that is there can be no other than the one answered.
 same_cause : (task : Task) (parts : List (List Table)) (day : ℕ) (s t : Status) → is_open task t ≡ false → IsPartsCause task parts day s →
     IsPartsCause task parts day t → s ≡ t
 same_cause Trips parts day s t settled p q = one_cause (joined parts) day s t p q
@@ -51,7 +53,9 @@ same_cause (Make seed trips) parts day s t settled p q = absurd p
 same_cause Week parts day s t settled p q = one_week_cause (joined parts) s t p q
 same_cause (MakeRun seed trips asked) parts day s t settled p q = one_plan_cause asked (made_tables seed trips) day s t settled p q
 
--- tables with a text are not refused
+-- Tables from which a command has its text are not refused: text and cause of each command shut one another out. So a body that
+-- answers a text answers it only where no cause is there, and one that answers a cause does so only where there is no text;
+-- `read_refused` and `read_complete` are these two.
 no_cause : (task : Task) (parts : List (List Table)) (day : ℕ) (ending : Status) (bytes : List ℕ) (s : Status) → is_open task s ≡ false →
     IsWhole task parts day ending bytes
     → IsPartsCause task parts day s → ⊥
@@ -89,6 +93,9 @@ pub record IsOtherStatus (status : Status) : Type 0 where
   pub refusal : (task : Task) (contents : List (List ℕ)) (day : ℕ) → IsRefusal task contents day status →
       IsTablesRefusal task contents day status
 
+-- Each refusal is one of a text, which speaks of the files up to its own, or it speaks of all files and has its cause in their tables.
+-- Here the statuses are gone through once, so that `read_refused` and `unread_refused` split into two cases only. For the statuses
+-- that are no refusals the second holds since they have no cause.
 pub parts_of : (status : Status) → IsTextStatus status ⊎ IsOtherStatus status
 parts_of (statuses.Input (inputs.Text file fault)) = inl (record { file = file; fault = fault; is = refl })
 parts_of (statuses.Input (inputs.Table fault)) = inr (record { names = λ names. refl; refusal = λ task contents day r. r })
@@ -193,6 +200,9 @@ replan_is_of_tables numbers moment tables old day status (inl c) = model_is_of_t
 replan_is_of_tables numbers moment tables old day status (inr c) =
     subst IsTableStatus (sym c.is) (not_replanned_is_of_tables c.fault c.told)
 
+-- A cause of the tables is never of a status for words, texts, reads or writes: what each command gives as causes is gone through. So
+-- `IsAnswerCause`, which asks something else of every kind of status, asks a refusal of the tables here (`cause_of`), whatever the
+-- command.
 is_of_tables : (task : Task) (parts : List (List Table)) (day : ℕ) (status : Status) →
     IsPartsCause task parts day status → IsTableStatus status
 is_of_tables Trips parts day status c = trips_are_of_tables (joined parts) day status c
@@ -258,7 +268,9 @@ refused_cause task held names parts day R status spelled (inl memory) =
 refused_cause task held names parts day R status spelled (inr c) =
     cause_of task held names parts day R status (is_of_tables task parts day status c) spelled c
 
--- where all files were read, these are the clauses of the task's answer
+-- All files were read, so the parts that the body has are what they spell, and the text that it made of these parts is the task's
+-- answer: the clause `written` of `answer_of`. Where some file's bytes are not told the clause says nothing, and nothing has to be
+-- proved.
 pub read_written : (task : Task) (held : List ℕ → Option (List ℕ)) (names : List (List ℕ)) (parts : List (List Table))
     (day : ℕ) (r : Result Outcome Status)
     → IfSome (held_under held names) (λ contents. SpellTables (stage_of task) contents parts) →
@@ -275,6 +287,8 @@ read_written task held names parts day (Ok outcome) spelled written =
     })
 read_written task held names parts day (Err s) spelled written = tt
 
+-- All files were read and the command refused: memory ran out, which needs no cause, or a cause is in the parts read, which are what
+-- the files spell (`refused_cause`). So the clause `cause` of `answer_of` has it as a cause in the files.
 pub read_cause : (task : Task) (held : List ℕ → Option (List ℕ)) (names : List (List ℕ)) (parts : List (List Table)) (day : ℕ)
     (R : ℕ → Type 0) (r : Result Outcome Status)
     → IfSome (held_under held names) (λ contents. SpellTables (stage_of task) contents parts) → IfErr r (ArePartsRefused task parts day)
@@ -282,6 +296,8 @@ pub read_cause : (task : Task) (held : List ℕ → Option (List ℕ)) (names : 
 read_cause task held names parts day R (Ok outcome) spelled cause = tt
 read_cause task held names parts day R (Err s) spelled cause = refused_cause task held names parts day R s spelled cause
 
+-- Where the parts have a cause, the body's answer is that status, or memory ran out: a text is shut out (`no_cause`), and the cause
+-- that it answered is the same one (`same_cause`).
 tables_refused : (task : Task) (parts : List (List Table)) (day : ℕ) (r : Result Outcome Status) (status : Status) →
     is_open task status ≡ false
     → IfOk r (λ outcome. IsWhole task parts day outcome.ending outcome.text) → IfErr r (ArePartsRefused task parts day) →
@@ -292,6 +308,10 @@ tables_refused task parts day (Ok outcome) status settled written cause c =
 tables_refused task parts day (Err s) status settled written (inl memory) c = inl (memory_is_unread s memory)
 tables_refused task parts day (Err s) status settled written (inr d) c = inr (same_cause task parts day s status settled d c)
 
+-- All files were read, and a refusal is called for. One of a text cannot be: files that were read have no fault of text (`none`). Any
+-- other is one of tables that the files spell, and these are the parts read, since files spell one list of tables alone (`only`); so
+-- what `tables_refused` says of the parts is said of the files. It is the clause `refused` of `answer_of`, on which the clause
+-- `refused` of `run` rests: what is wrong in the files is answered and nothing else.
 pub read_refused : (task : Task) (held : List ℕ → Option (List ℕ)) (names : List (List ℕ)) (parts : List (List Table)) (day : ℕ)
     (r : Result Outcome Status) (status : Status)
     → is_open task status ≡ false
@@ -324,6 +344,9 @@ read_refused task held names parts day r status settled only none written cause 
       tables_refused task parts day r status settled written cause (subst P (sym same) t.cause))
 ]
 
+-- All files were read, and an answer is there: its parts are the parts read (`only`), and so a cause in these would be one beside a
+-- text (`no_cause`). So the body had no cause, and there is a text, or memory ran out. Nothing is open where nothing climbs
+-- (`never_open`). It is the clause `complete` of `answer_of`.
 pub read_complete : (task : Task) → climbs task ≡ false →
     (contents : List (List ℕ)) (parts : List (List Table)) (day : ℕ) (r : Result Outcome Status) (end : Status) (bytes : List ℕ)
     → ((others : List (List Table)) → SpellTables (stage_of task) contents others → parts ≡ others) →
@@ -342,7 +365,8 @@ unread_status (files.Text file fault) unread = absurd unread
 unread_status (files.Read file) unread = tt
 unread_status files.Memory unread = tt
 
--- where a file was refused
+-- A file was refused. The cause that `read_files` gives of it, by the files up to its own or by a count that rose, is word for word
+-- the one that the task's answer asks for that status, since `told_for` looks at just these files.
 pub unread_answer : (task : Task) (held : List ℕ → Option (List ℕ)) (names : List (List ℕ)) (day : ℕ) (R : ℕ → Type 0) (fault : FileFault)
     → IsFileCause (λ file line kind. IfSome (held_under held (take file names))
     (λ contents. HasTextFault (stage_of task) 1 contents file line kind)) R fault
@@ -357,6 +381,9 @@ fault_is : (fault : FileFault) (file line : ℕ) (kind : TextKind) → IsUnreadF
 fault_is fault file line kind (inl unread) = inl (unread_status fault unread)
 fault_is fault file line kind (inr same) = inr (ap file_status same)
 
+-- A file was refused, and a refusal is called for. If it is a fault of text, `read_files` answers that one or is unread (`exact`). If
+-- it is one of tables, the files spell tables, and a file of these is refused only for running out of memory or a failed read
+-- (`only`). So the clause `refused` of `answer_of` holds here too, without a look at what the command does.
 pub unread_refused : (task : Task) (held : List ℕ → Option (List ℕ)) (names : List (List ℕ)) (day : ℕ) (fault : FileFault) (status : Status)
     → ((parts : List (List Table)) →
     IfSome (held_under held names) (λ contents. SpellTables (stage_of task) contents parts → IsUnreadFile fault))

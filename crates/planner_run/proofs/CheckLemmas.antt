@@ -49,6 +49,9 @@ two_more (x ∷ xs) y z = let rest = two_more xs y z in omega (arith, rest)
 count_is : (xs : List (List Table)) (y z : List Table) (count : ℕ) → length (xs ++ y ∷ z ∷ []) ≡ count + 2 → length xs ≡ count
 count_is xs y z count e = let both : length xs + 2 ≡ count + 2 = sym (two_more xs y z) ∙ e in omega (arith, both)
 
+-- The files of a check are told apart by place alone: so many planning files, then the plan, then the certificate. The three reads by
+-- place of `IsWhole` give back the three parts that were put together (`front_of`, `plan_of`, `cert_of`), and so what is said of the
+-- parts is said of all files in one list.
 pub whole_at : (planning : List (List Table)) (plan cert : List Table) (day : ℕ) (ending : Status) (bytes : List ℕ) →
     IsCheckText (joined planning) plan cert day ending bytes
     → IsWhole (Check (length planning)) (planning ++ plan ∷ cert ∷ []) day ending bytes
@@ -99,6 +102,9 @@ check_refused_at count parts planning plan cert tables day (Err s) are number sa
     let R : ℕ → Type 0 = λ n. ArePartsRefused (Check n) parts day s in
     subst R count_same (subst Q (sym are) there)
 
+-- The text of a check is the whole answer of its task. A request names as many files as were read (`HasParts`), and two of them are
+-- the plan and the certificate; so the number of planning files in the task is the length of the list in front of these two, by which
+-- `whole_at` finds them.
 pub check_whole : (command : Command) (effort : Effort) (flow : Bool) (n : ℕ) → is_check command ≡ true →
     (parts planning : List (List Table)) (plan cert tables : List Table) (day : ℕ) (r : Result Outcome Status)
     → AreParts parts planning plan cert → HasParts (task_for command effort flow n) (length parts) → tables ≡ joined planning →
@@ -153,6 +159,9 @@ text_whole (commands.Make making) effort flow n is parts tables day bytes same h
 text_whole (commands.Replan moment) effort flow n is parts tables day bytes same h = absurd (let bad = is in cc)
 text_whole commands.Week effort flow n is parts tables day bytes same h = (subst (λ ts. IsText Week ts day bytes) same h, refl)
 
+-- The text of a command that reads no plan is made of the tables of all files in one list, and so is its task's answer, which ends
+-- with Ok. `check_whole`, `replan_whole` and this are for the three ways of `outcome_of`, from where on no proof asks which command it
+-- is.
 pub texts_whole : (command : Command) (effort : Effort) (flow : Bool) (n : ℕ) → reads_plan command ≡ false →
     (parts : List (List Table)) (tables : List Table) (day : ℕ) (r : Result Outcome Status) → tables ≡ joined parts
     → IfOk r (λ o. IsText (task_for command effort flow n) tables day o.text × (o.ending ≡ statuses.Ok)) →

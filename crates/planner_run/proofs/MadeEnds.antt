@@ -65,5 +65,8 @@ module _ (seed trips : ℕ) (few : trips ≤ 3000) where
   no_cause asked status (inl model) = no_model_cause status model
   no_cause asked status (inr un) = planned asked status un
 
+-- A made day has nothing against it: its tables have no fault (`faultless`), the day has a kind, no first reason stands against it
+-- (`no_day_fault`), and a plan of it is refused for running out of memory alone (`made_refused`). These four are all the ways in which
+-- tables refuse a command that plans, so a cause would contradict one of them.
 pub has_no_made_cause : HasNoMadeCause
 has_no_made_cause seed trips asked status few cause = no_cause seed trips few asked status cause

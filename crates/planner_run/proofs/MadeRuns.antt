@@ -102,6 +102,10 @@ made_one seed trips run effort flow = record {
   names = [];
 }
 
+-- The end of a request for a made day: each status but Ok, running out of memory and a failed write is excluded by the promise that
+-- `run` makes of it. A refusal would need a cause, and a made day has none (`has_no_made_cause`); a failed read would be one of a
+-- file, and none is named; a no is the end of a check alone. So the clause `made` of `run` follows from its other clauses, and not
+-- from its body.
 made_ends : (held : List ℕ → Option (List ℕ)) (before now : List ℕ → ℕ) (seed trips : ℕ) (run : Bool) (effort : Effort) (flow : Bool) →
     trips ≤ 3000 → (status : Status) → Ends held before now status (made_one seed trips run effort flow)
 made_ends held before now seed trips run effort flow few statuses.Ok usage input day plan left old read ending = tt

@@ -29,7 +29,9 @@ use Rattle.planner_run.specs.Model.{HasModelFault, HasModelFaultIn, IsModelCause
 use Rattle.planner_run.specs.Trips.{IsDayFault}
 use Rattle.planner_run.proofs.Outcomes.{kind_no_fault, kinds_same, none_some, one_day_fault, some_same}
 
--- the first reason against a day does not hang on its weekday
+-- Two calendars of one day agree in version and day type (`kinds_same`), the only things by which trips are picked; and picked trips
+-- have one order (`one_list`). The weekday, which a day's kind has besides, decides nothing. So the first reason against the day is
+-- one, whichever kind it was found with.
 pub rows_same : (net : Net) (day : ℕ) (a b : DayKind) (xs ys : List ℕ) → IsKindOf net day a → IsKindOf net day b →
     AreDayRows net.trips a.version a.kind xs → AreDayRows net.trips b.version b.kind ys → xs ≡ ys
 rows_same net day a b xs ys p q rows rows' =
@@ -83,6 +85,9 @@ kinds_of tables day statuses.WriteFault c = absurd c
 kinds_of tables day (statuses.CheckNo reason) c = absurd c
 kinds_of tables day (statuses.OldPlan reason) c = absurd c
 
+-- The causes come one after another: a fault of the tables, else no kind of the day, else a reason against the trips or the settings.
+-- Each asks that those before it are absent, so two causes are of one place in this order, and at each place there is one
+-- (`some_same`, `one_day_fault`, `one_fault`).
 same_kinds : (tables : List Table) (day : ℕ) (s t : Status) → Kinds tables day s → Kinds tables day t → s ≡ t
 same_kinds tables day s t (inl p) (inl q) = p.1 ∙ ap (λ f. statuses.Input (inputs.Table f)) (some_same _ p.0 q.0 p.2 q.2) ∙ sym q.1
 same_kinds tables day s t (inl p) (inr (inl q)) = none_some _ p.0 q.2 p.2
@@ -124,7 +129,9 @@ result_or d (Err e) = d
 ok_same : {A E : Type 0} (x y : A) (r s : Result A E) → r ≡ Ok x → s ≡ Ok y → r ≡ s → x ≡ y
 ok_same {A = A} {E = E} x y r s p q same = let f : Result A E → A = λ r. result_or x r in ap f (sym p ∙ same ∙ q)
 
--- two days of the tables are alike
+-- Whatever planning reads of a day is fixed by the tables: version and day type, rows, times, settings and the deadheads between any
+-- two points. Deadheads are a function in the model and are compared at each two points. So a text or a cause of one of the two days
+-- is one of the other (`same_texts`, `same_causes`), and uniqueness over one day is enough for uniqueness over tables.
 pub days_alike : (tables : List Table) (day : ℕ) (a b : DayFacts) → IsModelOf tables day a → IsModelOf tables day b → AreAlike a b
 days_alike tables day a b p q =
     let net : Net = net_of needs.All tables in

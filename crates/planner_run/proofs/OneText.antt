@@ -133,6 +133,8 @@ one_text Week fixed text parts day s t xs ys p q = one_week_text (joined parts) 
 one_text (MakeRun seed trips asked) fixed text parts day s t xs ys p q =
     one_short_text asked fixed (made_tables seed trips) day xs ys p.0 q.0
 
+-- The bytes of the files spell one list of tables (`one_spelling`), and over one list of tables each command has one text. So the text
+-- is fixed by what the files hold, the day and the words; no worker, gate or order of work is in it. It is the clause `only` of `run`.
 pub one_answer : (task : Task) → climbs task ≡ false → checks task ≡ false →
     (contents : List (List ℕ)) (day : ℕ) (s t : Status) (xs ys : List ℕ) → IsAnswer task contents day s xs →
     IsAnswer task contents day t ys → xs ≡ ys

@@ -135,6 +135,9 @@ one_cause_from_crowd tables day count statuses.WriteFault p q = absurd q
 one_cause_from_crowd tables day count (statuses.CheckNo reason) p q = absurd q
 one_cause_from_crowd tables day count (statuses.OldPlan reason) p q = absurd q
 
+-- A day of `trips` has one cause: a fault of the tables shuts out a day without kind, and both shut out too many trips, since each
+-- later cause asks that the earlier ones are absent. The number of trips is one, since version and day type alone pick them
+-- (`day_count`).
 pub one_cause : (tables : List Table) (day : ℕ) (s t : Status) → IsDayCause tables day s → IsDayCause tables day t → s ≡ t
 one_cause tables day (statuses.Input (inputs.Table fault)) t p q = one_cause_from_table tables day fault t p q
 one_cause tables day (statuses.Input (inputs.Trips count)) t p q = one_cause_from_crowd tables day count t p q

@@ -39,7 +39,8 @@ same_fault one other p q (inl same) = same
 same_fault one other p q (inr (inl memory)) = absurd (p memory)
 same_fault one other p q (inr (inr memory)) = absurd (q memory)
 
--- a refusal of planning that is not left open is one of fixed rounds
+-- The two refusals of planning are open exactly where it climbs, so one that is not open was given by fixed rounds, and running out of
+-- memory is no refusal. By this `one_plan_cause` may use that fixed rounds end in one way, and promises nothing of climbing.
 pub in_rounds : (asked : Asked) (fault : PlanFault) (s : Status) → (fault ≡ faults.Memory → ⊥) → s ≡ plan_status_of fault →
     (is_of_planning s && asked.numbers.climb) ≡ false → asked.numbers.climb ≡ false
 in_rounds asked (faults.NoPlan side bound places) s told is settled =
@@ -55,6 +56,9 @@ one_unplanned asked fixed tables day s t p q =
     p.is ∙ ap plan_status_of (same_fault p.fault q.fault p.told q.told (days_cause q.facts asked fixed p.fault q.fault cause q.cause))
     ∙ sym q.is
 
+-- A cause lies in the tables or in planning, and not both: planning has a day, and tables with a day have no cause. Two of planning
+-- may be of two models of the day; these are alike (`days_alike`), so one cause is carried to the other's day, where fixed rounds have
+-- one.
 pub one_plan_cause : (asked : Asked) (tables : List Table) (day : ℕ) (s t : Status) → (is_of_planning t && asked.numbers.climb) ≡ false →
     IsPlanCause asked tables day s → IsPlanCause asked tables day t → s ≡ t
 one_plan_cause asked tables day s t settled (inl p) (inl q) = one_model_cause tables day s t p q

@@ -94,6 +94,8 @@ abbrev AreParts : List (List Table) → List (List Table) → List Table → Typ
 AreParts parts planning old = parts ≡ planning ++ old ∷ []
 
 -- what is said of the planning tables and of the earlier plan holds of the parts
+-- The proof puts planning files and earlier plan together, asks the two reads by place, which give them back (`front_of`, `last_of`),
+-- and replaces the length of the planning files by the task's count. It is made for any property, so text and refusal need it once.
 at_parts : (P : List Table → List Table → Type 0) (count : ℕ) (parts planning : List (List Table)) (old tables : List Table) →
     AreParts parts planning old → length parts ≡ count + 1
     → tables ≡ joined planning → P tables old → P (joined (take count parts)) (slice_index_or parts count [])

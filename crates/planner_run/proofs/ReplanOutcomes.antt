@@ -36,6 +36,7 @@ only_fault one other p (inr memory) = absurd (p memory)
 
 -- A refusal that is not left open is the only one: an earlier plan is refused by its tables alone, and what is left is planned by fixed
 -- rounds.
+-- So also where planning climbs, an earlier plan that is refused is refused in every run; only what comes after it is open.
 one_fault : (numbers : Numbers) (moment : ℕ) (old : List Table) (facts : DayFacts) (one other : ReplanFault) (t : Status) →
     (is_of_planning t && numbers.climb) ≡ false → t ≡ replan_status_of other
     → IsTold one → IsTold other → IsReplanCauseOver facts old moment numbers one →

@@ -144,7 +144,10 @@ module _ (table : Table) (whole : missing_columns schema.trips table ≡ []) whe
       (front_empty (cell_fault schema.trips.name place (schema.trip_key (codes "FRT_FID")) fid_field) _ later) in
       record { version = version.0; fid = fid.0; version_in = version.1; version_cell = version.2; fid_in = fid.1; fid_cell = fid.2 }
 
-  -- all rows
+  -- Each row of REC_FRT has, where neither its table's columns nor its cells have a fault, a version and a number, and these are the
+  -- same for one who reads its bytes (`number_in`, by which rows are copied) and for one who reads its cells (by which the day is
+  -- built and keys are compared). A plain row has a field for each column, so the fields are there; a field without a fault is a
+  -- number in range.
   pub rows_read : (before : List (List Cell)) (place : ℕ) (rows : List (List Field)) → list_all (is_plain_row table.columns) rows ≡ true →
       row_faults schema.trips table before place rows ≡ [] → All (IsRead table) rows
   rows_read before place [] plain none = All-nil (IsRead table)

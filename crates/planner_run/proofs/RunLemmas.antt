@@ -24,6 +24,8 @@ right_text most bytes tables line kind gives fault =
     let both = sym (reads_given most bytes tables gives) ∙ reads_fault most bytes line kind fault in
     cc
 
+-- Files that spell tables have no first fault of text, whatever stage they begin with: a text has one reading (`reads_given`,
+-- `reads_fault`), and the files before a fault give tables while the file with it would have to do both.
 right_texts : (stage : Stage) (number : ℕ) (contents : List (List ℕ)) (parts : List (List Table)) (file line : ℕ) (kind : TextKind) →
     SpellTables stage contents parts
     → HasTextFault stage number contents file line kind → ⊥
@@ -57,7 +59,9 @@ no_read_fault stage held names before now file none fault =
     let last = fault.last in
     none_rose_at names before now (file - 1) none (omega (arith, first, last)) fault.rose
 
--- nor is one of a file behind the one whose text has a fault
+-- A failed read of a file behind a wrong text cannot be the answer: it says that the files before it spell tables (`order`), and the
+-- wrong one is among these. One of a file up to the wrong text cannot be either, where no count rose under those names. So a wrong
+-- text is answered even if later files cannot be read, and `refused` of `run` asks quiet only of the files up to it.
 no_later_fault : (stage : Stage) (held : List ℕ → Option (List ℕ)) (names contents : List (List ℕ)) (before now : List ℕ → ℕ)
     (wrong line file : ℕ) (kind : TextKind) → held_under held (take wrong names) ≡ Some contents →
     HasTextFault stage 1 contents wrong line kind → NoneRose (take wrong names) before now →
@@ -123,6 +127,9 @@ none_read task held names day before now status some none = elim (parts_of statu
       λ file fault. no_read_fault (stage_of task) held names before now file (subst P (other.names names) none) fault
 ]
 
+-- Where a refusal is called for and no count rose under the names that it speaks of, the answer is that refusal, or memory ran out.
+-- For what is called for is answered, or the answer is unread; that is running out of memory or a failed read; and a failed read would
+-- have its cause in a count (`none_read`). It is the clause `refused` of `run`.
 pub refused_run : (task : Task) (held : List ℕ → Option (List ℕ)) (names : List (List ℕ)) (day : ℕ) (before now : List ℕ → ℕ)
     (s status : Status) → IfSome (told_for held names status) (λ contents. IsRefusal task contents day status → IsUnread s ⊎ (s ≡ status))
     → IsAnswerCause (λ s. IfSome (told_for held names s) (λ contents. IsRefusal task contents day s))
@@ -136,6 +143,8 @@ refused_run task held names day before now s status all cause some none =
       | inr same ↦ inl same
     ]
 
+-- Where a text is called for and no count rose, a call that has no text ran out of memory: it is unread, and a failed read would have
+-- its cause in a count. It is what the clause `complete` of `run` needs before the text is written.
 pub complete_run : (task : Task) (held : List ℕ → Option (List ℕ)) (names : List (List ℕ)) (day : ℕ) (before now : List ℕ → ℕ)
     (s : Status) → ((end : Status) (bytes : List ℕ) →
     IfSome (held_under held names) (λ contents. IsAnswer task contents day end bytes → IsUnread s))

@@ -54,6 +54,9 @@ none_more {A = A} p key one (x ∷ xs) keyed same differ =
     by false fails rest = rest
 
 -- at most one passes where each that passes has the one key, and no two have one key
+-- The idea: what passes the test has one key, and no two in the list have the same key. So behind one that passes none does
+-- (`none_more`). Here the test is to be the row of a trip, and the key is version and number in REC_FRT, which no two rows share
+-- where tables have no fault.
 at_most_one : {A : Type 0} (p : A → Bool) (key : A → List Cell) (one : List Cell) (xs : List A) → All (λ x. p x ≡ true → key x ≡ one) xs →
     same_cells one one ≡ true → AllPairs (λ earlier later. same_cells later earlier ≡ false) (map key xs) → length (filter p xs) ≤ 1
 at_most_one p key one [] keyed same differ = omega arith
@@ -155,6 +158,9 @@ module _ (table : Table) where
         d within (found_itself version row (read k d within) is)
 
 -- what holds of the version and the number of each row of cells holds of each typed row
+-- The typed rows of a table stand in the order of its rows, each made of the row's cells. So a property of two cells of each row is
+-- one of two fields of each typed row; by this what the copied row is asked (its bytes) and what the day is built from (its typed
+-- rows) are one.
 typed_trips : (P : ℕ → ℕ → Type 0) (table : Table) (place : ℕ) (rows : List (List Field)) →
     All (λ row. P (number_of (cell_at table row (schema.key (codes "BASIS_VERSION"))))
     (long_in (Some (cell_at table row (schema.trip_key (codes "FRT_FID")))))) rows →
@@ -193,6 +199,8 @@ module _ (version kind : ℕ) where
       by false e rest = rest
 
   -- the places of the rows of a day are those of rows of its version
+  -- The places that a day keeps are those of rows that were picked by version and day type while the table was gone through
+  -- (`days_at`), and only their order was changed. So each of them is the place of a row of the day's version.
   placed : (trips : List TripRow) (places : List ℕ) → AreDayRows trips version kind places →
       All (λ place. IfSome (slice_get trips place) (λ (trip : TripRow). trip.version ≡ version)) places
   placed trips places rows =
@@ -278,6 +286,9 @@ timed_hold Q net version (row ∷ rows) trips e all =
     (All-cons (λ (trip : Trip). Q trip.fid) parts.0 parts.1 here rest)
 
 -- what holds of the number of each row of the day's version holds of that of each trip of the day
+-- The idea: a trip of the day is timed from a row of the network at one of the day's places, that row is of the day's version
+-- (`placed`), and timing keeps its number (`timed_fid`). So no more has to be known of timing, and what is to be shown of a trip is
+-- shown of rows.
 day_hold : (Q : ℕ → Type 0) (net : Net) (facts : DayFacts) → IsDayOf net facts.kind facts →
     All (λ (row : TripRow). row.version ≡ facts.kind.version → Q row.fid) net.trips → All (λ (trip : Trip). Q trip.fid) facts.trips
 day_hold Q net facts day all =
@@ -341,6 +352,9 @@ own_keys tables table none found =
     subst P found own
 
 -- Among plain tables without a fault REC_FRT has exactly one row of the day's version for each trip of the day.
+-- At least one: the row that a trip comes from is found by its own version and number (`one_at_least`, carried to trips by
+-- `day_hold`). At most one: two rows would have one key, which is a fault of the tables (`at_most_one`). It is what `HasTripRows`
+-- asks, so the copy of REC_FRT in a plan has a row for each trip and never a choice between two.
 pub trip_rows_once : (tables : List Table) (facts : DayFacts) (table : Table) → IsTrue (are_plain tables) →
     first_fault (schemas_of needs.All) tables ≡ None → IsDayOf (net_of needs.All tables) facts.kind facts →
     table_of schema.trips tables ≡ Some table → All (λ (trip : Trip). HasOneRow table facts.kind.version trip.fid) facts.trips
