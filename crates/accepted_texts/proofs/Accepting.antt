@@ -296,6 +296,8 @@ module _ (checkable : ReadDaysAreCheckable) (plans : (facts : DayFacts) (table :
         (text_spells most_cert cert_of_text (omega arith) (omega (arith, same, short)) is_plain_cert has_cert_words)
 
     -- So each answer over what they spell is a yes, and there is one.
+    -- A checker that is handed whatever the two texts spell is handed the two lists of tables that were written (`plan_spelled`,
+    -- `cert_spelled`). Over these each answer is a yes (`TextsAreAccepted`), and a yes is written as one line.
     answered_yes : (given given' : List Table) (ending : Status) (bytes : List ℕ) → Gives most_cert one given →
         Gives most_cert other given' →
         IsCheckTextOver facts table given given' ending bytes → (bytes ≡ codes "yes\n") × (ending ≡ statuses.Ok)
@@ -383,6 +385,8 @@ module _ (checkable : ReadDaysAreCheckable) (plans : (facts : DayFacts) (table :
         bytes of_plan of_cert check.check
 
     -- Each answer of a check is over the tables that the files spell: those of the planning files, and those of the two texts.
+    -- The proof splits what all files spell into the front, the plan and the certificate (`split_parts`), knows the front by
+    -- `one_reading`, finds the three again by their places, and asks `checked_yes` of the day that the check found.
     only_yes : (ending : Status) (bytes : List ℕ) → IsAnswer (Check (length contents)) (contents ++ one ∷ other ∷ []) day ending bytes →
         (bytes ≡ codes "yes\n") × (ending ≡ statuses.Ok)
     only_yes ending bytes check =
@@ -415,6 +419,8 @@ module _ (checkable : ReadDaysAreCheckable) (plans : (facts : DayFacts) (table :
             subst (λ (y : List Table). P front p y) (cert_of front p c []) b
 
     -- And there is one, over these tables.
+    -- The witness is built from the day that `plan` found: its tables, its yes (`yes_over`), and the files in one list (`same_room`,
+    -- `with_both`). Here alone the lengths of the two texts are asked, since a longer text is refused before it is read.
     is_answered : length contents ≤ 64 → length one ≤ most_bytes → length other ≤ most_cert →
         IsAnswer (Check (length contents)) (contents ++ one ∷ other ∷ []) day statuses.Ok (codes "yes\n")
     is_answered few short short' =
@@ -459,6 +465,8 @@ module _ (checkable : ReadDaysAreCheckable) (plans : (facts : DayFacts) (table :
     accepted : AreAccepted contents day one other
     accepted = record { answers = is_answered; only = only_yes }
 
+-- The promise of the crate, from three laws: days that are read can be checked, plans of such days can be, and their tables get a yes.
+-- What is added here is the way through bytes: that texts are read back as their tables, and that all three commands speak of one day.
 pub written_accepted : ReadDaysAreCheckable → ((facts : DayFacts) (table : Table) → DayPlansAreCheckable facts table) →
     TextsAreAccepted → WrittenTextsAreAccepted
 written_accepted checkable plans texts contents day asked fixed one other planned certified =

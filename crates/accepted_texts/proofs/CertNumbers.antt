@@ -64,6 +64,8 @@ module _ {L : Type 0} (m : Marking L) (sound : L → Type 0) (safe : AreSafe m s
   open_sound : (a : L) → IsOpenMark m a → sound a
   open_sound a (class, there, list, has) = list_sound class list a has
 
+  -- As in `check_answers`: the first label of a list has the property and each extension keeps it, so the marks of all open lists have
+  -- it, by induction over the list, and a least cover has no marks but those. So no table of marks, however long, has to be looked at.
   least_sound : (order : L → L → Ordering) (marks : List L) → AreMinimal m order marks → AllByRecursion sound marks
   least_sound order marks least =
       recursion_from_All sound marks
@@ -111,6 +113,9 @@ class_rows_middle pass numbers class (z ∷ zs) all middle =
       class_rows_middle pass numbers (class + 1) zs all middle.1,
     )
 
+-- The value of a mark is bounded by the greatest price for each piece up to its last one and by what a duty may cost besides (`low`,
+-- `high`), and there are at most 3,000 pieces; so it has 64 bits. All other fields are numbers of passes, classes, pieces and seconds,
+-- which have few bits.
 duty_rows_middle : (pass : Pass) (numbers : List ℕ) (count : ℕ) (marks : List Mark) → AllByRecursion IsNumber numbers →
     AllByRecursion (MarkHasRanges count) marks → AllByRecursion AreMiddle (duty_rows pass numbers marks)
 duty_rows_middle pass numbers count [] all marks = tt
@@ -305,6 +310,9 @@ module _ (facts : DayFacts) (numbers : HasNumbers facts) (in_range : AreInRange 
       (block_marks BlockNumber true blocks.count one paid.block_number is.of_block_number)
       (block_marks BlockCost false blocks.cost two paid.block_cost is.of_block_cost))
 
+  -- The four tables have rows of three kinds. Prices are at most 3 * 10^15, as each kept offer is dual feasible; class prices have 64
+  -- bits by assumption (`HaveMiddle`, which `ClassPrices` shows of fixed rounds); marks are those of a least cover. With `cert_plain`
+  -- the certificate's text is read back as these tables alone (`text_is`).
   pub cert_words : HaveWords (tables_of (class_numbers_of facts) cert)
   cert_words =
       let P : List CertPart → Type 0 = λ parts. HaveWords (tables_in (class_numbers_of facts) parts) in

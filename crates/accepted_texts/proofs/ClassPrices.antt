@@ -63,6 +63,8 @@ add_high : (a b : ℤ) (n x k : ℕ) → a ≤ℤ pos 3000000000000000 → b ≤
     (a +ℤ b) ≤ℤ pos (3000000000000000 * (n - k))
 add_high a b n x k h l low high = omega (arith, ints, h, l, low, high)
 
+-- Induction over a rising list with its least possible first item k left free: behind an item x the others are at least x + 1, so n -
+-- k items are enough to pay for, and no item twice. With k = 0 the list costs at most n prices, whatever list it is.
 price_high : (prices : List Price) (n k : ℕ) (xs : List ℕ) → AllWithin 3000000000000000 prices → Rises xs → AllBelow n xs → From k xs →
     price_of prices xs ≤ℤ pos (3000000000000000 * (n - k))
 price_high prices n k [] within rises below from = zero_low (3000000000000000 * (n - k))
@@ -101,6 +103,9 @@ middle_each P [] after x all = all.0
 middle_each P (y ∷ before) after x all = middle_each P before after x all.1
 
 module _ (p : Problem) (listed : HasListedColumns p) (few : p.items ≤ 3000) where
+  -- A least value is 0 or is reached by a column, the first least of its group, whose value is a worth less the prices of a rising
+  -- list; the worth is not negative and the prices are few (`price_high`). So the argument is about one column and needs no search
+  -- through all.
   least_low : (prices : List Price) (class : ℕ) → AllWithin 3000000000000000 prices → class < length p.caps →
       neg_ℤ (pos 9000000000000000000) ≤ℤ least_of p prices class
   least_low prices class within below =
@@ -129,6 +134,8 @@ module _ (p : Problem) (listed : HasListedColumns p) (few : p.items ≤ 3000) wh
       let made : P (offer_at p offered.0) = λ w. classes_middle offered.0 0 (length p.caps) w (omega arith) in
       subst P (sym offered.1) made within
 
+  -- The offer that is kept is one of those of all rounds, the first of the greatest bound, and each of these is made by `offer_at`
+  -- from some prices. So which round it was does not matter.
   is_offered : (rounds lower : ℕ) (kept : Kept) → IsFirstGreatest (all_offers p rounds lower) kept → IsOffered p kept
   is_offered rounds lower kept greatest =
       let all : AllByRecursion (IsOffered p) (all_offers p rounds lower) =
@@ -227,6 +234,8 @@ module _ (day : DayFacts) (trips : AllByRecursion IsFitTrip day.trips) (short : 
       by false true e = begun_cheap v c e
       by false false e = let same : 0 ≡ c = some_same 0 c e in omega (arith, same)
 
+  -- Greatest potentials are at most 0 and lie below it by no more than 2 n + 3 times the dearest arc (`greatest_are_high`), which
+  -- costs at most 2 * 10^10 (`arcs_cheap`). The class price is a thousand times the difference of two of them, so it has 64 bits.
   flow_middle : length day.trips ≤ 3000 → day.params.pools ≡ pool ∷ [] → (lists : List (List ℕ)) → IsFlowPlan day lists → (p : Potentials) →
       AreGreatest (net_of day pool) lists p → (prices : List Price) (class_price : ℤ) → ArePricesOf (net_of day pool) p prices class_price →
       IsMiddle class_price

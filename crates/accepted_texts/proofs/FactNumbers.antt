@@ -109,6 +109,8 @@ field_holds : (column : Column) (field : Field) (b : Bool) →
 field_holds column field true = empty_holds column.domain column.may_be_empty
 field_holds column field false = value_holds column.domain field
 
+-- A cell is looked up with the domain of its column, which lets no greater number through; a field that is missing or wrong counts as
+-- 0. So the bound holds of every cell of every table, and no later lemma has to ask whether a table has faults.
 cell_holds : (column : Column) (field : Option Field) → Holds column.domain (Some (cell_in column field))
 cell_holds column None = omega arith
 cell_holds column (Some field) = field_holds column field (is_empty_field field)

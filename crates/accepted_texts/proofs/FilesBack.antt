@@ -30,6 +30,8 @@ next_small stages.Plan bytes small = omega arith
 next_small stages.Cert bytes small = omega arith
 
 -- What files spell does not hang on how many bytes they may have.
+-- A limit only refuses a text; what a text spells is said of its lines (`spelled_once`). So the tables of the planning files are the
+-- same for `plan` and `certify`, which read them alone, and for `check`, which reads them before two other files.
 pub one_reading : (s t : Stage) (contents : List (List ℕ)) (xs ys : List (List Table)) → SpellTables s contents xs →
     SpellTables t contents ys → xs ≡ ys
 one_reading s t [] xs ys p q = p ∙ sym q
@@ -86,6 +88,8 @@ split_parts stage (bytes ∷ files) one other parts small p =
     }
 
 -- Planning files that are read alone are read in the same way before a plan and a certificate.
+-- While planning files are read, the bytes that are left are counted down in the same way, however many files may come; only behind
+-- the last one is the next stage another. So the number of files that may come is free on both sides of the induction.
 pub same_room : (more other left : ℕ) (contents : List (List ℕ)) (parts : List (List Table)) → length contents ≤ more + 1 →
     length contents ≤ other + 1 →
     SpellTables (stages.Planning more left) contents parts → SpellTables (stages.Planning other left) contents parts
@@ -96,6 +100,8 @@ same_room (suc more) zero left (bytes ∷ next ∷ files) parts few few' p = abs
 same_room (suc more) (suc other) left (bytes ∷ next ∷ files) parts few few' p =
     (p.0, p.1, p.2, same_room more other (left - length bytes) (next ∷ files) p.1 (omega (arith, few)) (omega (arith, few')) p.3, p.4)
 
+-- The number of planning files is what the stage expects, so exactly behind the last of them the stage is that of a plan, and then
+-- that of a certificate, each with bytes of its own. So two more files that spell tables within these limits may be put behind them.
 pub with_both : (more left : ℕ) (contents : List (List ℕ)) (parts : List (List Table)) (one other : List ℕ) (plan cert : List Table) →
     length contents ≡ more + 1 → SpellTables (stages.Planning more left) contents parts → Gives most_bytes one plan →
     Gives most_cert other cert →

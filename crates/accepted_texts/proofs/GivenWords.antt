@@ -106,5 +106,7 @@ tables_words lines (table ∷ tables) (first, others, parts, one, more) =
 
 -- So the numbers of all tables that are read from files have 64 bits, whatever the files hold: a bare field that spells a greater number is
 -- kept as its bytes.
+-- The proof takes reading apart down to the test of digits: a number is made only where its digits' value passes the limit, and
+-- everything else a field may be has no number. So the rows of REC_FRT that a plan copies need no assumption on the files.
 pub given_words : (most : ℕ) (bytes : List ℕ) (tables : List Table) → Gives most bytes tables → HaveWords tables
 given_words most bytes tables given = tables_words given.1.body tables given.1.tables_lines

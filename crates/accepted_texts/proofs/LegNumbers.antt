@@ -164,6 +164,9 @@ module _ (day : DayFacts) (trips : AllByRecursion IsFitTrip day.trips) (short : 
             ),
           )
 
+      -- The induction over the trips of a block carries the trip at hand, which is known to fit; each further trip adds its own leg
+      -- and at most three of its connection, all between ends of trips and the depot and at moments that lie a deadhead beside a trip
+      -- (`link_fit`).
       from_fit : (k : ℕ) (t : TheTrip) (ks : List ℕ) (legs : List Leg) → IsFitTrip t → legs_from day pool k t ks ≡ Some legs →
           AreFitLegs (4 * length ks + 2) legs
       from_fit k t [] legs ft e =
@@ -263,6 +266,8 @@ module _ (day : DayFacts) (trips : AllByRecursion IsFitTrip day.trips) (short : 
   last_fit l [] h all = h
   last_fit l (k ∷ ks) h all = last_fit k ks all.0 all.1
 
+  -- A piece begins where its first leg does and ends where its last leg does. Cutting deals legs out to parts and makes none
+  -- (`parts_each`), so whatever holds of each leg holds of the ends of each piece.
   pieces_ends : (block index : ℕ) (ps : List (List Leg)) → AllByRecursion (AllByRecursion IsFitLeg) ps →
       AllByRecursion HasEnds (pieces_from block index ps)
   pieces_ends block index [] all = tt
@@ -394,6 +399,9 @@ module _ (day : DayFacts) (trips : AllByRecursion IsFitTrip day.trips) (short : 
       subst (λ (xs : List TheTrip). AllByRecursion IsFitTrip xs × (length xs ≡ length (k ∷ ks))) (some_same (first.0 ∷ later.0) ts later.2)
       ((at_each IsFitTrip day.trips k first.0 trips first.1, rest.0), ap suc rest.1)
 
+  -- A list has a worth as a block only where its pool is there, its trips are there and each of its connections has a link; taking the
+  -- definition apart along these steps gives the links, and each costs at most 10^10 (`link_cheap`). So one estimate of a move bounds
+  -- every block.
   pub worth_cheap : AllByRecursion IsPool day.params.pools → (class : ℕ) (list : List ℕ) (worth : ℕ) →
       block_worth day false class list ≡ Some worth →
       worth ≤ 10000000000 * (length list + 2)

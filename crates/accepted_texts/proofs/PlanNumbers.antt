@@ -91,12 +91,17 @@ number_rows_words [] h = refl
 number_rows_words (row ∷ rows) h =
     and_from (is_sized_row (number_row row)) (list_all is_sized_row (number_rows rows)) (number_words row h.0) (number_rows_words rows h.1)
 
+-- A row whose numbers lie between -(2^63 - 1) and 2^63 - 1 passes the test by which a text can say it. All that follows estimates
+-- numbers; here estimates become the test, once for rows of signed numbers and once for rows of natural ones (`number_rows_words`).
 pub signed_rows_words : (rows : List (List (Option ℤ))) → AllByRecursion AreMiddle rows → list_all is_sized_row (signed_rows rows) ≡ true
 signed_rows_words [] h = refl
 signed_rows_words (row ∷ rows) h =
     and_from (is_sized_row (signed_row row)) (list_all is_sized_row (signed_rows rows)) (signed_words row h.0) (signed_rows_words rows h.1)
 
 -- what holds of each item by its number holds of the numbered rows
+-- The rows of a table are numbered from 1, so a row's own number is a field as well: in the induction the first number is free, and
+-- with what is left it stays within the greatest one. So each row is proved by itself, with a number of few bits and with what is
+-- known of its item.
 numbered_each : {A B : Type 0} (P : B → Type 0) (Q : A → Type 0) (most : ℕ) (value : ℕ → A → B) →
     ((n : ℕ) (item : A) → n ≤ most → Q item → P (value n item)) → (n : ℕ) (items : List A) → n + length items ≤ most + 1 →
     AllByRecursion Q items →
@@ -167,6 +172,8 @@ find_words p (row ∷ rows) all = by (p row) (find_words p rows parts.1)
     by true later = parts.0
     by false later = later
 
+-- A row of the plan's REC_FRT is the row that was read for the trip, with one field changed: UM_UID, which becomes the number of a
+-- block, at most 3,000. What was read had 64 bits (`find_words`), also where no row is found and the empty one stands for it.
 found_words : (table : Table) (version : ℕ) (blocks : List Column) (number : ℕ) (trips : List Trip) →
     HasWords table → length blocks ≤ 3000 →
     list_all is_sized_row (numbered (found_row table version blocks) number trips) ≡ true
@@ -180,6 +187,9 @@ found_words table version blocks number (trip ∷ trips) words few =
     (found_words table version blocks (number + 1) trips words few)
 
 -- The costs of columns.
+-- Costs are estimated from the settings alone: a block of n trips costs at most 10^10 for each of n + 2 moves (`worth_cheap`), and a
+-- duty at most 2 * 10^10 (`duty_low`). With at most 3,000 columns no cost of a plan comes near 2^63, and no bound is above the plan's
+-- cost.
 cost_low : (cs : List Column) → AllByRecursion (λ (c : Column). c.worth ≤ 40000000000000) cs → cost cs ≤ 40000000000000 * length cs
 cost_low [] all = omega arith
 cost_low (c ∷ cs) all = let first = all.0 in omega (arith, first, cost_low cs all.1)
@@ -247,6 +257,9 @@ module _ (d : DutyFacts) (costs : d.counts ≡ false) (fits : NetFits d) where
   group_at : (class : ℕ) (g : Group) → slice_get d.params.groups class ≡ Some g → IsGroup g
   group_at class g e = at_each IsGroup d.params.groups class g (recursion_from_All IsGroup d.params.groups fits.params.groups) e
 
+  -- A duty begins at most four days before midnight and ends within eight days (`begins_close`, `ends_close`), as its pieces lie
+  -- within four days and ways, sign-on and sign-off are short. So its spread is at most 12 days, and with a rate of at most 10,000 it
+  -- costs at most 2 * 10^10.
   duty_low : (class : ℕ) (list : List ℕ) (duty : Duty) → duty_of d class list ≡ Some duty →
       duty.group.fixed + duty.group.rate * duty.spread ≤ 20000000000
   duty_low class list duty e =
@@ -615,6 +628,10 @@ module _ (facts : DayFacts) (table : Table) (blocks duties : SidePlan) (is : IsW
         ),
       )
 
+  -- The seven tables, one after another: each field of each row is one of the numbers that `IsWritable` bounds, and rows, lists of
+  -- rows and tables follow by `numbered_each` and `lists_each`. With `plan_plain` this is what `text_spells` asks, so the plan's text
+  -- is read back as these tables and no others; the checker is handed what was planned, and not what a text with numbers out of range
+  -- might be read as.
   pub plan_words : HaveWords (answer_tables facts table (answer_of facts blocks duties))
   plan_words = (
     blocks_words,
@@ -629,6 +646,9 @@ module _ (facts : DayFacts) (table : Table) (blocks duties : SidePlan) (is : IsW
       is_plain_table e ≡ true → is_plain_table f ≡ true → is_plain_table g ≡ true → are_plain (a ∷ b ∷ c ∷ d ∷ e ∷ f ∷ g ∷ []) ≡ true
   seven_plain a b c d e f g pa pb pc pd pe pf pg = rw (pa, pb, pc, pd, pe, pf, pg) refl
 
+  -- A table is plain where each row has a number for each column, since its names and formats are fixed; so this needs nothing of the
+  -- plan but that REC_FRT has its rows (`found_table_plain`). Plain is what a text can spell at all, and sizes of numbers are asked
+  -- besides.
   pub plan_plain : are_plain (answer_tables facts table (answer_of facts blocks duties)) ≡ true
   plan_plain =
       let legs : List (List Leg) = map (block_legs facts) blocks.columns in

@@ -33,6 +33,8 @@ and_last false b e = absurd (cc)
 
 -- The request.
 -- what options set has at most 3,000 trips
+-- A request exists only where the ranges of what its options say were tested, and one of these tests is that there are at most 3,000
+-- trips. The proof takes the definition of what options say apart down to that test.
 few_said : (allowed : Allowed) (words : List (List ℕ)) (settings : Settings) → settings_said allowed words ≡ Some settings →
     settings.trips ≤ 3000
 few_said allowed words settings e =
@@ -115,6 +117,9 @@ named names.Make settings words r few e makes_one =
       names_are = refl;
     })
 
+-- By the name of the command: each of the others gives requests of its own command, which makes no day; `make` gives one with the day
+-- of its calendar, no file, and the number of trips that options say (`few_said`). `run` has from it that nothing can refuse a made
+-- day.
 pub made_request : (words : List (List ℕ)) (r : Request) → asked words ≡ Some r → makes r.command ≡ true → IsMadeRequest r
 made_request [] r e makes_one = absurd (cc)
 made_request (word ∷ words) r e makes_one =

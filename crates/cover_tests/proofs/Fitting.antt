@@ -26,6 +26,8 @@ pub AreFit-push : (n k : ℕ) (cs : List Column) (c : Column) → AreFit n k cs 
 AreFit-push n k [] c h f = ((f.rises, f.items, f.cheap, f.class), tt)
 AreFit-push n k (d ∷ ds) c h f = (h.0, AreFit-push n k ds c h.1 f)
 
+-- A pool refuses a column or takes it as its last; either way its members can be valued without leaving 64 bits, if they could before
+-- and the column can. So the pools that tests build column by column satisfy what valuing them asks.
 pub AreFit-pool_after : (n k : ℕ) (pool : List Column) (c : Column) → AreFit n k pool → IsFit n k c → AreFit n k (pool_after pool c)
 AreFit-pool_after n k pool c h f =
     elim (is_refused pool c) as (λ t. AreFit n k (cond t pool (pool ++ c ∷ []))) [ true ↦ h | false ↦ AreFit-push n k pool c h f ]

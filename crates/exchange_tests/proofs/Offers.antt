@@ -9,6 +9,8 @@ use Rattle.cover_core.proofs.Parts.{AreColumns-push}
 use Rattle.column_pool.specs.Pools.{is_refused, pool_after}
 use Rattle.plan_round.proofs.Counts.{AreCheap-push}
 
+-- A pool that is offered a column either refuses it and stays as it is, or has it as its last member. In both cases each member is a
+-- column of the problem, so pools of tests that begin empty and are only offered columns may be handed to rounding.
 pub AreColumns-pool_after : (p : Problem) (pool : List Column) (c : Column) → AreColumns p pool → IsColumn p c →
     AreColumns p (pool_after pool c)
 AreColumns-pool_after p pool c h is =

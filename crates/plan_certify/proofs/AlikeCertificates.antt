@@ -84,6 +84,9 @@ module _ (a : DayFacts) (d : List (Ends × ℕ)) (same : (x y : Point) → dead 
       given (nat_le (m.driving + inward) longest_driving) (Some (m.value +ℤ scaled counts (pool.dead_rate * inward)))) (ins pool t))))
       ins_same)
 
+  -- A marking is a record of functions: how lists start, go on and close. Each asks deadheads only through pull-outs, links and
+  -- pull-ins, which are equal as functions (`outs_same`, `links_same`, `ins_same`), so the markings are equal, and with them covers
+  -- and least covers without a word on search.
   pub marking_same : (counts : Bool) (prices : List Price) → block_marking a counts prices ≡ block_marking told counts prices
   marking_same counts prices =
       let marking : (ℕ → ℕ → Option BlockMark) → (BlockMark → ℕ → Option BlockMark) → (BlockMark → Option ℤ) → Marking BlockMark =
@@ -157,6 +160,8 @@ module _ (one other : DayFacts) (alike : AreAlike one other) where
     of_duty_cost = duty_part_alike blocks.columns false duties.cost h.duty_cost h.of_duty_cost;
   }
 
+  -- The plan is one of both days (`plans_alike`), each part is one of both since markings and pieces are (`certs_alike`), and the text
+  -- tells of the day only the numbers of its classes.
   pub same_certificates : HaveSameCertificates one other
   same_certificates = λ asked bytes h. record {
     blocks = h.blocks;

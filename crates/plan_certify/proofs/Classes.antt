@@ -45,6 +45,8 @@ module _ {L : Type 0} (m : Marking L) (placed : IsPlaced m) where
   open-class : (a : L) → IsOpenMark m a → m.class_of a < m.classes
   open-class a (class, there, list, has) = let P : ℕ → Type 0 = λ n. n < m.classes in subst P (sym (list-class class list a has)) there
 
+  -- Induction over an open list: its first mark has the list's class and no extension changes it. So marks of a cover are of classes
+  -- below the number of classes, and each has a number in the tables, where classes are told by their numbers.
   pub least-classes : (order : L → L → Ordering) (marks : List L) → AreMinimal m order marks →
       All (λ (a : L). m.class_of a < m.classes) marks
   least-classes order marks least = λ k d there.
@@ -107,6 +109,8 @@ module _ (facts : DayFacts) where
       )
 
   -- The certificate of a planned day can be written: it has a price for each class of each pass.
+  -- The length of class prices is that of the caps of the pass's problem, which is the number of pools or of groups; so a row can be
+  -- written for each, and marks name none besides (`least-classes`).
   pub have-classes : (blocks duties : SidePlan) (cert : Cert) → ArePaid facts blocks duties → IsCertOf facts blocks duties cert →
       HaveClasses (class_numbers_of facts) cert.parts
   have-classes blocks duties cert paid is =

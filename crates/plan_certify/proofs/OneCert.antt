@@ -43,6 +43,9 @@ duty-total =
     (then_total (on_total (λ (m : Mark). m.three) bool_cmp_total) (on_total (λ (m : Mark). m.value) int_cmp_total)))))))
 
 -- Minimal marks in rising order are one list: two such lists have the same members.
+-- What is minimal is fixed by the marking and not by how the cover was made: exactly the marks of open lists to which no other is as
+-- good. In rising order such a set is one list (`same-rising`), as orders by all fields leave no ties. So workers or another order of
+-- search change nothing.
 one-least : {L : Type 0} (m : Marking L) (order : L → L → Ordering) (one other : List L) → IsTotalOrder order → AreMinimal m order one →
     AreMinimal m order other → one ≡ other
 one-least m order one other total h k =
@@ -81,6 +84,8 @@ one-duty-part over kept one other h k =
     (h.none ∙ sym k.none)
 
 -- Two certificates of the same blocks and duties are the same, part by part.
+-- Of each part prices and class prices are those of the kept offer, the marks of its own side are the least cover, and there are none
+-- of the other side; so each field is fixed by the plan.
 pub one-cert : (facts : DayFacts) → HasOneCert facts
 one-cert facts = λ blocks duties one other h k.
     let a = one-block-part facts true blocks.count h.block_number k.block_number h.of_block_number k.of_block_number in
@@ -127,11 +132,15 @@ module _ (facts : DayFacts) (once : PlanEndsOnce facts) where
       answered a b ≡ answered c d
   one-end asked fixed a b c d h k = once asked fixed (answered a b) (answered c d) h k
 
+  -- Both texts speak of what the day's planning ends with, and fixed rounds end in one way. So the certificate is one of the plan that
+  -- was written, though the two commands plan the day each for itself.
   pub certifies-plan : CertifiesThePlan facts
   certifies-plan = λ asked fixed table one other plan cert.
       let same = one-end asked fixed plan.blocks plan.duties cert.blocks cert.duties plan.plan.ends cert.plan.ends in
       (same-blocks plan.blocks plan.duties cert.blocks cert.duties same, same-duties plan.blocks plan.duties cert.blocks cert.duties same)
 
+  -- The two endings are one, so both certificates are of the same blocks and duties, where there is one (`one-cert`); a text is a
+  -- function of the certificate and of the numbers of the day's classes.
   pub one-cert-text : HasOneCertText facts
   one-cert-text = λ asked fixed one other h k.
       let same = one-end asked fixed h.blocks h.duties k.blocks k.duties h.plan.ends k.plan.ends in

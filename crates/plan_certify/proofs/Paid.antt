@@ -21,6 +21,8 @@ never-unpaid p prices class_prices column paid unpaid =
     omega (arith, ints, covered, below)
 
 -- So a cover is never refused because a list is unpaid.
+-- A cover is refused only for an unpaid list, and that list would contradict the prices being paid (`never-unpaid`). So
+-- `certificate_of` needs no refusal of its own beside running out of memory.
 pub never-refused : (p q : Problem) (prices : List Price) (class_prices passed : List ℤ) (fault : CoverFault) (column : Column) → q ≡ p →
     passed ≡ class_prices → fault ≡ Unpaid column →
     IsPaid p prices class_prices → IsUnpaidCause q prices passed fault → ⊥

@@ -29,6 +29,8 @@ abbrev part_with : Kept → Cover → BlockCover → CertPart
 part_with kept cover blocks = record { prices = kept.prices; class_prices = kept.class_prices; cover = cover; blocks = blocks }
 
 -- A cover of the net of a day, made with the prices that a pass kept, is that of the day's blocks.
+-- The cover was made over the network that the search uses, which is the day's with the same counting, and of class prices that were
+-- passed on; each is replaced by what it equals, one after another, and the two promises of the cover stay as they are.
 pub block-part-made : (net : NetFacts) (facts : DayFacts) (counts : Bool) (kept : Kept) (passed : List ℤ) (empty : List Mark)
     (blocks : BlockCover) → net.day ≡ facts → net.counts ≡ counts → passed ≡ kept.class_prices → empty ≡ [] →
     AreMinimal (block_marking net.day net.counts kept.prices.items) block_order blocks.marks →

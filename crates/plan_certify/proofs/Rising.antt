@@ -38,6 +38,7 @@ module _ {L : Type 0} (order : L → L → Ordering) where
   none-stands a (k, e) = absurd (cc)
 
   -- of the first members of two lists none comes before the other
+  -- Were they different, each would stand behind the other in the other list and so come after it in the order, which is a tie.
   first-same : HasNoTies → (x y : L) (xs ys : List L) → Rises (x ∷ xs) → Rises (y ∷ ys) → StandsIn (y ∷ ys) x → StandsIn (x ∷ xs) y → x ≡ y
   first-same apart x y xs ys up down in_ys in_xs =
       elim (first-or-later y ys x in_ys) [
@@ -63,6 +64,9 @@ module _ {L : Type 0} (order : L → L → Ordering) where
         | inr far ↦ far
       ]
 
+  -- Induction over both lists. The first members are the same (`first-same`); what stands behind the first in one list stands behind
+  -- it in the other, since it comes after it in the order and so is not it (`behind`). So a set of marks has one list, and
+  -- certificates may be compared as lists.
   pub same-rising : HasNoTies → (xs ys : List L) → Rises xs → Rises ys → ((a : L) → StandsIn xs a → StandsIn ys a) →
       ((a : L) → StandsIn ys a → StandsIn xs a) → xs ≡ ys
   same-rising apart [] [] up down onto from = refl

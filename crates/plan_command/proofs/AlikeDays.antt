@@ -55,6 +55,9 @@ module _ (one other : DayFacts) (alike : AreAlike one other) where
       ∙ ap (λ params. problem other.trips params (block_worth one counts)) alike.params
       ∙ ap (λ worth. problem other.trips other.params worth) (same_worth one other counts alike.trips alike.params alike.deads)
 
+  -- The problem of blocks is made of the number of trips, the caps and a function of worths. The worths of two days with the same
+  -- trips, settings and times of deadheads are equal list by list (`same_worth`), and functions that agree everywhere are equal; so
+  -- the problems are one, and whatever is said of one is said of the other without a proof for each notion.
   pub same_blocks : blocks_of one ≡ blocks_of other
   same_blocks = fun_ext blocks_alike
 
@@ -102,6 +105,8 @@ module _ (one other : DayFacts) (alike : AreAlike one other) where
       ap (λ pieces. pieces ++ pieces_by_block one (number + 1) blocks) (block_pieces_alike number block)
       ∙ ap (λ rest. block_pieces other number block ++ rest) (by_block_alike (number + 1) blocks)
 
+  -- Legs are made from trips, settings and deadheads (`legs_alike`) and cut by settings and deadheads (`parts_alike`), block by block.
+  -- So the pieces over the same blocks are the same, in the same order, and with them the problem of duties.
   pub same_pieces : pieces_of_plan one ≡ pieces_of_plan other
   same_pieces = fun_ext (λ blocks. ap (in_order moment) (by_block_alike 1 blocks))
 
@@ -178,6 +183,8 @@ module _ (one other : DayFacts) (alike : AreAlike one other) where
       λ problem. IsPlannedSide (problem blocks true) (problem blocks false) asked.numbers (IsThis None) duties in
       subst P same_duties h
 
+  -- What the method says of a day is said of its problems, and these are equal (`same_problems`); what is known of its blocks is
+  -- carried by itself, as the flow's network is no part of them (`known_alike`).
   pub plans_alike : (asked : Asked) (blocks duties : SidePlan) → IsDayPlan one asked blocks duties → IsDayPlan other asked blocks duties
   plans_alike asked blocks duties h = record {
     ends = ends_alike asked (answered blocks duties) h.ends;
@@ -186,6 +193,9 @@ module _ (one other : DayFacts) (alike : AreAlike one other) where
     exact = exact_alike one other alike.trips alike.params alike.deads asked.flow blocks h.exact;
   }
 
+  -- A text tells of a day its version, day type, trips and settings besides the plan (`tables_alike`), which the two days share;
+  -- places of rows and the lists of deadheads do not occur in it. So a day that was read twice, with its deadheads in another order,
+  -- has one text.
   pub same_texts : HaveSameTexts one other
   same_texts = λ asked table bytes h. record {
     blocks = h.blocks;

@@ -71,6 +71,8 @@ module _ (a : DayFacts) (d : List (Ends × ℕ)) (same : (x y : Point) → dead 
       (option_and_then (λ (out : ℕ). option_and_then (λ (rest : ℕ). Some (pool.fixed + pool.dead_rate * out + rest))
       (cost_from moved pool t ts)) (pull_out_over t o))) (same pool.depot t.from)
 
+  -- Deadheads are exchanged under everything that asks for one: links, pull-outs, pull-ins, and so the cost of a path, by induction
+  -- over its trips. Trips and settings are exchanged later, where they are equal as lists and a plain rewriting is enough.
   path_moved : path_cost a ≡ path_cost moved
   path_moved =
       let costs : block_cost a ≡ block_cost moved = fun_ext (λ pool. fun_ext (λ ts. block_moved pool ts)) in
@@ -178,6 +180,8 @@ module _ (a b : DayFacts) (trips : a.trips ≡ b.trips) (params : a.params ≡ b
   costs : (lists : List (List ℕ)) → plan_cost a lists ≡ plan_cost b lists
   costs lists = plan_costs_alike a b trips params deads lists
 
+  -- To be of least cost and first is said against all other plans, so the others are carried the other way (`back`), where the days
+  -- are exchanged; the costs are equal for each list (`costs`). So one flow plan of the one day is the flow plan of the other.
   flow_plans_alike : (lists : List (List ℕ)) → IsFlowPlan a lists → IsFlowPlan b lists
   flow_plans_alike lists flow = record {
     plan = plans_alike a b trips params deads lists flow.plan;

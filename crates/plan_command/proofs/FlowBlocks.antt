@@ -48,6 +48,9 @@ both_true true true h = (refl, refl)
 both_true true false h = absurd (let bad : false ≡ true = h in cc)
 both_true false b h = absurd (let bad : false ≡ true = h in cc)
 
+-- A list of trips costs as a path of the network what it is worth as a block, where it is a block (`block_is_path`). So if each path
+-- of a flow plan is a block, blocks and paths are one list of columns, and what the flow says of paths (a plan, its cost, its prices)
+-- is said of blocks.
 pub same_columns : (facts : DayFacts) (paths : List (List ℕ)) → all_blocks facts paths ≡ true →
     map (block_column facts) paths ≡ columns_of facts paths
 same_columns facts [] all = refl
@@ -65,7 +68,8 @@ pub cheap_more : (cs : List Column) (c : Column) → AreCheap cs → c.worth ≤
 cheap_more [] c cheap one = (one, tt)
 cheap_more (d ∷ ds) c cheap one = (cheap.0, cheap_more ds c cheap.1 one)
 
--- one more path as a column
+-- The invariant of the loop that turns paths into columns: the columns made so far and those of the paths that are left are those of
+-- all paths. One path goes from the one part to the other.
 pub blocks_so_far : (f : List ℕ → Column) (paths : List (List ℕ)) (i : ℕ) (path : List ℕ) (cs new : List Column) (c : Column) →
     i < length paths → path ≡ get_or paths i path →
     map f paths ≡ cs ++ map f (drop i paths) → c ≡ f path → new ≡ cs ++ c ∷ [] → map f paths ≡ new ++ map f (drop (i + 1) paths)
@@ -101,6 +105,9 @@ module _ (facts : DayFacts) (paths : List (List ℕ)) (prices : List Price) (cla
   -- the columns with the flow prices, whose bound is their cost
   module _ (columns : List Column) (bound : ℕ) (are : columns ≡ map (block_column facts) paths) (is : bound ≡ cost columns) (kept : Kept)
       (same : kept ≡ offer bound) where
+    -- The flow prices are paid over all blocks and their bound is the cost of the flow plan (`PathsAreBlocks`), where each path of
+    -- that plan is a block. So a plan of blocks is known together with an offer whose bound is its cost, and the offer is dual
+    -- feasible as one of a pass is.
     pub is_feasible : IsDualFeasible (blocks_of facts false) kept
     is_feasible = subst (λ k. IsDualFeasible (blocks_of facts false) k) (sym same) (record {
       prices = (found.moderate.count, found.moderate.within);

@@ -27,6 +27,8 @@ not_true : (b : Bool) → b ≡ true → b ≡ false → ⊥
 not_true b is not = let bad : true ≡ false = sym is ∙ not in cc
 
 module _ (facts : DayFacts) (one_plan : FlowPlanIsOne facts) (one_prices : FlowPricesAreOne facts) where
+  -- The flow plan of least cost that comes first is one (`FlowPlanIsOne`), and its greatest potentials give one list of prices
+  -- (`FlowPricesAreOne`). The fields of a known plan are functions of these, so two known plans of a day are equal field by field.
   same_flow : (a b : List (List ℕ)) (one other : KnownPlan) → IsKnownFlow facts a one → IsKnownFlow facts b other → one ≡ other
   same_flow a b one other h k =
       let paths : a ≡ b = one_plan a b h.plan k.plan in
@@ -49,6 +51,8 @@ module _ (facts : DayFacts) (one_plan : FlowPlanIsOne facts) (one_prices : FlowP
       let P : List (List ℕ) → Type 0 = λ l. all_blocks facts l ≡ true in
       not_true (all_blocks facts others) (subst P (one_plan paths others plan flow) blocks) some
 
+  -- A plan of blocks is known or none is, and not both: a flow plan whose paths are blocks is at odds with each of the three reasons
+  -- for having none (`not_without`). So whether the passes are made, and with which plan, is fixed by the day and the words alone.
   pub one_known : (flow : Bool) (one other : Option KnownPlan) → AreKnownBlocks facts flow one →
       AreKnownBlocks facts flow other → one ≡ other
   one_known false one other h k = h ∙ sym k
@@ -91,6 +95,9 @@ as_known counted costed numbers this count kept columns known is ends =
     (both.1, both.2)
 
 module _ (facts : DayFacts) (one_plan : FlowPlanIsOne facts) (one_prices : FlowPricesAreOne facts) (asked : Asked) where
+  -- Where the flow has blocks the plan that is known is theirs (`flow_known`), and planning gives back what is known, unchanged
+  -- (`as_known`). Printed order moves columns and no cost (`printed_cost`), so the bound that is written for blocks is their cost: the
+  -- plan is shown to be cheapest.
   pub exact : (blocks : SidePlan) → ArePlannedBlocks facts asked blocks → IsExact facts asked.flow blocks
   exact blocks are = λ flow day paths plan all.
       let known = flow_known facts one_plan one_prices asked.flow are.known paths flow day plan all are.known_is in

@@ -131,6 +131,8 @@ abbrev pub HasOneKnown : DayFacts → Type 0
 HasOneKnown facts = (flow : Bool) (one other : Option KnownPlan) → AreKnownBlocks facts flow one →
     AreKnownBlocks facts flow other → one ≡ other
 
+-- Two endings of a day are endings of the method with what is known of its blocks, and this is one (`HasOneKnown`), so they are
+-- endings of one problem, which has one (`DayEndsOnce`).
 pub plan_ends_once : (facts : DayFacts) → HasOneKnown facts → ((known : Option KnownPlan) → DayEndsOnce (day_problems facts known)) →
     PlanEndsOnce facts
 plan_ends_once facts known once asked fixed one other h k =
@@ -148,6 +150,8 @@ module _ (facts : DayFacts) (known : HasOneKnown facts) (asked : Asked) (fixed :
       (subst P (known asked.flow h.known k.known h.known_is k.known_is) h.planned) k.planned in
       h.order ∙ (ap printed (same_planned a.count a.cost b.count b.cost h.columns k.columns same) ∙ sym k.order)
 
+  -- An item that is left is named by its trip's FRT_FID, or by block and index of its piece. Pieces hang on the blocks that were
+  -- planned before, and these are the same columns in both endings (`one_blocks`), so the item's number decides its name.
   one_name : (side : Side) (item : ℕ) (name other : ItemName) (columns : List Column) → IsLeftItem facts asked side item name columns →
       IsLeftItem facts asked side item other columns → name ≡ other
   one_name Vehicles item name other columns h k = trip_name (slice_get facts.trips item) name other h.1 k.1
@@ -175,6 +179,8 @@ module _ (facts : DayFacts) (known : HasOneKnown facts) (asked : Asked) (fixed :
       ∙ ap (λ (cs : List Column). faults.NotPlaced other j other_name (record { columns = cs })) columns))
 
 module _ (facts : DayFacts) (once : PlanEndsOnce facts) where
+  -- A text is written of an ending with blocks and duties, and the day has one ending; two endings that are equal have equal parts
+  -- (`same_blocks`, `same_duties`). The table of trips is given, so the bytes are one function of these parts.
   pub one_text : HasOneText facts
   one_text = λ asked fixed table one other h k.
       let same : answered h.blocks h.duties ≡ answered k.blocks k.duties =
@@ -195,6 +201,8 @@ module _ (facts : DayFacts) (once : PlanEndsOnce facts) where
       ∙ sym k.written))
 
   -- a day that is planned has no cause for a refusal
+  -- A cause says that the day ends with a side without plan or with an item that is left, and a plan says that it ends with an answer.
+  -- The day has one ending, and the three are told apart by `kind_in`. Running out of memory is no ending and stays possible.
   plan_or_cause : (asked : Asked) → asked.numbers.climb ≡ false → (blocks duties : SidePlan) (fault : PlanFault) →
       PlanEndsAs facts asked (answered blocks duties) → IsPlanCauseOver facts asked fault → fault ≡ faults.Memory
   plan_or_cause asked fixed blocks duties (faults.NoPlan side bound places) ends cause =
@@ -212,6 +220,8 @@ module _ (facts : DayFacts) (once : PlanEndsOnce facts) where
   short_text_or_cause = λ asked fixed bytes fault h. plan_or_cause asked fixed h.blocks h.duties fault h.plan.ends
 
   module _ (known : HasOneKnown facts) (ends : EndsOnce (blocks_of facts true) (blocks_of facts false)) where
+    -- By pairs of causes: both say how the day ends, so they are of one kind with the same numbers and columns, and the name of an
+    -- item follows from its number (`one_left`). With `text_or_cause` a day that is planned by fixed rounds has one answer.
     pub one_cause : HasOneCause facts
     one_cause = λ asked fixed one other h k. go asked fixed one other h k
       where

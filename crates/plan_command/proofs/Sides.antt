@@ -82,6 +82,9 @@ with_columns side columns = record { columns = columns; count = side.count; cost
 
 module _ (facts : DayFacts) (asked : Asked) where
   -- the blocks are planned, and then the duties
+  -- Blocks that are planned and put in order, and any ending of the duties over them, are together an ending of the day: the duties'
+  -- problem is that of the columns as they are written, so the ending is carried along `order`. Answers and refusals of duties both
+  -- rest on it.
   blocks_first : (blocks : SidePlan) (ending : DayEnding) (are : ArePlannedBlocks facts asked blocks) →
       DutiesEndAs (day_problems facts are.known) asked.numbers blocks ending → PlanEndsAs facts asked ending
   blocks_first blocks ending are ends =
@@ -119,6 +122,8 @@ module _ (facts : DayFacts) (asked : Asked) where
       let Q : Option DayTrip → Type 0 = λ o. IsSomeAnd o (λ (t : DayTrip). Trip trip.fid ≡ Trip t.fid) in
       subst P (sym named) (ends, (stuck, subst Q (sym is) refl))
 
+  -- A refusal of the blocks ends the day before duties. Which plan is known decides which causes there can be: a known plan leaves no
+  -- item, so that case is void, and in each other the ending with its reason is what `IsPlanCauseOver` asks.
   pub blocks_cause : (known : Option KnownPlan) (cover : CoverFault) (fault : PlanFault) → AreKnownBlocks facts asked.flow known →
       IsSideCause (blocks_of facts true) (blocks_of facts false) asked.numbers known cover →
       IsBlocksFault facts.trips cover fault → IsPlanCauseOver facts asked fault

@@ -23,7 +23,8 @@ list_is items class group worth (x ∷ []) h g =
     (ap (λ (n : ℕ). n ∷ []) first, w.2)
 list_is items class group worth (x ∷ y ∷ rest) h g = absurd (none_is ⊥ worth h)
 
--- so it is the first least
+-- A group has at most one list with a worth, its first item alone (`list_is`); so that list is least and first without a comparison.
+-- The pricer of these tests may thus answer without a search and still keep the contract that rounds ask of pricers.
 pub single_first : (items : ℕ) (prices : List Price) (class group : ℕ) (column : Column) → IsTotalOrder backward_cmp → class < 2 →
     16 * group < items → column.class ≡ class → column.worth ≡ class + 1 → column.items ≡ 16 * group ∷ []
     → IsFirstLeast (singles items) prices class group column
