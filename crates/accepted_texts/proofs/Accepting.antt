@@ -420,7 +420,8 @@ module _ (checkable : ReadDaysAreCheckable) (plans : (facts : DayFacts) (table :
 
     -- And there is one, over these tables.
     -- The witness is built from the day that `plan` found: its tables, its yes (`yes_over`), and the files in one list (`same_room`,
-    -- `with_both`). Here alone the lengths of the two texts are asked, since a longer text is refused before it is read.
+    -- `with_both`). Here alone it is asked that there are at most 64 planning files and that no text is too long, since `check` would
+    -- refuse these.
     is_answered : length contents ≤ 64 → length one ≤ most_bytes → length other ≤ most_cert →
         IsAnswer (Check (length contents)) (contents ++ one ∷ other ∷ []) day statuses.Ok (codes "yes\n")
     is_answered few short short' =

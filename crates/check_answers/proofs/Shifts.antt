@@ -89,7 +89,7 @@ module _ (day : DayFacts) (daily : All IsDaily day.trips) (short : HasShortMoves
   -- The legs from a trip on stand one after another, from its start on and within four days.
   -- The invariant is that the legs fill the time from the start of the trip at hand to four days, one after another. A connection has
   -- the legs that fill the time between its two trips exactly (`link-fills`); at the end a pull-in of at most two days follows a trip
-  -- that ends within two days. Where a deadhead were longer the sum of four days would not hold, and hence `HasShortMoves` is asked.
+  -- that ends within two days. With a longer pull-in the end would not lie within four days, and so `HasShortMoves` is asked.
   from-timed : (pool : Pool) (k : ℕ) (t : TheTrip) (js : List ℕ) (ls : List Leg) → IsDaily t → legs_from day pool k t js ≡ Some ls →
       AreTimed t.begin.0 (pos 345600) ls
   from-timed pool k t [] ls own e =

@@ -76,6 +76,8 @@ names-apart trips is a b c d e f g an bn cn dn en fn gn =
           ∙ (ap (λ (x : List ℕ). bytes_eq m x) un ∙ two),
     )
 
+-- A table of a plan is looked up by its name and has to stand once, so it matters that the seven names differ. Each two are compared
+-- by computing; that of REC_FRT is the name of the table that was read.
 answer-apart : (facts : DayFacts) (table : Table) (answer : Answer) → table.name ≡ codes "REC_FRT" →
     Apart named (answer_tables facts table answer)
 answer-apart facts table answer is =
@@ -93,6 +95,8 @@ module _ (facts : DayFacts) (table : Table) (blocks duties : SidePlan) (cert : C
   few-are = few-pieces facts blocks.columns is.blocks_are is.day.in_range.few
 
   -- the duties in printed order over the pieces of the blocks in printed order are the duties
+  -- Blocks that were read are in printed order already, so numbering their pieces anew changes no duty (`duties-kept`), and the duties
+  -- are in printed order themselves.
   pub again : duties_again (case_of facts table blocks duties cert) (plan_of blocks) (plan_of duties) ≡ duties.columns
   again =
       ap printed (duties-kept facts blocks.columns is.blocks_are is.blocks_order
@@ -108,6 +112,9 @@ module _ (facts : DayFacts) (table : Table) (blocks duties : SidePlan) (cert : C
       ap (λ (bs : List Column). made_in c bs (duties_again c (plan_of blocks) (plan_of duties)) bounds) is.blocks_order
       ∙ ap (λ (ds : List Column). made_in c blocks.columns ds bounds) again
 
+  -- The tables that the checker makes of what it read are those that the planner wrote (`same-answer`), and tables do not differ from
+  -- themselves where their names are apart. X_SCHRANKE is compared without its bounds, which the certificate has to show, and that
+  -- changes nothing here.
   no-difference-in : difference_in (case_of facts table blocks duties cert) (written_text facts blocks duties) (plan_of blocks)
       (plan_of duties) ≡ None
   no-difference-in =
@@ -137,6 +144,8 @@ module _ (facts : DayFacts) (table : Table) (blocks duties : SidePlan) (cert : C
     params = is.day.in_range.params;
   }
 
+  -- The layer of the checker's definition that is about tables: the text holds as duties, no table differs, the plan is one over
+  -- pieces in printed order, and these have the ranges that covers of duties ask. The certificate is the next layer (`has-cert`).
   pub has-tables : PlanReadsBack →
       HasTables (case_of facts table blocks duties cert) (written_text facts blocks duties) (plan_of blocks) (plan_of duties)
   has-tables back =

@@ -78,6 +78,9 @@ own-number n = grind (arith, nat_tests)
 other-number : (m n : ℕ) → m < n → nat_eq m n ≡ false
 other-number m n below = grind (arith, nat_tests)
 
+-- X_DIENST names a group by its number alone. The groups' numbers rise, so those before the group meant have smaller ones, and the
+-- first group with that number is it. Without a law that numbers are of their own a duty might be read as one of another group, with
+-- other costs and rules.
 class-again : (facts : DayFacts) (class : ℕ) → AllPairs (λ (earlier later : Group). earlier.number < later.number) facts.params.groups →
     class < length facts.params.groups → class_of_group facts.params.groups (group_of facts class).number ≡ class
 class-again facts class rise there =
@@ -100,6 +103,9 @@ parts-again facts columns (item ∷ items) below =
     ap (λ (n : ℕ). n ∷ map (part_number pieces) (map (part_at pieces) items)) here ∙ ap (λ (ns : List ℕ). item ∷ ns) rest
 
 -- So the lists that the tables say are those of the duties.
+-- A duty is written as a group's number and the blocks and indexes of its pieces. Both are names that are found again (`class-again`,
+-- `parts-again`), so a duty that is read has the class and the items that were planned; its worth is not read but made anew by the
+-- checker.
 lists-again : (facts : DayFacts) (blocks duties : List Column) →
     AllPairs (λ (earlier later : Group). earlier.number < later.number) facts.params.groups →
     AreColumns (duties_over facts blocks false) duties →
@@ -113,6 +119,8 @@ lists-again facts blocks (duty ∷ duties) rise are =
     let listed = duties_listed (duty_facts facts blocks false) duty.class duty.items duty.worth are.0.1 in
     (class-again facts duty.class rise there, parts-again facts blocks duty.items listed.2, lists-again facts blocks duties rise are.1)
 
+-- The first layers of the checker's definition: the tables say a plan (`text-back`), whose blocks and duties are lawful as lists,
+-- because they are the columns of a plan, and a plan is judged by classes and items alone (`without-worths`, `lists-again`).
 pub has-duties : PlanReadsBack → (facts : DayFacts) (table : Table) (blocks duties : SidePlan) (cert : Cert) →
     IsCheckable facts table blocks duties →
     HasDuties (case_of facts table blocks duties cert) (written_text facts blocks duties) (plan_of blocks) (plan_of duties)

@@ -15,6 +15,8 @@ use Rattle.check_answers.specs.Texts.{TextsAreAccepted}
 use Rattle.check_answers.proofs.Accepted.{each-yes, yes-answer}
 use Rattle.check_answers.proofs.Checkable.{plans-checkable}
 
+-- Each of the two commands plans the day for itself; fixed rounds make them end alike (`CertifiesThePlan`), so the certificate is one
+-- of the written plan's blocks and duties, and what was shown of a plan and its own certificate applies (`yes-answer`, `each-yes`).
 pub texts-accepted : IsPrintedOnce → PlanReadsBack → ((shape : Shape) → ReadsBack shape) → ((c : Case) → AcceptedHasNoReason c) →
     ((facts : DayFacts) → CertifiesThePlan facts) → TextsAreAccepted
 texts-accepted once back cert_back none same facts table numbers day fixed one other plan cert =

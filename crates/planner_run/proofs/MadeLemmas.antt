@@ -24,6 +24,8 @@ row_plain : (fid start line : ℕ) (out : Bool) → is_plain_row columns (fields
 row_plain fid start line true = refl
 row_plain fid start line false = refl
 
+-- Each row is made of numbers drawn from a seed and has a field for each column whatever these numbers are, so being plain is computed
+-- for a row with free numbers and follows for all by induction, with the state of the drawing left free.
 rows_plain : (n fid s : ℕ) → list_all (is_plain_row columns) (rows_of (trip_rows n fid s)) ≡ true
 rows_plain zero fid s = refl
 rows_plain (suc n) fid s =

@@ -18,7 +18,8 @@ use Rattle.planner_run.specs.declared.status.Status.{Status}
 use Rattle.planner_run.specs.Model.{HasModelFaultIn, IsModelCause, IsModelRefusalIn, IsModelRefused, IsTableRefusal, model_status}
 use Rattle.planner_run.specs.Trips.{refused_tables, table_status_of}
 
--- the status for a fault is no other
+-- The status of a fault is a function of its kind, and running out of memory is one of the kinds. So by kinds: either the status is
+-- that of memory, which needs no cause, or the fault is the first one of the tables, as reading them promises of every other kind.
 pub refused_by : (needed : Needs) (tables : List Table) (fault : TableFault) →
     (fault.kind ≢ kinds.Memory → first_fault (schemas_of needed) tables ≡ Some fault) → IsTableRefusal needed tables (refused_tables fault)
 refused_by needed tables fault first_is = by_kind fault.kind first_is

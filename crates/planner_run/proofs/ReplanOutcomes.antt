@@ -55,6 +55,8 @@ one_not_replanned numbers moment tables old day s t settled p q =
     let cause = same_causes p.facts q.facts (days_alike tables day p.facts q.facts p.model q.model) old moment numbers p.fault p.cause in
     p.is ∙ ap replan_status_of (one_fault numbers moment old q.facts p.fault q.fault t settled q.is p.told q.told cause q.cause) ∙ sym q.is
 
+-- As for a plan: a cause lies in the planning tables or behind them, and not both, since tables with a day have no cause; two behind
+-- them are carried to one model of the day (`days_alike`) and are one there (`one_fault`).
 pub one_replan_cause : (numbers : Numbers) (moment : ℕ) (tables old : List Table) (day : ℕ) (s t : Status) →
     (is_of_planning t && numbers.climb) ≡ false
     → IsReplanCause numbers moment tables old day s → IsReplanCause numbers moment tables old day t → s ≡ t

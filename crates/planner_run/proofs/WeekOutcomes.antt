@@ -35,6 +35,8 @@ same_fault one other same = let f : Result (List Turn) RosterFault → RosterFau
 real : (fault : RosterFault) → fault ≢ rosters.Memory → refused fault ≢ refused rosters.Memory
 real fault told = λ same. told (same_fault fault rosters.Memory same)
 
+-- Reading a roster has one answer but for running out of memory (`one_answer`), and a cause is never that (`told`); so two causes are
+-- two answers of one reading, and equal. That a text shuts a cause out goes the same way.
 pub one_week_cause : (tables : List Table) (s t : Status) → IsWeekCause tables s → IsWeekCause tables t → s ≡ t
 one_week_cause tables s t p q =
     let same : p.fault ≡ q.fault =
@@ -49,6 +51,8 @@ week_text_no_cause tables bytes s p q =
     one_answer tables (Ok (turns_of tables)) (Err q.fault) p.roster q.cause right (real q.fault q.told) in
     apart (turns_of tables) q.fault both
 
+-- The text of X_URTEIL is a function of the denials, and the denials of a list of duties are one list, each once and in order
+-- (`one_list`). So the text of `week` is fixed by the tables, and no day or order of work is in it.
 pub one_week_text : (tables : List Table) (xs ys : List ℕ) → IsWeekText tables xs → IsWeekText tables ys → xs ≡ ys
 one_week_text tables xs ys p q =
     let same : p.verdict.denials ≡ q.verdict.denials =

@@ -98,8 +98,8 @@ IsBehindBoth c = is_gt (backward_cmp (0 ∷ 1 ∷ []) c.items) ≡ true
 pub alone_behind : (prices : List Price) (alone : ℕ) → is_gt (backward_cmp (0 ∷ 1 ∷ []) (best_alone prices alone).items) ≡ true
 alone_behind prices alone = earlier-has IsBehindBoth prices (column alone (0 ∷ [])) (column alone (1 ∷ [])) refl refl
 
--- Two items have one class and one group, so all other classes and groups are void; of that one the best column is found by two
--- comparisons, which `best_column` writes out. So a pricer of two comparisons keeps the contract of a search.
+-- Two items have one class and one group, so all other classes and groups are void; of that one the best column is found by at most
+-- two comparisons, which `best_column` writes out. So a pricer that makes these keeps the contract of a search.
 pub pair_best : (alone places class group : ℕ) (both : Option ℕ) (prices : List Price) → class < 1 → 16 * group < 2 →
     best_of (pair alone both places) prices class group ≡ Some (best_column prices alone both)
 pair_best alone places class group both prices one first =

@@ -5,6 +5,9 @@ use Rattle.input_files.specs.Stages.{IsStage}
 use Rattle.input_files.proofs.InputLemmas.{IsReadTo}
 use Rattle.input_files.proofs.inputs.read_files.Given as goal
 
+-- What the loop knows after so many files: `to`, for each initial part of the names whose bytes are told, that what was read is the
+-- reading of as many of them as were passed, or that the whole part is right; `quiet` and `same`, that until now no count moved and
+-- nothing held changed, so that a fault of the next read is one of this call. The other fields are facts of the parts by themselves.
 abbrev pub invariant-loop-place : goal.invariant-loop-place
 invariant-loop-place g l = record {
   sound : IsStage l.next;

@@ -2,6 +2,8 @@ use Rattle.std.proofs.Common.{◌≡◌, ◌+◌, All, vec_len}
 use Rattle.task_board.specs.Desks.{sheet_of, IsDeskOf, IsPartOf}
 use Rattle.round_tests.proofs.task_board_tests.gather.Given as goal
 
+-- The same sum read backwards: each desk that is joined has one share and leaves the list, so at the end the desk at home has them
+-- all.
 abbrev pub invariant-loop-desk : goal.invariant-loop-desk
 invariant-loop-desk l = record {
   board : IsDeskOf l.board l.home;
