@@ -63,8 +63,9 @@ add_high : (a b : ℤ) (n x k : ℕ) → a ≤ℤ pos 3000000000000000 → b ≤
     (a +ℤ b) ≤ℤ pos (3000000000000000 * (n - k))
 add_high a b n x k h l low high = omega (arith, ints, h, l, low, high)
 
--- Induction over a rising list with its least possible first item k left free: behind an item x the others are at least x + 1, so n -
--- k items are enough to pay for, and no item twice. With k = 0 the list costs at most n prices, whatever list it is.
+-- Induction over a rising list with its least possible first item k left free: behind an item x the others are at least x + 1, so what
+-- is paid is no more than the price of the items from k to n, each once. With k = 0 the list costs at most n prices, whatever list it
+-- is.
 price_high : (prices : List Price) (n k : ℕ) (xs : List ℕ) → AllWithin 3000000000000000 prices → Rises xs → AllBelow n xs → From k xs →
     price_of prices xs ≤ℤ pos (3000000000000000 * (n - k))
 price_high prices n k [] within rises below from = zero_low (3000000000000000 * (n - k))

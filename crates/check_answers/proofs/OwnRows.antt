@@ -179,7 +179,7 @@ pub record IsRight (s : Schema) (table : Table) : Type 0 where
   pub own : AllPairs (λ (earlier later : List Cell). same_cells later earlier ≡ false)
       (flat_map (λ (row : List Field). own_key (key_of s table row)) table.rows)
 
--- All that later lemmas ask of a table of the day, taken once from `the tables are plain and have no fault`: its columns and rows have
+-- All that later lemmas ask of a table of the day, taken once from tables that are plain and without fault: its columns and rows have
 -- none, its rows are as wide as its columns, and no two have one key. So the lemmas on X_HOF, X_FAHRER and REC_FRT look at one table
 -- each.
 pub is-right : (s : Schema) (tables : List Table) (table : Table) → are_plain tables ≡ true → table_faults s tables ≡ [] →
@@ -230,7 +230,7 @@ module _ {A : Type 0} (test : A → A → Bool) (row_of : List Cell → ℕ → 
       )
 
   -- so the rows of the table are apart
-  -- The idea: no two rows have one key (`own`), and for one who knows that both rows are good the key tells apart what is made of them
+  -- The idea: no two rows have one key (`own`), and where both rows are good, different keys tell apart what is made of them
   -- (`tells`). The induction keeps the places of the rows free, since the typed rows are numbered and the test does not look at that
   -- number.
   pub rows-apart : IsRight s table → AllByRecursion Good table.rows → Apart test (typed row_of 0 (map (cells s table) table.rows))

@@ -201,8 +201,8 @@ fault_so begin contents i stage parts bytes line kind at so fault =
     so.fault_forth (i + 1) line kind (subst P (sym at) (inl (refl, fault)))
 
 -- If this file gives tables only where A holds, all files spell tables only where A holds: what they all spell has, behind the parts
--- read, a part that this file gives (`back`). With `memory ran out or a read failed` for A this is the clause `only` of `read_files`
--- at a refusal.
+-- read, a part that this file gives (`back`). Where A says that memory ran out or a read failed, this is the clause `only` of
+-- `read_files` at a refusal.
 pub refused_only :
     (begin : Stage) (contents : List (List ℕ)) (i : ℕ) (stage : Stage) (parts all : List (List Table)) (bytes : List ℕ) (A : Type 0) →
     drop i contents ≡ bytes ∷ drop (i + 1) contents → IsReadSo begin contents i stage parts →

@@ -116,8 +116,8 @@ cheap_cost [] cheap = omega arith
 cheap_cost (c ∷ cs) cheap = let first = cheap.0 in omega (arith, first, cheap_cost cs cheap.1)
 
 -- What is asked before tables are written: classes are there, lists are few, and no bound is above the number or the cost of the plan
--- itself (`count_bound`, `cost_bound`), since a bound holds of every plan and this is one. These are at most 3,000, and 3,000 times 4
--- * 10^9 (`cheap_cost`), so all bounds are below 2^63.
+-- itself (`count_bound`, `cost_bound`), since a bound holds of every plan and this is one. There are at most 3,000 columns, each worth
+-- at most 4,000,000,000 (`cheap_cost`), so all bounds are below 2^63.
 pub printable : (facts : DayFacts) (asked : Asked) (blocks duties : SidePlan) → IsDayPlan facts asked blocks duties →
     length facts.trips ≤ 3000 → length (pieces_of_plan facts blocks.columns) ≤ 3000 →
     AreCheap blocks.columns → AreCheap duties.columns → IsPrintable facts blocks duties

@@ -130,8 +130,9 @@ ok_same : {A E : Type 0} (x y : A) (r s : Result A E) → r ≡ Ok x → s ≡ O
 ok_same {A = A} {E = E} x y r s p q same = let f : Result A E → A = λ r. result_or x r in ap f (sym p ∙ same ∙ q)
 
 -- Whatever planning reads of a day is fixed by the tables: version and day type, rows, times, settings and the deadheads between any
--- two points. Deadheads are a function in the model and are compared at each two points. So a text or a cause of one of the two days
--- is one of the other (`same_texts`, `same_causes`), and uniqueness over one day is enough for uniqueness over tables.
+-- two points. The deadheads are told by a list, of which the order is not fixed, so they are compared by their times. So a text or a
+-- cause of one of the two days is one of the other (`same_texts`, `same_causes`), and uniqueness over one day is enough for uniqueness
+-- over tables.
 pub days_alike : (tables : List Table) (day : ℕ) (a b : DayFacts) → IsModelOf tables day a → IsModelOf tables day b → AreAlike a b
 days_alike tables day a b p q =
     let net : Net = net_of needs.All tables in

@@ -159,8 +159,7 @@ module _ (table : Table) where
 
 -- what holds of the version and the number of each row of cells holds of each typed row
 -- The typed rows of a table stand in the order of its rows, each made of the row's cells. So a property of two cells of each row is
--- one of two fields of each typed row; by this what the copied row is asked (its bytes) and what the day is built from (its typed
--- rows) are one.
+-- one of two fields of each typed row; by this a fact of the rows that are copied becomes one of the rows that the day is built from.
 typed_trips : (P : ℕ → ℕ → Type 0) (table : Table) (place : ℕ) (rows : List (List Field)) →
     All (λ row. P (number_of (cell_at table row (schema.key (codes "BASIS_VERSION"))))
     (long_in (Some (cell_at table row (schema.trip_key (codes "FRT_FID")))))) rows →
