@@ -42,6 +42,8 @@ use Rattle.planner_run.proofs.WeekOutcomes.{one_week_text}
 ok_same : {E : Type 0} (xs ys : List Table) (r : Result (List Table) E) → r ≡ Ok xs → r ≡ Ok ys → xs ≡ ys
 ok_same xs ys r p q = let both : Ok xs ≡ Ok ys = sym p ∙ q in cc
 
+-- Files of which the first is of a stage spell one list of tables, file by file: a text has one reading (`reads_given`), and the stage
+-- of the next file is fixed by the bytes of this one, so the induction goes on with the same stage on both sides.
 one_spelling : (stage : Stage) (contents : List (List ℕ)) (xs ys : List (List Table)) → SpellTables stage contents xs →
     SpellTables stage contents ys → xs ≡ ys
 one_spelling stage [] xs ys p q = p ∙ sym q
@@ -80,6 +82,8 @@ text_with net facts version kind day weekday rows trips =
     text (day_tables_of net
     (record facts { kind = record { version = version; kind = kind; day = day; weekday = weekday }; rows = rows; trips = trips }))
 
+-- The text of `day` tells, besides what planning reads (`days_alike`), the date, its weekday and the places of the trips' rows; these
+-- too are fixed by the tables and the day. So one field after another of the one day is replaced by the other's.
 one_day_text : (tables : List Table) (day : ℕ) (xs ys : List ℕ) → IsDayText tables day xs → IsDayText tables day ys → xs ≡ ys
 one_day_text tables day xs ys p q =
     let net : Net = net_of needs.All tables in
