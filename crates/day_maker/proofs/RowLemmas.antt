@@ -8,8 +8,8 @@ rows_append : (xs ys : List (List Cell)) → rows_of (xs ++ ys) ≡ rows_of xs +
 rows_append [] ys = refl
 rows_append (x ∷ xs) ys = ap (λ (rs : List (List Field)). fields_of x ∷ rs) (rows_append xs ys)
 
--- Rows that are put behind others in two steps. A part whose rows are written by two calls, as the course out and the course back, has
--- the rows of both; each call only says what it puts behind the rows that it finds.
+-- Rows that are put behind others in two steps. A part whose rows are written by two calls, as the stop sequence out and the stop
+-- sequence back, has the rows of both; each call only says what it puts behind the rows that it finds.
 pub add_both : {T E : Type 0} (r : Result T E) (xs ys all : List (List Cell)) (old mid new : List (List Field)) → mid ≡ old ++ rows_of xs →
     OnOk r (new ≡ mid ++ rows_of ys) → xs ++ ys ≡ all → OnOk r (new ≡ old ++ rows_of all)
 add_both (Ok x) xs ys all old mid new first second whole =

@@ -68,7 +68,7 @@ joined_fids row (Ok trip) (Ok more) trips small first rest is =
     let e : trip ∷ more ≡ trips = cc in
     subst AreTrips e (All-cons (λ trip. trip.fid ≤ 10 ^ 18) trip more (omega (arith, small, first trip refl)) (rest more refl))
 
--- Trips that were timed have the numbers of their rows: each trip is made with its row's number, whatever its course and times
+-- Trips that were timed have the numbers of their rows: each trip is made with its row's number, whatever its stop sequence and times
 -- (`in_fid`), and a fault gives no trips. So the bound on FRT_FID that was read carries over from rows to trips, which the numbers
 -- of X_FAHRT need.
 timed_fids : (net : Net) (version : ℕ) (rows : List TripRow) (trips : List Trip) → All (λ row. row.fid ≤ 10 ^ 18) rows →

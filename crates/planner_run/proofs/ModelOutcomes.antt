@@ -30,8 +30,8 @@ use Rattle.planner_run.specs.Trips.{IsDayFault}
 use Rattle.planner_run.proofs.Outcomes.{kind_no_fault, kinds_same, none_some, one_day_fault, some_same}
 
 -- Two calendars of one day agree in version and day type (`kinds_same`), the only things by which trips are picked; and picked trips
--- have one order (`one_list`). The weekday, which a day's kind has besides, decides nothing. So the first reason against the day is
--- one, whichever kind it was found with.
+-- have one order (`one_list`). The weekday, which the day type's record has besides, decides nothing. So the first reason against the
+-- day is one, whichever kind it was found with.
 pub rows_same : (net : Net) (day : ℕ) (a b : DayKind) (xs ys : List ℕ) → IsKindOf net day a → IsKindOf net day b →
     AreDayRows net.trips a.version a.kind xs → AreDayRows net.trips b.version b.kind ys → xs ≡ ys
 rows_same net day a b xs ys p q rows rows' =
@@ -85,7 +85,7 @@ kinds_of tables day statuses.WriteFault c = absurd c
 kinds_of tables day (statuses.CheckNo reason) c = absurd c
 kinds_of tables day (statuses.OldPlan reason) c = absurd c
 
--- The causes come one after another: a fault of the tables, else no kind of the day, else a reason against the trips or the settings.
+-- The causes come one after another: a fault of the tables, else no day type, else a reason against the trips or the settings.
 -- Each asks that those before it are absent, so two causes are of one place in this order, and at each place there is one
 -- (`some_same`, `one_day_fault`, `one_fault`).
 same_kinds : (tables : List Table) (day : ℕ) (s t : Status) → Kinds tables day s → Kinds tables day t → s ≡ t

@@ -28,7 +28,7 @@ past_end row from to seconds past = elim (leb_tells (row.start + seconds) 172800
 
 -- Sums that stop past the last second decide whether the trip ends in time: run times and dwells are each added up to at most
 -- 172801, one more than a trip may take. If the whole is within two days, neither sum was cut; if not, the cut sums are still past
--- the end, with any start. So the sums stay small, however long the course, and fault or trip are those of the full sums.
+-- the end, with any start. So the sums stay small, however long the stop sequence, and fault or trip are those of the full sums.
 pub ended_capped : (row : TripRow) (from to : Point) (runs stands : ℕ) →
     ended row from to (min runs 172801 + min stands 172801) ≡ ended row from to (runs + stands)
 ended_capped row from to runs stands = elim (leb_tells (runs + stands) 172800) [
@@ -67,8 +67,8 @@ module _ (time_of : Point × Point → Option ℕ) (dwell_of : Point → ℕ) (r
         (run_seconds_of time_of (links_from first ps) + sum_by dwell_of inner) in
         ap (λ ps. timed_on time_of dwell_of row ps) first_is ∙ subst P (sym last_is) (by_ends first last inner)
 
-    -- The trip of a course from what the code gathers: its first point, its last point, the points between, the run times and the
-    -- dwells. The definition takes a course apart from the front, the code has both ends at hand; `by_ends` shows that they name
+    -- The trip of a stop sequence from what the code gathers: its first point, its last point, the points between, the run times and the
+    -- dwells. The definition takes a stop sequence apart from the front, the code has both ends at hand; `by_ends` shows that they name
     -- the same points. With `ended_capped` the cut sums give the same answer, so `time_trip` is as defined.
     pub course_end : (seconds stands : ℕ) (result : Result Trip TripFault)
         → Ok seconds ≡ runs_if (first_missing time_of (links_from first points))

@@ -21,9 +21,9 @@ points_more key row rows =
       | false ↦ refl
     ]
 
--- One row passed: the course gathered for a key, before the points of the rows left, is the whole course of that key. It is kept
--- for all keys at once, since a row lengthens the course of its own key (`course_grows`) and the courses of others are as they
--- were. When no row is left, the index gives each line's variant its points in order, by one pass over the rows.
+-- One row passed: the stop sequence gathered for a key, before the points of the rows left, is the whole stop sequence of that key.
+-- It is kept for all keys at once, since a row lengthens the stop sequence of its own key (`course_grows`) and the stop sequences of
+-- others are as they were. When no row is left, the index gives each line's variant its points in order, by one pass over the rows.
 pub grouped : {S : Type 0} (old new : IndexMap LineKey (List Point) S) (row : StopRow) (rows rest : List StopRow)
     (whole : LineKey → List Point)
     → rows ≡ row ∷ rest → CourseGrows row old new

@@ -31,9 +31,9 @@ points_few key (row ∷ rows) = by (line_key_eq (stop_key_of row) key) (points_f
     by true few = omega (arith, few)
     by false few = omega (arith, few)
 
--- A course has no more points than there are rows of stop sequences: putting rows in their order keeps their number, by insertion
--- one by one, and a course takes some of them. There are fewer than 2 ^ 32 rows (`ranges_of`), so the length of a course is a sum
--- of fewer than 2 ^ 32 terms, which keeps it within 64 bits.
+-- A stop sequence has no more points than there are rows of stop sequences: putting rows in their order keeps their number, by
+-- insertion one by one, and a stop sequence takes some of them. There are fewer than 2 ^ 32 rows (`ranges_of`), so the length of a
+-- stop sequence is a sum of fewer than 2 ^ 32 terms, which keeps it within 64 bits.
 pub course_few : (net : Net) (version line : ℕ) (variant : List ℕ) → HasRanges net → length (course_on net version line variant) < 2 ^ 32
 course_few net version line variant ranges =
     let stops = ranges.few_stops in

@@ -171,8 +171,8 @@ rises_from (row ∷ rows) sorted = (
 )
 
 -- The library's stable sort gives the rows in the order that the definition reaches by insertion: both rise and both keep the order
--- within each number, so they are one list (`one_order`). Thus the points of a course stand by LI_LFD_NR, and where a number stands
--- twice in the order of the rows, whatever the sort does inside.
+-- within each number, so they are one list (`one_order`). Thus the points of a stop sequence stand by LI_LFD_NR, and where a number
+-- stands twice in the order of the rows, whatever the sort does inside.
 pub sorted_stops : (rows sorted : List StopRow) → IsNonDecreasingBy (λ row. row.number) sorted →
     IsStableByKey (λ row. row.number) nat_cmp rows sorted → sorted ≡ in_order rows
 sorted_stops rows sorted rises stable =
