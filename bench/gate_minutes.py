@@ -5,7 +5,8 @@
 
 It starts `rt ci` with the words given at the top of the repository, looks at the processes below it every few seconds, and sums the processor
 time of each by the crate that it names and by what it does: the proof of the crate, that of its tests, or a wrong body (a check in a folder
-outside the repository). What begins and ends between two looks is missed, so the sums are a little low. The status is that of `rt ci`.
+outside the repository). What begins and ends between two looks is missed, so the sums are a little low. The status is that of `rt ci`. With a
+page the table so far is written each minute, so that a run that is cut off tells too.
 """
 
 import argparse
@@ -57,33 +58,44 @@ def lines_of(crate):
     return count
 
 
-def main():
-    parser = argparse.ArgumentParser(description=__doc__.splitlines()[0])
-    parser.add_argument("--every", type=float, default=2.0)
-    parser.add_argument("--page")
-    parser.add_argument("words", nargs="*")
-    given = parser.parse_args()
-    seen, start = {}, time.monotonic()
-    gate = subprocess.Popen(["rt", "ci"] + given.words, cwd=TOP, start_new_session=True)
-    while gate.poll() is None:
-        for key, crate, kind, seconds in processes(gate.pid):
-            seen[key] = (crate, kind, max(seconds, seen.get(key, (crate, kind, 0.0))[2]))
-        time.sleep(given.every)
+def table_of(seen, start):
+    """The table of what was seen so far: a row for each crate, the dearest first."""
     sums = collections.defaultdict(collections.Counter)
     for crate, kind, seconds in seen.values():
         sums[crate][kind] += seconds
     lines = ["| crate | lines | proof min | tests min | edits min | all | min per 1,000 lines |", "|---|--:|--:|--:|--:|--:|--:|"]
     for crate, kinds in sorted(sums.items(), key=lambda item: -sum(item[1].values())):
         count, whole = lines_of(crate), sum(kinds.values()) / 60
-        lines.append(f"| {crate} | {count} | " + " | ".join(f"{kinds[kind] / 60:.1f}" for kind in ("proof", "tests", "edits")) + f" | {whole:.1f} | {1000 * whole / max(count, 1):.1f} |")
-    whole = sum(sum(kinds.values()) for kinds in sums.values()) / 60
-    lines.append(f"| all | | | | | {whole:.0f} | |")
+        parts = " | ".join(f"{kinds[kind] / 60:.1f}" for kind in ("proof", "tests", "edits"))
+        lines.append(f"| {crate} | {count} | {parts} | {whole:.1f} | {1000 * whole / max(count, 1):.1f} |")
+    parts = " | ".join(f"{sum(kinds[kind] for kinds in sums.values()) / 60:.0f}" for kind in ("proof", "tests", "edits"))
+    lines.append(f"| all | | {parts} | {sum(sum(kinds.values()) for kinds in sums.values()) / 60:.0f} | |")
     lines.append("")
     lines.append(f"Wall minutes: {(time.monotonic() - start) / 60:.0f}, on {os.cpu_count()} cores.")
-    print("\n".join(lines))
+    return "\n".join(lines) + "\n"
+
+
+def main():
+    parser = argparse.ArgumentParser(description=__doc__.splitlines()[0])
+    parser.add_argument("--every", type=float, default=2.0)
+    parser.add_argument("--page")
+    parser.add_argument("words", nargs="*")
+    given = parser.parse_args()
+    seen, start, written = {}, time.monotonic(), 0.0
+    gate = subprocess.Popen(["rt", "ci"] + given.words, cwd=TOP, start_new_session=True)
+    while gate.poll() is None:
+        for key, crate, kind, seconds in processes(gate.pid):
+            seen[key] = (crate, kind, max(seconds, seen.get(key, (crate, kind, 0.0))[2]))
+        # (now and then also on the way, for a run that is cut off)
+        if given.page and time.monotonic() - written > 60:
+            written = time.monotonic()
+            with open(given.page, "w") as page:
+                page.write(table_of(seen, start))
+        time.sleep(given.every)
+    print(table_of(seen, start), end="")
     if given.page:
         with open(given.page, "w") as page:
-            page.write("\n".join(lines) + "\n")
+            page.write(table_of(seen, start))
     sys.exit(gate.returncode)
 
 
