@@ -1,7 +1,7 @@
 -- The marks of the items that have begun say which have.
 use Rattle.std.proofs.Common.{◌≡◌, ◌≢◌, ◌==◌, ℕ, ◌+◌, ◌<◌, Bool, true, false, cond, not, zero, suc, List, [], ◌∷◌, length, get_or, set, replicate, refl, sym, ap, subst, ◌∙◌, arith}
 use Rattle.std.proofs.lemmas.Bool.Decides.{nat_tests}
-use Rattle.std.proofs.lemmas.List.{length-set, get_or-set_same, get_or-set_other}
+use Rattle.std.proofs.lemmas.List.{length-replicate, length-set, get_or-set_same, get_or-set_other}
 use Rattle.cover_core.specs.Plans.{times}
 use Rattle.cover_core.proofs.Parts.{times-append}
 use Rattle.cover_rest.specs.declared.begun.Begun.{Begun}
@@ -66,14 +66,10 @@ unmarked (suc n) (suc i) = unmarked n i
 
 begun-at : (heads : List Begun) (n i : ℕ) → i < n → get_or (all_marked heads (replicate n false)) i false ≡ has_begun heads i
 begun-at heads n i h =
-    all_marked-at heads (replicate n false) i (subst (λ m. i < m) (sym (length-replicate n)) h)
+    all_marked-at heads (replicate n false) i (subst (λ m. i < m) (sym (length-replicate n false)) h)
     ∙ ap (λ b. cond (times i (joined (begun_lists heads)) == 0) b true) (unmarked n i)
     ∙ flip (times i (joined (begun_lists heads)) == 0)
   where
-    length-replicate : (n : ℕ) → length (replicate n false) ≡ n
-    length-replicate zero = refl
-    length-replicate (suc n) = ap (λ m. suc m) (length-replicate n)
-
     flip : (b : Bool) → cond b false true ≡ not b
     flip true = refl
     flip false = refl
@@ -96,22 +92,14 @@ free-lists heads k (m ∷ ms) same =
 -- the items that are not marked are those in no head
 pub free-is : (heads : List Begun) (n : ℕ) → free_of 0 (all_marked heads (replicate n false)) ≡ free_lists heads n 0
 free-is heads n =
-    let long : length (all_marked heads (replicate n false)) ≡ n = length-all_marked heads (replicate n false) ∙ length-replicate n in
+    let long : length (all_marked heads (replicate n false)) ≡ n = length-all_marked heads (replicate n false) ∙ length-replicate n false in
     free-lists heads 0 (all_marked heads (replicate n false)) (λ i h. begun-at heads n i (subst (λ m. i < m) long h)
     ∙ ap (has_begun heads) (none i))
     ∙ ap (λ m. free_lists heads m 0) long
   where
-    length-replicate : (n : ℕ) → length (replicate n false) ≡ n
-    length-replicate zero = refl
-    length-replicate (suc n) = ap (λ m. suc m) (length-replicate n)
-
     none : (i : ℕ) → i ≡ 0 + i
     none i = omega arith
 
 -- there is a mark for each item
 pub length-begun : (heads : List Begun) (n : ℕ) → length (all_marked heads (replicate n false)) ≡ n
-length-begun heads n = length-all_marked heads (replicate n false) ∙ length-replicate n
-  where
-    length-replicate : (n : ℕ) → length (replicate n false) ≡ n
-    length-replicate zero = refl
-    length-replicate (suc n) = ap (λ m. suc m) (length-replicate n)
+length-begun heads n = length-all_marked heads (replicate n false) ∙ length-replicate n false

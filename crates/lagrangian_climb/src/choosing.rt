@@ -11,7 +11,7 @@ ghost use Rattle.lagrangian_climb.specs.Choices.{gains_at, key_cmp, is_before, s
 use crate::key::Key;
 use crate::playing::in_play;
 use cover_core::{Column, Prices, value};
-use plan_core::{Memory, Seq};
+use plan_core::{Memory, Seq, zeros};
 use std::alloc::Global;
 use std::cmp::Ordering;
 
@@ -114,10 +114,7 @@ fn walk(choice: &mut Choice, counts: &mut Seq<u32>, caps: &[u32], key: Key) -> R
 pub(crate) fn zero_counts(alloc: Global, len: usize) -> Result<Seq<u32>, Memory>
     ensures { IfOk result (AreZeroCounts len) }
 {
-    match vec![in alloc; 0; len] {
-        Ok(counts) => Ok(Seq::from_vec(counts)),
-        Err(_) => Err(Memory),
-    }
+    zeros(alloc, len)
 }
 
 /// A number of 0 for each of so many.
