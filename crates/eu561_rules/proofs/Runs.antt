@@ -1,6 +1,7 @@
 -- A tally over all drives of a duty, and lawfulness as a test.
 use Rattle.std.proofs.Common.{◌≡◌, ℕ, ◌+◌, ◌-◌, ◌<◌, ◌≤◌, inl, inr, Bool, true, false, cond, ◌||◌, ◌&&◌, zero, suc, List, [], ◌∷◌, ◌++◌, length, drop, refl, sym, ap, subst, ◌∙◌, arith, append_assoc, append-nil}
-use Rattle.std.proofs.lemmas.Bool.{cases_lt}
+use Rattle.std.proofs.lemmas.Bool.{cases_lt, and_from, and_parts, not_from_false, not-true}
+pub use Rattle.std.proofs.lemmas.Bool.{and_from as and_true, and_parts as both_true}
 use Rattle.std.proofs.lemmas.Bool.Decides.{nat_tests}
 use Rattle.std.specs.Prelude.{nat_le, nat_lt, is_none, not, Option, Some, None}
 use Rattle.eu561_rules.specs.declared.rules.Drive.{Drive}
@@ -12,18 +13,10 @@ use Rattle.eu561_rules.specs.Lawful.{all_below, is_break_free, keeps_article7, i
 use Rattle.eu561_rules.proofs.Tallies.{either, StandsFor-after, keeps-all, spread_limit-is}
 use Rattle.eu561_rules.proofs.Breaks.{last-exceeds}
 
-pub both_true : (a b : Bool) → (a && b) ≡ true → (a ≡ true) × (b ≡ true)
-both_true true b e = (refl, e)
-both_true false b e = absurd (cc)
-
-pub and_true : (a b : Bool) → a ≡ true → b ≡ true → (a && b) ≡ true
-and_true true b h k = k
-and_true false b h k = absurd (cc)
-
 all_below-true : (n : ℕ) (p : ℕ → Bool) → all_below n p ≡ true → (k : ℕ) → k < n → p k ≡ true
 all_below-true zero p e k h = absurd (omega arith)
 all_below-true (suc n) p e k h =
-    let (low, last) = both_true (all_below n p) (p n) e in
+    let (low, last) = and_parts (all_below n p) (p n) e in
     elim (cases_lt k n) [
       | inl below ↦ all_below-true n p low k below
       | inr above ↦ let same : n ≡ k = omega arith in ap p (sym same) ∙ last
@@ -31,7 +24,7 @@ all_below-true (suc n) p e k h =
 
 all_below-onto : (n : ℕ) (p : ℕ → Bool) → ((k : ℕ) → k < n → p k ≡ true) → all_below n p ≡ true
 all_below-onto zero p h = refl
-all_below-onto (suc n) p h = and_true (all_below n p) (p n) (all_below-onto n p (λ k below. h k (omega arith))) (h n (omega arith))
+all_below-onto (suc n) p h = and_from (all_below n p) (p n) (all_below-onto n p (λ k below. h k (omega arith))) (h n (omega arith))
 
 either_true : (a b : Bool) → (a ≡ true → b ≡ true) → (not a || b) ≡ true
 either_true true b h = h refl
@@ -41,14 +34,6 @@ from-either : (a b : Bool) → (not a || b) ≡ true → a ≡ true → b ≡ tr
 from-either true b e h = e
 from-either false b e h = absurd (cc)
 
-not-false : (b : Bool) → b ≡ false → not b ≡ true
-not-false true e = absurd (cc)
-not-false false e = refl
-
-from-not : (b : Bool) → not b ≡ true → b ≡ false
-from-not true e = absurd (cc)
-from-not false e = refl
-
 pub le-true : (a b : ℕ) → a ≤ b → nat_le a b ≡ true
 le-true a b h = grind (arith, nat_tests)
 
@@ -57,7 +42,7 @@ true-le a b h = grind (arith, nat_tests)
 
 free-test : (drives : List Drive) (i j : ℕ) → BreakFree drives i j → is_break_free drives i j ≡ true
 free-test drives i j free = all_below-onto j _ (λ k below. either_true (nat_le i k) (not (is_full_break drives (k + 1))) (λ from.
-    let order : i ≤ k = true-le i k from in not-false _ (free (k + 1) (omega arith) (omega arith))))
+    let order : i ≤ k = true-le i k from in not_from_false _ (free (k + 1) (omega arith) (omega arith))))
 
 test-free : (drives : List Drive) (i j : ℕ) → is_break_free drives i j ≡ true → BreakFree drives i j
 test-free drives i j e zero above below = absurd (omega arith)
@@ -67,7 +52,7 @@ test-free drives i j e (suc k) above below =
     let one : not (is_full_break drives (k + 1)) ≡ true = from-either (nat_le i k) _ (all_below-true j _ e k inside) from in
     let next : k + 1 ≡ suc k = omega arith in
     let P : ℕ → Type 0 = λ n. is_full_break drives n ≡ false in
-    subst P next (from-not _ one)
+    subst P next (not-true _ one)
 
 -- Article 7 as a test over all pairs of drives says what the article's definition says: for each two drives with no full break
 -- between them the driving within keeps the limit. The test for "no full break between" is the definition, too (`free-test`,
@@ -187,8 +172,8 @@ over-none limits drives first (Some e) keeps c = absurd (no-excess limits drives
 pub lawful-from : (t : Summary) (drives : List Drive) (time : ℕ) → StandsFor t drives → is_lawful t.limits drives time ≡ true →
     IsFine t × (time ≤ cond t.long t.limits.long_spread t.limits.spread)
 lawful-from t drives time s e =
-    let (low, last) = both_true _ _ e in
-    let (day, seven) = both_true _ _ low in
+    let (low, last) = and_parts _ _ e in
+    let (day, seven) = and_parts _ _ low in
     let keeps = keeps-from t.limits drives seven in
     let inside = s.first.there in
     let total : driving_of drives ≤ t.limits.day = true-le _ _ day in
@@ -214,17 +199,17 @@ lawful-onto t drives time s f h =
     let day : nat_le (driving_of drives) t.limits.day ≡ true = le-true _ _ (omega (arith, s.total, f.total)) in
     let seven = keeps-onto t.limits drives (keeps-all t drives s f.none f.driving) in
     let spread : nat_le time (spread_limit t.limits drives) ≡ true = le-true _ _ (let limit = spread_limit-is t drives s in rw limit h) in
-    and_true _ _ (and_true _ _ day seven) spread
+    and_from _ _ (and_from _ _ day seven) spread
 
 -- the test is the definition
 pub lawful-test : (limits : Limits) (drives : List Drive) (spread : ℕ) → IsLawful limits drives spread →
     is_lawful limits drives spread ≡ true
 lawful-test limits drives spread l =
-    and_true _ _ (and_true _ _ (le-true _ _ l.article6) (keeps-onto limits drives l.article7)) (le-true _ _ l.article8)
+    and_from _ _ (and_from _ _ (le-true _ _ l.article6) (keeps-onto limits drives l.article7)) (le-true _ _ l.article8)
 
 pub test-lawful : (limits : Limits) (drives : List Drive) (spread : ℕ) → is_lawful limits drives spread ≡ true →
     IsLawful limits drives spread
 test-lawful limits drives spread e =
-    let (low, last) = both_true _ _ e in
-    let (day, seven) = both_true _ _ low in
+    let (low, last) = and_parts _ _ e in
+    let (day, seven) = and_parts _ _ low in
     record { article6 = true-le _ _ day; article7 = keeps-from limits drives seven; article8 = true-le _ _ last }

@@ -1,11 +1,11 @@
 -- Full breaks in the words of article 7.
 use Rattle.std.proofs.Common.{◌≡◌, ℕ, ◌<◌, ◌≤◌, ◌⊎◌, inl, inr, Bool, true, false, cond, ◌||◌, zero, suc, List, [], ◌∷◌, length, take, get_or, refl, sym, ap, subst, ◌∙◌, arith}
-use Rattle.std.proofs.lemmas.Bool.{cases_lt}
+use Rattle.std.proofs.lemmas.Bool.{cases_lt, and_from, and_parts}
 use Rattle.std.specs.Prelude.{nat_le}
 use Rattle.eu561_rules.specs.declared.rules.Drive.{Drive}
 use Rattle.eu561_rules.specs.Duty.{completes_break, has_quarter, is_full_break_after, is_full_break, pause_before, IsQuarterFor, IsBreakInWords}
 use Rattle.eu561_rules.specs.Summary.{latest_first}
-use Rattle.eu561_rules.proofs.Runs.{both_true, and_true, le-true, true-le}
+use Rattle.eu561_rules.proofs.Runs.{le-true, true-le}
 
 -- whether the drives before a place leave a quarter of an hour behind
 abbrev pub quarter_at : List Drive → ℕ → Bool
@@ -110,7 +110,7 @@ words-from drives place h e =
     elim (one_true _ _ (sym (break-at drives place h) ∙ e)) [
       | inl whole ↦ inl (true-le _ _ whole)
       | inr part ↦
-          let (half, quarter) = both_true _ _ part in
+          let (half, quarter) = and_parts _ _ part in
           inr (true-le _ _ half, quarter-from drives place (omega arith) quarter)
     ]
 
@@ -118,7 +118,7 @@ pub words-onto : (drives : List Drive) (place : ℕ) → place < length drives �
 words-onto drives place h w =
     break-at drives place h ∙ or_true _ _ (elim w [
       | inl whole ↦ inl (le-true _ _ whole)
-      | inr part ↦ inr (and_true _ _ (le-true _ _ part.0) (quarter-onto drives place part.1.0 (omega arith) part.1.1))
+      | inr part ↦ inr (and_from _ _ (le-true _ _ part.0) (quarter-onto drives place part.1.0 (omega arith) part.1.1))
     ])
 
 pub pause-is : (drives : List Drive) (place : ℕ) (d : Drive) → place < length drives →
