@@ -19,6 +19,7 @@ use Rattle.cover_core.specs.FirstLeast.{backward_cmp, IsNotAfter, InGroup, IsFir
 use Rattle.cover_core.specs.Best.{rising_from, is_in_group, column_of, column_cmp, earlier, earliest, group_columns, best_of, within}
 use Rattle.cover_core.specs.Laws.{BestIsFirstLeast, WithinIsLimited}
 use Rattle.cover_core.proofs.Order.{backward_cmp_total}
+use Rattle.cover_core.proofs.Parts.{Rises-tail}
 
 -- what is in a list
 abbrev pub IsIn : {X : Type 0} → X → List X → Type 0
@@ -73,10 +74,6 @@ StartsFrom-tail : (x : ℕ) (xs : List ℕ) → Rises (x ∷ xs) → StartsFrom 
 StartsFrom-tail x [] r = tt
 StartsFrom-tail x (y ∷ ys) r = let step = r.0 in omega arith
 
-Rises-rest : (x : ℕ) (xs : List ℕ) → Rises (x ∷ xs) → Rises xs
-Rises-rest x [] r = tt
-Rises-rest x (y ∷ ys) r = r.1
-
 -- Each list that rises is among them, by induction over the items that are left, where the list starts at k or later: it begins
 -- with k, and its rest is among the lists from k + 1 on, or it does not begin with k and is itself among these. No code makes these
 -- lists, which are far too many; they make the best column a function of the problem, and this lemma says that the function leaves
@@ -94,7 +91,7 @@ rising_from-has (suc n) k (x ∷ xs) r s b =
     elim (cases_eq k x) [
       | inl same ↦
           let starts : StartsFrom (suc k) xs = rw same (StartsFrom-tail x xs r) in
-          let rest = rising_from-has n (suc k) xs (Rises-rest x xs r) starts below.1 in
+          let rest = rising_from-has n (suc k) xs (Rises-tail x xs r) starts below.1 in
           let Q : ℕ → Type 0 = λ y. IsIn (y ∷ xs) (rising_from (suc n) k) in
           subst Q same (IsIn-left (k ∷ xs) (map (λ (list : List ℕ). k ∷ list) (rising_from n (suc k))) (rising_from n (suc k))
           (IsIn-map (λ (list : List ℕ). k ∷ list) xs (rising_from n (suc k)) rest))

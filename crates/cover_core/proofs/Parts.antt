@@ -100,7 +100,7 @@ Rises-above j x (y ∷ ys) r h =
     let test : (j == y) ≡ false = grind (arith, nat_tests) in
     rw test (omega arith)
 
-Rises-tail : (x : ℕ) (xs : List ℕ) → Rises (x ∷ xs) → Rises xs
+pub Rises-tail : (x : ℕ) (xs : List ℕ) → Rises (x ∷ xs) → Rises xs
 Rises-tail x [] r = tt
 Rises-tail x (y ∷ ys) r = r.1
 
