@@ -7,8 +7,9 @@ use Rattle.cover_core.specs.declared.Column.{Column}
 use Rattle.cover_core.specs.Cover.{Problem, Rises, AllBelow}
 use Rattle.cover_core.specs.Plans.{HasListedColumns, IsColumn, AreColumns}
 use Rattle.cover_core.specs.Parts.{no_column, column_at}
-use Rattle.cover_core.proofs.Parts.{AreColumns-get}
+use Rattle.cover_core.proofs.Parts.{AreColumns-get, Rises-tail}
 use Rattle.cover_core.proofs.Values.{Rises-length}
+use Rattle.cover_core.proofs.Duality.{AllBelow-append}
 use Rattle.tail_exchange.specs.Exchange.{worth_of}
 
 -- the element of a plan is the column there
@@ -32,23 +33,10 @@ sound-at p plan place listed are h =
     let facts = listed c.class c.items c.worth is.1 in
     record { class = is.0; rises = facts.1; items = facts.2; few = Rises-length p.items c.items facts.1 facts.2 }
 
-pub AllBelow-take : (n k : ℕ) (xs : List ℕ) → AllBelow n xs → AllBelow n (take k xs)
-AllBelow-take n zero xs h = tt
-AllBelow-take n (suc k) [] h = tt
-AllBelow-take n (suc k) (x ∷ xs) h = (h.0, AllBelow-take n k xs h.1)
-
 pub AllBelow-drop : (n k : ℕ) (xs : List ℕ) → AllBelow n xs → AllBelow n (drop k xs)
 AllBelow-drop n zero xs h = h
 AllBelow-drop n (suc k) [] h = tt
 AllBelow-drop n (suc k) (x ∷ xs) h = AllBelow-drop n k xs h.1
-
-pub AllBelow-append : (n : ℕ) (xs ys : List ℕ) → AllBelow n xs → AllBelow n ys → AllBelow n (xs ++ ys)
-AllBelow-append n [] ys h k = k
-AllBelow-append n (x ∷ xs) ys h k = (h.0, AllBelow-append n xs ys h.1 k)
-
-Rises-tail : (x : ℕ) (xs : List ℕ) → Rises (x ∷ xs) → Rises xs
-Rises-tail x [] r = tt
-Rises-tail x (y ∷ ys) r = r.1
 
 pub Rises-take : (k : ℕ) (xs : List ℕ) → Rises xs → Rises (take k xs)
 Rises-take zero xs r = tt

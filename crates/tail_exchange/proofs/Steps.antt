@@ -8,6 +8,7 @@ use Rattle.std.proofs.lemmas.Int.{ints, by_lt_z}
 use Rattle.rayon.specs.Lists.{IsLeast}
 use Rattle.tail_exchange.specs.Order.{candidate_cmp, rank}
 use Rattle.std.proofs.lemmas.List.Elements.{Contains-append_cases}
+use Rattle.std.proofs.lemmas.Bool.{and_parts}
 use Rattle.cover_core.specs.declared.Column.{Column}
 use Rattle.cover_core.specs.Cover.{Problem}
 use Rattle.cover_core.specs.Plans.{HasListedColumns, cost, IsPlan}
@@ -43,10 +44,6 @@ range-in a (suc n) x h =
     (λ (there : Contains (range_with_len (a + 1) n) x). let r = range-in (a + 1) n x there in let l = r.0 in let u =
     r.1 in let low : a ≤ x = omega arith in let high : x < a + suc n = omega arith in (low, high))
     (Contains-cons_cases a (range_with_len (a + 1) n) x h)
-
-and-first : (a b : Bool) → (a && b) ≡ true → a ≡ true
-and-first true b e = refl
-and-first false b e = e
 
 -- of a step that stands where both lists have a worth
 pub step_for-in : (P : Candidate → Type 0) (before : ℕ) (kind : Kind) (a b i j : ℕ) (o q : Option ℕ) (c : Candidate) →
@@ -141,7 +138,7 @@ module _ (p : Problem) (none : NoneOfNothing p) (columns : List Column) (plan : 
       (worth_of p (column_at columns a).class (take i (column_at columns a).items)) (worth_of p k (drop i (column_at columns a).items))) [])
       c → Good c) [
         | true ↦ λ test h.
-            let room = and-first (has_place p columns k) (not ((i == 0) && (k == (column_at columns a).class))) test in
+            let room = (and_parts (has_place p columns k) (not ((i == 0) && (k == (column_at columns a).class))) test).0 in
             step_for-good (column_at columns a).worth Cut a 0 i k
             (worth_of p (column_at columns a).class (take i (column_at columns a).items))
             (worth_of p k (drop i (column_at columns a).items)) c

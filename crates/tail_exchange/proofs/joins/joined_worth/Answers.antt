@@ -1,6 +1,7 @@
 use Rattle.std.proofs.Common.{◌≡◌, ◌≤◌, ◌+◌, ◌++◌, List, ℕ, length, sym, ap, ◌∙◌, subst, arith}
 use Rattle.cover_core.specs.Cover.{AllBelow}
-use Rattle.tail_exchange.proofs.Lists.{AllBelow-append, both-few}
+use Rattle.cover_core.proofs.Duality.{AllBelow-append}
+use Rattle.tail_exchange.proofs.Lists.{both-few}
 use Rattle.tail_exchange.proofs.joins.joined_worth.Goals as goal
 
 pub append-requires : goal.append-requires

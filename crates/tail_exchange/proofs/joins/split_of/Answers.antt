@@ -1,7 +1,8 @@
 use Rattle.std.proofs.Common.{List, ℕ, take, drop, sym, ap, ◌∙◌, subst}
 use Rattle.cover_core.specs.Cover.{Rises, AllBelow}
 use Rattle.cover_core.specs.declared.Column.{Column}
-use Rattle.tail_exchange.proofs.Lists.{AllBelow-take, AllBelow-drop, Rises-take, Rises-drop, sound-at}
+use Rattle.cover_core.proofs.Values.{AllBelow-take}
+use Rattle.tail_exchange.proofs.Lists.{AllBelow-drop, Rises-take, Rises-drop, sound-at}
 use Rattle.tail_exchange.proofs.joins.split_of.Goals as goal
 
 pub returns-clause-front_rises : goal.returns-clause-front_rises

@@ -1,6 +1,6 @@
 use Rattle.std.proofs.Common.{◌++◌, List, ℕ, sym, ap, ◌∙◌, subst}
 use Rattle.cover_core.specs.Cover.{AllBelow}
-use Rattle.tail_exchange.proofs.Lists.{AllBelow-append}
+use Rattle.cover_core.proofs.Duality.{AllBelow-append}
 use Rattle.tail_exchange.proofs.moves.made_of_two.Goals as goal
 
 pub column_of_list-requires-clause-items : goal.column_of_list-requires-clause-items
