@@ -3,6 +3,7 @@ use Rattle.std.proofs.Common.{◌≡◌, ℕ, ◌+◌, ◌≤◌, ◌<◌, Bool,
 use Rattle.std.specs.List.{list_all}
 use Rattle.std.proofs.lemmas.Bool.{false≢true}
 use Rattle.std.proofs.lemmas.Bool.Decides.{nat_tests}
+use Rattle.std.proofs.Math.Bool.{and-true}
 use Rattle.vdv451_text.specs.declared.fault.TextKind.{TextKind}
 use Rattle.vdv451_text.specs.declared.fault.TextKind.TheVariants as kinds
 use Rattle.vdv451_text.specs.declared.few.FieldKind.{FieldKind}
@@ -15,10 +16,6 @@ use Rattle.vdv451_text.specs.Machine.{outcome}
 use Rattle.vdv451_text.specs.RowView.{count_of, row_end}
 use Rattle.vdv451_text.proofs.FewLemmas.{broken, wrong, crowded, few_fault}
 
-and_true : (t : Bool) → t ≡ (t && true)
-and_true true = refl
-and_true false = refl
-
 -- Kinds whose last field is as the others. This file is about lines with more fields than may stand there: the code keeps none of
 -- the further ones, but looks at each and answers the first of two kinds, a wrong field before a wrong number. The definition tests
 -- all fields and then counts them, so the kinds are the same if "all right" says the same to both, which this is for names, formats
@@ -26,7 +23,7 @@ and_true false = refl
 right_all : (kind : FieldKind) → ((p : Piece) → may_end kind p ≡ may_stand kind p) → (ps : List Piece) →
     all_right kind ps ≡ list_all (may_stand kind) ps
 right_all kind same [] = refl
-right_all kind same (p ∷ []) = same p ∙ and_true (may_stand kind p)
+right_all kind same (p ∷ []) = same p ∙ sym (and-true (may_stand kind p))
 right_all kind same (p ∷ q ∷ ps) = ap (λ t. may_stand kind p && t) (right_all kind same (q ∷ ps))
 
 -- `tbl`
@@ -51,7 +48,7 @@ columns_right [] = refl
 columns_right (p ∷ []) = by_test (is_void p) where
   by_test : (t : Bool) → (t || may_stand kind_of.ColumnName p) ≡ list_all (may_stand kind_of.ColumnName) (if t then [] else p ∷ [])
   by_test true = refl
-  by_test false = and_true (may_stand kind_of.ColumnName p)
+  by_test false = sym (and-true (may_stand kind_of.ColumnName p))
 columns_right (p ∷ q ∷ ps) = ap (λ t. may_stand kind_of.ColumnName p && t) (columns_right (q ∷ ps))
 
 one_dropped : (ps : List Piece) → length ps ≤ length (without_void ps) + 1

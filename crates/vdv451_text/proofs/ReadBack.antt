@@ -5,6 +5,7 @@ use Rattle.std.specs.Fmt.{decimal}
 use Rattle.std.specs.List.{list_all, flat_map, zip}
 use Rattle.std.proofs.lemmas.List.{append-nil}
 use Rattle.std.proofs.lemmas.Bool.Decides.{nat_tests}
+use Rattle.std.proofs.lemmas.Bool.{and_parts, not-true}
 use Rattle.vdv451_text.specs.declared.table.Head.{Head}
 use Rattle.vdv451_text.specs.declared.table.Field.{Field}
 use Rattle.vdv451_text.specs.declared.table.Table.{Table}
@@ -14,7 +15,6 @@ use Rattle.vdv451_text.specs.Fields.{is_format, without_void, value_of}
 use Rattle.vdv451_text.specs.Plain.{is_plain_name, is_plain_column, are_plain_columns, is_plain_field, is_plain_row, is_plain_table, are_plain, field_text, row_text, table_text, header_text, text, is_sized_field, is_sized_table, are_sized}
 use Rattle.vdv451_text.specs.Grammar.{name_of, format_of, values_of, with_value, Names, NamesColumns, FormatsColumns, SpellsRow, SpellsRows, Counts, SpellsTable, Spells}
 use Rattle.vdv451_text.specs.Machine.{State, Open, Ended, start, run, run_lines, goes_on}
-use Rattle.vdv451_text.proofs.RightLines.{both_true}
 use Rattle.vdv451_text.proofs.LineFields.{behind, spaced, AllRead, has_no_feed, fields_behind, no_feed_spaced, bare_reads, tbl_line, atr_line, frm_line, rec_line, end_line, eof_line}
 use Rattle.vdv451_text.proofs.Decimals.{decimal_counts, decimal_bare}
 use Rattle.vdv451_text.proofs.FieldsBack.{name_reads, format_reads, field_reads}
@@ -126,17 +126,13 @@ return_goes (b ∷ c ∷ line) = ap (λ t. b ∷ t) (return_goes (c ∷ line))
 cut_line : (line rest : List ℕ) → has_no_feed line ≡ true → cut_at_feeds (line ++ (crlf ++ rest)) ≡ (line ++ 13 ∷ []) ∷ cut_at_feeds rest
 cut_line [] rest h = refl
 cut_line (b ∷ line) rest h =
-    let w = both_true (not (b == 10)) (has_no_feed line) h in
-    rw (not_true (b == 10) w.0, cut_line line rest w.1) refl
-  where
-    not_true : (b : Bool) → not b ≡ true → b ≡ false
-    not_true true e = absurd cc
-    not_true false e = refl
+    let w = and_parts (not (b == 10)) (has_no_feed line) h in
+    rw (not-true (b == 10) w.0, cut_line line rest w.1) refl
 
 cut_lines : (lines : List (List ℕ)) → list_all has_no_feed lines ≡ true → map without_return (cut_at_feeds (ended_lines lines)) ≡ lines
 cut_lines [] h = refl
 cut_lines (line ∷ lines) h =
-    let w = both_true (has_no_feed line) (list_all has_no_feed lines) h in
+    let w = and_parts (has_no_feed line) (list_all has_no_feed lines) h in
     ap (map without_return) (cut_line line (ended_lines lines) w.0)
     ∙ ap (λ (t : List ℕ). t ∷ map without_return (cut_at_feeds (ended_lines lines))) (return_goes line)
     ∙ ap (λ (t : List (List ℕ)). line ∷ t) (cut_lines lines w.1)
@@ -164,12 +160,12 @@ names_read : (columns : List Head) → list_all is_plain_column columns ≡ true
     × (without_void (map (λ (c : Head). Bare c.name) columns) ≡ map (λ (c : Head). Bare c.name) columns)
 names_read [] h = (tt, refl, refl)
 names_read (c ∷ []) h =
-    let w = both_true (is_plain_name c.name) (is_format c.format) (both_true (is_plain_column c) true h).0 in
+    let w = and_parts (is_plain_name c.name) (is_format c.format) (and_parts (is_plain_column c) true h).0 in
     let n = name_reads c.name w.0 in
     ((n.0, tt), ap (λ (o : Option (List ℕ)). all_some (o ∷ [])) n.1, ap (λ (t : Bool). if t then [] else Bare c.name ∷ []) n.2)
 names_read (c ∷ d ∷ columns) h =
-    let w = both_true (is_plain_column c) (list_all is_plain_column (d ∷ columns)) h in
-    let n = name_reads c.name (both_true (is_plain_name c.name) (is_format c.format) w.0).0 in
+    let w = and_parts (is_plain_column c) (list_all is_plain_column (d ∷ columns)) h in
+    let n = name_reads c.name (and_parts (is_plain_name c.name) (is_format c.format) w.0).0 in
     let ih = names_read (d ∷ columns) w.1 in (
       (n.0, ih.0),
       all_some_more (name_of (Bare c.name)) c.name (map name_of (map (λ (c : Head). Bare c.name) (d ∷ columns)))
@@ -190,8 +186,8 @@ formats_read : (columns : List Head) → list_all is_plain_column columns ≡ tr
     × (length (map (λ (c : Head). Bare c.format) columns) ≡ length (formats_in columns))
 formats_read [] h = (tt, refl, refl)
 formats_read (c ∷ columns) h =
-    let w = both_true (is_plain_column c) (list_all is_plain_column columns) h in
-    let n = format_reads c.format (both_true (is_plain_name c.name) (is_format c.format) w.0).1 in
+    let w = and_parts (is_plain_column c) (list_all is_plain_column columns) h in
+    let n = format_reads c.format (and_parts (is_plain_name c.name) (is_format c.format) w.0).1 in
     let ih = formats_read columns w.1 in (
       (n.0, ih.0),
       all_some_more (format_of (Bare c.format)) c.format (map format_of (map (λ (c : Head). Bare c.format) columns))
@@ -219,8 +215,8 @@ row_read [] [] l h s = record { pieces = []; read = tt; values = refl; many = re
 row_read [] (v ∷ row) l h s = absurd (omega arith)
 row_read (c ∷ columns) [] l h s = absurd (omega arith)
 row_read (c ∷ columns) (v ∷ row) l h s =
-    let w = both_true (is_plain_field c v) (list_all (λ pair. is_plain_field pair.0 pair.1) (zip columns row)) h in
-    let z = both_true (is_sized_field v) (list_all is_sized_field row) s in
+    let w = and_parts (is_plain_field c v) (list_all (λ pair. is_plain_field pair.0 pair.1) (zip columns row)) h in
+    let z = and_parts (is_sized_field v) (list_all is_sized_field row) s in
     let f = field_reads c v w.0 z.0 in
     let ih = row_read columns row (omega arith) w.1 z.1 in
     record {
@@ -237,7 +233,7 @@ row_read (c ∷ columns) (v ∷ row) l h s =
 row_spelled : (columns : List Head) (row : List Field) → is_plain_row columns row ≡ true → list_all is_sized_field row ≡ true →
     SpellsRow columns (line_of (row_line row)) row × (has_no_feed (row_line row) ≡ true)
 row_spelled columns row h s =
-    let w = both_true (length columns == length row) (list_all (λ pair. is_plain_field pair.0 pair.1) (zip columns row)) h in
+    let w = and_parts (length columns == length row) (list_all (λ pair. is_plain_field pair.0 pair.1) (zip columns row)) h in
     let same : length columns ≡ length row = grind (arith, nat_tests, w.0) in
     let r = row_read columns row same w.1 s in
     let fields = map field_text row in
@@ -253,8 +249,8 @@ rows_spelled : (columns : List Head) (rows : List (List Field)) → list_all (is
     × (list_all has_no_feed (map row_line rows) ≡ true)
 rows_spelled columns [] h s = (tt, refl)
 rows_spelled columns (row ∷ rows) h s =
-    let w = both_true (is_plain_row columns row) (list_all (is_plain_row columns) rows) h in
-    let z = both_true (list_all is_sized_field row) (list_all (λ row. list_all is_sized_field row) rows) s in
+    let w = and_parts (is_plain_row columns row) (list_all (is_plain_row columns) rows) h in
+    let z = and_parts (list_all is_sized_field row) (list_all (λ row. list_all is_sized_field row) rows) s in
     let r = row_spelled columns row w.0 z.0 in
     let ih = rows_spelled columns rows w.1 z.1 in
     ((r.0, ih.0), rw (r.1, ih.1) refl)
@@ -262,7 +258,7 @@ rows_spelled columns (row ∷ rows) h s =
 no_feed_append : (xs ys : List (List ℕ)) → list_all has_no_feed xs ≡ true → list_all has_no_feed ys ≡ true →
     list_all has_no_feed (xs ++ ys) ≡ true
 no_feed_append [] ys h e = e
-no_feed_append (x ∷ xs) ys h e = let w = both_true (has_no_feed x) (list_all has_no_feed xs) h in rw (w.0, no_feed_append xs ys w.1 e) refl
+no_feed_append (x ∷ xs) ys h e = let w = and_parts (has_no_feed x) (list_all has_no_feed xs) h in rw (w.0, no_feed_append xs ys w.1 e) refl
 
 length_names : (columns : List Head) → length (names_in columns) ≡ length columns
 length_names [] = refl
@@ -279,8 +275,8 @@ name_spelled name h =
 names_spelled : (columns : List Head) → are_plain_columns columns ≡ true →
     NamesColumns (Says Atr (behind (names_in columns))) (names_in columns) × (has_no_feed (codes "atr" ++ spaced (names_in columns)) ≡ true)
 names_spelled columns h =
-    let w = both_true (not (length columns == 0)) (nat_le (length columns) 200 && list_all is_plain_column columns) h in
-    let v = both_true (nat_le (length columns) 200) (list_all is_plain_column columns) w.1 in
+    let w = and_parts (not (length columns == 0)) (nat_le (length columns) 200 && list_all is_plain_column columns) h in
+    let v = and_parts (nat_le (length columns) 200) (list_all is_plain_column columns) w.1 in
     let some : 1 ≤ length columns = grind (arith, nat_tests, w.0) in
     let few : length columns ≤ 200 = grind (arith, nat_tests, v.0) in
     let n = names_read columns v.1 in
@@ -314,11 +310,11 @@ formats_spelled columns h =
 -- most 18 digits, so rows must be fewer than 10 ^ 18. All that the machine must know of a table it takes from here.
 table_right : (table : Table) → is_plain_table table ≡ true → is_sized_table table ≡ true → RightTable table
 table_right table h s =
-    let w = both_true (is_plain_name table.name) (are_plain_columns table.columns && list_all (is_plain_row table.columns) table.rows) h in
-    let v = both_true (are_plain_columns table.columns) (list_all (is_plain_row table.columns) table.rows) w.1 in
-    let c = both_true (not (length table.columns == 0)) (nat_le (length table.columns) 200 && list_all is_plain_column table.columns) v.0 in
-    let plain = (both_true (nat_le (length table.columns) 200) (list_all is_plain_column table.columns) c.1).1 in
-    let z = both_true (nat_lt (length table.rows) (10 ^ 18)) (list_all (λ row. list_all is_sized_field row) table.rows) s in
+    let w = and_parts (is_plain_name table.name) (are_plain_columns table.columns && list_all (is_plain_row table.columns) table.rows) h in
+    let v = and_parts (are_plain_columns table.columns) (list_all (is_plain_row table.columns) table.rows) w.1 in
+    let c = and_parts (not (length table.columns == 0)) (nat_le (length table.columns) 200 && list_all is_plain_column table.columns) v.0 in
+    let plain = (and_parts (nat_le (length table.columns) 200) (list_all is_plain_column table.columns) c.1).1 in
+    let z = and_parts (nat_lt (length table.rows) (10 ^ 18)) (list_all (λ row. list_all is_sized_field row) table.rows) s in
     let few : length table.rows < 10 ^ 18 = grind (arith, nat_tests, z.0) in
     let name = name_spelled table.name w.0 in
     let names = names_spelled table.columns v.0 in
@@ -359,8 +355,8 @@ tables_run : (ts tables : List Table) → list_all is_plain_table tables ≡ tru
     × (list_all has_no_feed (tables_lines tables) ≡ true)
 tables_run ts [] h s = (ap (λ (t : List Table). Ok (Open true t)) (sym (append-nil ts)), refl)
 tables_run ts (t ∷ tables) h s =
-    let w = both_true (is_plain_table t) (list_all is_plain_table tables) h in
-    let z = both_true (is_sized_table t) (list_all is_sized_table tables) s in
+    let w = and_parts (is_plain_table t) (list_all is_plain_table tables) h in
+    let z = and_parts (is_sized_table t) (list_all is_sized_table tables) s in
     let r = table_right t w.0 z.0 in
     let ih = tables_run (ts ++ t ∷ []) tables w.1 z.1 in (
       ap (run (Open true ts)) (map_append (table_lines t) (tables_lines tables))
@@ -378,8 +374,8 @@ all_run : (tables : List Table) → list_all is_plain_table tables ≡ true → 
     (b : Bool) × (run start (map line_of (tables_lines tables)) ≡ Ok (Open b tables)) × (list_all has_no_feed (tables_lines tables) ≡ true)
 all_run [] h s = (false, refl, refl)
 all_run (t ∷ tables) h s =
-    let w = both_true (is_plain_table t) (list_all is_plain_table tables) h in
-    let z = both_true (is_sized_table t) (list_all is_sized_table tables) s in
+    let w = and_parts (is_plain_table t) (list_all is_plain_table tables) h in
+    let z = and_parts (is_sized_table t) (list_all is_sized_table tables) s in
     let r = table_right t w.0 z.0 in
     let ih = tables_run (t ∷ []) tables w.1 z.1 in (
       true,
@@ -400,7 +396,7 @@ body_runs : (tables : List Table) → are_plain tables ≡ true → are_sized ta
     (run start (map line_of (tables_lines tables ++ eof_bytes tables ∷ [])) ≡ Ok (Ended tables))
     × (list_all has_no_feed (tables_lines tables ++ eof_bytes tables ∷ []) ≡ true)
 body_runs tables h s =
-    let z = both_true (nat_lt (length tables) (10 ^ 18)) (list_all is_sized_table tables) s in
+    let z = and_parts (nat_lt (length tables) (10 ^ 18)) (list_all is_sized_table tables) s in
     let few : length tables < 10 ^ 18 = grind (arith, nat_tests, z.0) in
     let number = decimal (length tables) ∷ [] in
     let w = all_run tables h z.1 in
