@@ -4,6 +4,7 @@ use Rattle.std.proofs.lemmas.List.{length-replicate, get_or-replicate}
 use Rattle.std.specs.Prelude.{◌==◌, nat_lt, if◌then◌else◌}
 use Rattle.std.proofs.lemmas.Bool.Decides.{nat_tests}
 use Rattle.std.proofs.lemmas.Int.{ints}
+use Rattle.std.proofs.lemmas.Bool.{and_parts, eqb-true, ltb-true}
 use lib.IntN.{negsuc}
 use mathlib.Core.Option.{Option, none, some, some-injective, some-ne-none}
 use lib.ListN.{get_elem?}
@@ -14,16 +15,6 @@ use Rattle.task_board.specs.Sheets.{zero_word, opening_words, fresh, joined, Sta
 use Rattle.task_board.specs.Machine.{BoardState, Event, Split, Claim, Look, Lower, Join, value_of, word_of, has_word, after_claim, splits, claims, looks, lowers, joins, joins_with, happens, start, run, IsSound}
 use Rattle.task_board.proofs.Keeps.{claim_draws, claim_misses, look_keeps, lower_keeps, split_keeps, join_keeps}
 
-both : (a b : Bool) → (a && b) ≡ true → (a ≡ true) × (b ≡ true)
-both true b h = (refl, h)
-both false b h = absurd (cc)
-
-lt_of : (a b : ℕ) → nat_lt a b ≡ true → a < b
-lt_of a b h = grind (arith, nat_tests)
-
-eq_of : (a b : ℕ) → (a == b) ≡ true → a ≡ b
-eq_of a b h = grind (arith, nat_tests)
-
 not_of : (a b : ℕ) → not (a == b) ≡ true → ¬ (a ≡ b)
 not_of a b h e = let t : (a == b) ≡ true = grind (arith, nat_tests) in let n : not (a == b) ≡ false = rw t refl in absurd (cc)
 
@@ -32,12 +23,12 @@ pub value_stands : (w : ℕ) → Stands w (value_of w)
 value_stands w = go (nat_lt w zero_word) refl
   where
     go : (b : Bool) → nat_lt w zero_word ≡ b → Stands w (value_of w)
-    go true e = let l = lt_of w zero_word e in rw e (omega (arith, ints))
+    go true e = let l = ltb-true w zero_word e in rw e (omega (arith, ints))
     go false e = let l : zero_word ≤ w = grind (arith, nat_tests) in rw e (omega (arith, ints))
 
 pub word_stands : (x : ℤ) → has_word x ≡ true → Stands (word_of x) x
 word_stands (pos n) h = omega (arith, ints)
-word_stands (negsuc n) h = let l = lt_of n zero_word h in omega (arith, ints)
+word_stands (negsuc n) h = let l = ltb-true n zero_word h in omega (arith, ints)
 
 module _ (size : Extent) where
   if_keeps : (h after : BoardState) (b : Bool) → IsSound size h → (b ≡ true → IsSound size after) → IsSound size (if b then after else h)
@@ -47,43 +38,43 @@ module _ (size : Extent) where
   claim_keeps : (h : BoardState) (i : ℕ) (o : Option Sheet) → get_elem? h.views i ≡ o → IsSound size h → IsSound size (claims size h i o)
   claim_keeps h i none e s = s
   claim_keeps h i (some v) e s = if_keeps h _ ((v.over == 0) && nat_lt 0 v.share) s (λ t.
-      let a = both (v.over == 0) (nat_lt 0 v.share) t in
-      go (nat_lt (slice_index h.words 0) size.tasks) refl (eq_of v.over 0 a.0) (lt_of 0 v.share a.1))
+      let a = and_parts (v.over == 0) (nat_lt 0 v.share) t in
+      go (nat_lt (slice_index h.words 0) size.tasks) refl (eqb-true v.over 0 a.0) (ltb-true 0 v.share a.1))
     where
       go : (b : Bool) → nat_lt (slice_index h.words 0) size.tasks ≡ b → v.over ≡ 0 → 0 < v.share
           → IsKept size (set h.words 0 (slice_index h.words 0 + 1)) (set h.views i (after_claim size (slice_index h.words 0) v))
       go true t over share = rw t
-          (claim_draws size h.words h.views i (slice_index h.words 0 + 1) v s e refl share (lt_of (slice_index h.words 0) size.tasks t))
+          (claim_draws size h.words h.views i (slice_index h.words 0 + 1) v s e refl share (ltb-true (slice_index h.words 0) size.tasks t))
       go false t over share =
           rw t (claim_misses size h.words h.views i (slice_index h.words 0 + 1) v s e refl over share (grind (arith, nat_tests)))
 
   split_event : (h : BoardState) (i : ℕ) (o : Option Sheet) → get_elem? h.views i ≡ o → IsSound size h → IsSound size (splits h i o)
   split_event h i none e s = s
   split_event h i (some v) e s = if_keeps h _ ((v.over == 0) && nat_lt 1 v.share) s (λ t.
-      let a = both (v.over == 0) (nat_lt 1 v.share) t in
-      split_keeps size h.words h.views i v s e (eq_of v.over 0 a.0) (lt_of 1 v.share a.1))
+      let a = and_parts (v.over == 0) (nat_lt 1 v.share) t in
+      split_keeps size h.words h.views i v s e (eqb-true v.over 0 a.0) (ltb-true 1 v.share a.1))
 
   look_event : (h : BoardState) (i k : ℕ) (o : Option Sheet) → get_elem? h.views i ≡ o → IsSound size h → IsSound size (looks size h i k o)
   look_event h i k none e s = s
   look_event h i k (some v) e s = if_keeps h _ (nat_lt 0 v.share && nat_lt k size.classes) s (λ t.
-      let a = both (nat_lt 0 v.share) (nat_lt k size.classes) t in
-      look_keeps size h.words h.views i k (value_of (slice_index h.words (k + 1))) v s e (lt_of 0 v.share a.0) (lt_of k size.classes a.1)
+      let a = and_parts (nat_lt 0 v.share) (nat_lt k size.classes) t in
+      look_keeps size h.words h.views i k (value_of (slice_index h.words (k + 1))) v s e (ltb-true 0 v.share a.0) (ltb-true k size.classes a.1)
       (value_stands (slice_index h.words (k + 1))))
 
   lower_event : (h : BoardState) (i k : ℕ) (x : ℤ) (o : Option Sheet) → get_elem? h.views i ≡ o → IsSound size h →
       IsSound size (lowers size h i k x o)
   lower_event h i k x none e s = s
   lower_event h i k x (some v) e s = if_keeps h _ ((nat_lt 0 v.share && nat_lt k size.classes) && has_word x) s (λ t.
-      let a = both (nat_lt 0 v.share && nat_lt k size.classes) (has_word x) t in
-      let b = both (nat_lt 0 v.share) (nat_lt k size.classes) a.0 in
-      lower_keeps size h.words h.views i k (word_of x) x v s e (lt_of 0 v.share b.0) (lt_of k size.classes b.1) (word_stands x a.1))
+      let a = and_parts (nat_lt 0 v.share && nat_lt k size.classes) (has_word x) t in
+      let b = and_parts (nat_lt 0 v.share) (nat_lt k size.classes) a.0 in
+      lower_keeps size h.words h.views i k (word_of x) x v s e (ltb-true 0 v.share b.0) (ltb-true k size.classes b.1) (word_stands x a.1))
 
   join_with_event : (h : BoardState) (i j : ℕ) (v : Sheet) (o : Option Sheet) → get_elem? h.views i ≡ some v → get_elem? h.views j ≡ o →
       IsSound size h → IsSound size (joins_with h i j v o)
   join_with_event h i j v none e d s = s
   join_with_event h i j v (some w) e d s = if_keeps h _ (nat_lt 0 v.share && not (j == i)) s (λ t.
-      let a = both (nat_lt 0 v.share) (not (j == i)) t in let apart = not_of j i a.1 in
-      join_keeps size h.words h.views i j v w s e apart (lt_of 0 v.share a.0) (set_else h.views i j (joined v w) apart ∙ d))
+      let a = and_parts (nat_lt 0 v.share) (not (j == i)) t in let apart = not_of j i a.1 in
+      join_keeps size h.words h.views i j v w s e apart (ltb-true 0 v.share a.0) (set_else h.views i j (joined v w) apart ∙ d))
 
   join_event : (h : BoardState) (i j : ℕ) (o : Option Sheet) → get_elem? h.views i ≡ o → IsSound size h → IsSound size (joins h i j o)
   join_event h i j none e s = s
