@@ -9,6 +9,7 @@ use Rattle.indexmap.specs.IndexSet.{insert_key}
 use Rattle.std.specs.Cmp.{unsigned_Decides}
 use Rattle.arrayvec.specs.ArrayVec.{ArrayVec}
 use Rattle.std.specs.Cmp.Lexicographic.{bytes_decides, pointwise, pointwise_decides}
+use Rattle.std.proofs.lemmas.Bool.{and_from, and_parts}
 use Rattle.vdv452_rows.specs.declared.cell.Cell.{Cell}
 use Rattle.vdv452_rows.specs.declared.cell.Cell.TheVariants.{Nothing, Number, Long, Word}
 use Rattle.vdv452_rows.specs.declared.row_key.RowKey.{RowKey}
@@ -107,24 +108,12 @@ made_of numbers = record { items = numbers }
 numbers_decide : (v w : ArrayVec ℕ) → (key_eq (Numbers v) (Numbers w) ≡ true → v ≡ w) × (v ≡ w → key_eq (Numbers v) (Numbers w) ≡ true)
 numbers_decide v w = (λ e. ap made_of ((bytes_decides v.items w.items).0 e), λ e. (bytes_decides v.items w.items).1 (ap (λ u. u.items) e))
 
-first_true : (p q : Bool) → (p && q) ≡ true → p ≡ true
-first_true true q e = refl
-first_true false q e = absurd cc
-
-second_true : (p q : Bool) → (p && q) ≡ true → q ≡ true
-second_true true q e = e
-second_true false q e = absurd cc
-
-both_true : (p q : Bool) → p ≡ true → q ≡ true → (p && q) ≡ true
-both_true true q p_is q_is = q_is
-both_true false q p_is q_is = absurd cc
-
 trips_decide : (v f v' f' : ℕ) → (key_eq (Trip v f) (Trip v' f') ≡ true → Trip v f ≡ Trip v' f')
     × (Trip v f ≡ Trip v' f' → key_eq (Trip v f) (Trip v' f') ≡ true)
 trips_decide v f v' f' = (
-  λ e. λ i. Trip ((unsigned_Decides v v').0 (first_true (v == v') (f == f') e) i)
-      ((unsigned_Decides f f').0 (second_true (v == v') (f == f') e) i),
-  λ e. both_true (v == v') (f == f') ((unsigned_Decides v v').1 cc) ((unsigned_Decides f f').1 cc),
+  λ e. λ i. Trip ((unsigned_Decides v v').0 (and_parts (v == v') (f == f') e).0 i)
+      ((unsigned_Decides f f').0 (and_parts (v == v') (f == f') e).1 i),
+  λ e. and_from (v == v') (f == f') ((unsigned_Decides v v').1 cc) ((unsigned_Decides f f').1 cc),
 )
 
 key_decides : (x y : RowKey) → (key_eq x y ≡ true → x ≡ y) × (x ≡ y → key_eq x y ≡ true)
