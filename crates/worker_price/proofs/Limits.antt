@@ -6,6 +6,7 @@ use native.Mathlib.Decide.{ℕ_discrete}
 use lib.Signed.{lt_z, le_z}
 use Rattle.std.proofs.lemmas.Int.{ints, clamps, by_lt_z}
 use Rattle.std.proofs.lemmas.Bool.Decides.{nat_tests}
+use Rattle.std.proofs.lemmas.Bool.{and_from, eqb-true, and_parts}
 use Rattle.plan_core.specs.declared.Price.{Price}
 use Rattle.cover_core.specs.declared.Column.{Column}
 use Rattle.cover_core.specs.FirstLeast.{value}
@@ -65,18 +66,6 @@ le_is a b h = grind (arith, ints)
 lt_is : (a b : ℤ) → lt_z a b ≡ true → a <ℤ b
 lt_is a b h = grind (arith, ints)
 
-and_left : (a b : Bool) → (a && b) ≡ true → a ≡ true
-and_left true b h = refl
-and_left false b h = absurd (cc)
-
-and_right : (a b : Bool) → (a && b) ≡ true → b ≡ true
-and_right true b h = h
-and_right false b h = absurd (cc)
-
-and_both : (a b : Bool) → a ≡ true → b ≡ true → (a && b) ≡ true
-and_both true b h k = k
-and_both false b h k = h
-
 -- two tests that are true together are the same
 same_tests : (a b : Bool) → (a ≡ true → b ≡ true) → (b ≡ true → a ≡ true) → a ≡ b
 same_tests true b f g = sym (f refl)
@@ -89,10 +78,10 @@ pub kept_is_within : (v l : ℤ) → (lt_z v (pos 0) && le_z (v +ℤ v) l) ≡ l
 kept_is_within v l =
     same_tests (lt_z v (pos 0) && le_z (v +ℤ v) l) (le_z v (limit_of l))
     (λ h. le_true v (limit_of l)
-    (limit_above v l (lt_is v (pos 0) (and_left (lt_z v (pos 0)) (le_z (v +ℤ v) l) h))
-    (le_is (v +ℤ v) l (and_right (lt_z v (pos 0)) (le_z (v +ℤ v) l) h))))
+    (limit_above v l (lt_is v (pos 0) (and_parts (lt_z v (pos 0)) (le_z (v +ℤ v) l) h).0)
+    (le_is (v +ℤ v) l (and_parts (lt_z v (pos 0)) (le_z (v +ℤ v) l) h).1)))
     (λ h. let low = le_is v (limit_of l) h in
-    and_both (lt_z v (pos 0)) (le_z (v +ℤ v) l) (lt_true v (pos 0) (limit_negative v l low))
+    and_from (lt_z v (pos 0)) (le_z (v +ℤ v) l) (lt_true v (pos 0) (limit_negative v l low))
     (le_true (v +ℤ v) l (half_below v l (limit_half v l low))))
 
 -- a column whose value is within a limit is found under it
@@ -252,9 +241,6 @@ least_over prices f n = record {
 entry_same : (e : ℕ × ℤ) (k : ℕ) (x : ℤ) → e ≡ (k, x) → (e.0 == k) ≡ true
 entry_same e k x h = let s : e.0 ≡ k = ap (λ (p : ℕ × ℤ). p.0) h in grind (arith, nat_tests)
 
-eqb_is : (a b : ℕ) → (a == b) ≡ true → a ≡ b
-eqb_is a b h = grind (arith, nat_tests)
-
 -- the least lowered value, of one more entry
 least_more : (e : ℕ × ℤ) (es : List (ℕ × ℤ)) (k : ℕ) (b : Bool) → (e.0 == k) ≡ b → IsLeastIn es k (least_lowered es k) →
     IsLeastIn (e ∷ es) k (least_lowered (e ∷ es) k)
@@ -267,7 +253,7 @@ least_more e es k true t r = rw t (record {
       (head_cases e es (k, x) h);
   reached =
       ⊎_elim (λ (s : int_min e.1 (least_lowered es k) ≡ e.1).
-      let here : e ≡ (k, int_min e.1 (least_lowered es k)) = λ i. (eqb_is e.0 k t i, sym s i) in
+      let here : e ≡ (k, int_min e.1 (least_lowered es k)) = λ i. (eqb-true e.0 k t i, sym s i) in
       inr (0, omega arith, here))
       (λ (s : int_min e.1 (least_lowered es k) ≡ least_lowered es k).
       ⊎_elim (λ (z : least_lowered es k ≡ pos 0). inl (s ∙ z))
