@@ -6,5 +6,6 @@ pub mod Counts
 pub mod Labels
 pub mod Values
 pub mod Parts
+pub mod Times
 pub mod Fits
 pub mod Ranges

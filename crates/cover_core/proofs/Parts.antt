@@ -6,7 +6,7 @@ use Rattle.std.proofs.lemmas.Bool.Decides.{nat_tests}
 use Rattle.cover_core.specs.declared.Column.{Column}
 use Rattle.cover_core.specs.Cover.{Problem, Rises}
 use Rattle.cover_core.specs.Plans.{IsColumn, AreColumns, times, all_items, all_classes, cost, IsPlan}
-use Rattle.cover_core.specs.Parts.{IsPart}
+use Rattle.cover_core.specs.Parts.{IsPart, column_at}
 
 pub times-append : (i : ℕ) (xs ys : List ℕ) → times i (xs ++ ys) ≡ times i xs + times i ys
 times-append i [] ys = omega arith
@@ -117,3 +117,8 @@ Rises-once j (x ∷ xs) r =
           let test : (j == x) ≡ false = grind (arith, nat_tests) in
           rw test (omega arith)
     ]
+
+pub column-there : (plan : List Column) (place : ℕ) (c : Column) → place < length plan → c ≡ get_or plan place c → c ≡ column_at plan place
+column-there [] place c h e = absurd (omega arith)
+column-there (x ∷ xs) zero c h e = e
+column-there (x ∷ xs) (suc place) c h e = column-there xs place c (omega arith) e
