@@ -3,10 +3,11 @@ use Rattle.std.proofs.Common.{◌≡◌, ℕ, ℤ, pos, suc, zero, ◌+◌, ◌*
 use Rattle.std.specs.Prelude.{option_and_then, unwrap_or}
 use Rattle.std.proofs.lemmas.Bool.Decides.{nat_tests}
 use Rattle.std.proofs.lemmas.Bool.{and_parts}
-use Rattle.std.proofs.lemmas.Option.{slice_get-get_or, slice_get_within}
+use Rattle.std.proofs.lemmas.Option.{slice_get-get_or, slice_get_within, same_Some}
 use Rattle.plan_core.specs.declared.types.Leg.{Leg}
 use Rattle.plan_core.specs.declared.types.LegKind.TheVariants.{PullIn, PullOut}
 use Rattle.plan_core.specs.declared.types.Piece.{Piece}
+use Rattle.plan_core.proofs.Options.{and_then_some, given_some}
 use Rattle.cover_core.specs.Cover.{AllBelow, Problem}
 use Rattle.cover_core.specs.Plans.{HasListedColumns, IsPlan, all_items, times}
 use Rattle.cover_core.proofs.Duality.{all_items-below}
@@ -24,7 +25,6 @@ use Rattle.day_model.specs.Pieces.{can_be_driven, duration, is_cut, is_shown, is
 use Rattle.block_cut.specs.Cuts.{block_pieces, cut_on, ended, grown, next_index, pieces_by_block, stands}
 use Rattle.block_cut.proofs.LegLists.{pool_at, some_from, trips_below}
 use Rattle.block_cut.proofs.Pieces.{cut_whole}
-use Rattle.block_cut.proofs.Times.{and_then_some, some_same}
 
 stands_if : (b : Bool) (l : Leg) (xs : List Leg) (n : ℕ) → stands xs ≤ n → stands (cond b (l ∷ xs) xs) ≤ cond (is_stand l.kind) 1 0 + n
 stands_if true l xs n few = omega (arith, few)
@@ -51,7 +51,7 @@ from_stands day pool k t [] ls e =
     let found = and_then_some (λ (inward : ℕ). Some (trip_leg k t ∷ leg PullIn None t.to t.end.0 pool.depot (t.end.0 +ℤ pos inward) ∷ []))
     (pull_in day pool t) ls e in
     let n : stands ls ≡ 0 =
-    sym (ap stands (some_same (trip_leg k t ∷ leg PullIn None t.to t.end.0 pool.depot (t.end.0 +ℤ pos found.0) ∷ []) ls found.2)) in
+    sym (ap stands (same_Some (trip_leg k t ∷ leg PullIn None t.to t.end.0 pool.depot (t.end.0 +ℤ pos found.0) ∷ []) ls found.2)) in
     omega (arith, n)
 from_stands day pool k t (j ∷ js) ls e =
     let second = and_then_some
@@ -67,7 +67,7 @@ from_stands day pool k t (j ∷ js) ls e =
     (legs_from day pool j u js) ls linked.2 in
     let later = from_stands day pool j u js others.0 others.1 in
     let all : stands ((trip_leg k t ∷ link_legs pool t u l) ++ others.0) ≡ stands ls =
-    ap stands (some_same ((trip_leg k t ∷ link_legs pool t u l) ++ others.0) ls others.2) in
+    ap stands (same_Some ((trip_leg k t ∷ link_legs pool t u l) ++ others.0) ls others.2) in
     let both : stands (link_legs pool t u l ++ others.0) ≡ stands (link_legs pool t u l) + stands others.0 =
     stands_append (link_legs pool t u l) others.0 in
     omega (arith, all, both, link_stands pool t u l, later)
@@ -91,7 +91,7 @@ with_out day pool k ks t legs e =
     (λ (out : ℕ). option_and_then (λ (rest : List Leg). Some (out_legs pool t out rest)) (legs_from day pool k t ks))
     (pull_out day pool t) legs e in
     let rest = and_then_some (λ (rest : List Leg). Some (out_legs pool t out.0 rest)) (legs_from day pool k t ks) legs out.2 in
-    let all : stands (out_legs pool t out.0 rest.0) ≡ stands legs = ap stands (some_same (out_legs pool t out.0 rest.0) legs rest.2) in
+    let all : stands (out_legs pool t out.0 rest.0) ≡ stands legs = ap stands (same_Some (out_legs pool t out.0 rest.0) legs rest.2) in
     omega (arith, all, out_stands pool t out.0 rest.0, from_stands day pool k t ks rest.0 rest.1)
 
 of_stands : (day : DayFacts) (pool : Pool) (list : List ℕ) (legs : List Leg) → legs_of day pool list ≡ Some legs →
@@ -123,16 +123,12 @@ few_risen : (n : ℕ) (xs : List ℕ) → rises xs ≡ true → AllBelow n xs �
 few_risen n [] up below = omega arith
 few_risen n (x ∷ xs) up below = omega (arith, risen n x xs up below)
 
-given_true : {A : Type 0} (b : Bool) (o : Option A) (y : A) → given b o ≡ Some y → (b ≡ true) × (o ≡ Some y)
-given_true true o y e = (refl, e)
-given_true false o y e = absurd (cc)
-
 -- a block has no more trips than the day
 pub block_trips : (day : DayFacts) (class : ℕ) (list : List ℕ) → is_some (block_worth day false class list) ≡ true →
     length list ≤ length day.trips
 block_trips day class list some =
     let worth = some_from (block_worth day false class list) some in
-    let tested = given_true (rises list)
+    let tested = given_some (rises list)
     (option_and_then (λ (pool : Pool). given (can_be_driven day pool list)
     (option_and_then (λ (ts : List TheTrip). option_and_then (λ (c : ℕ). Some c) (block_cost day pool ts)) (trips_at day.trips list)))
     (slice_get day.params.pools class)) worth.0 worth.1 in
@@ -140,7 +136,7 @@ block_trips day class list some =
     (λ (pool : Pool). given (can_be_driven day pool list)
     (option_and_then (λ (ts : List TheTrip). option_and_then (λ (c : ℕ). Some c) (block_cost day pool ts)) (trips_at day.trips list)))
     (slice_get day.params.pools class) worth.0 tested.1 in
-    let driven = given_true (can_be_driven day pooled.0 list)
+    let driven = given_some (can_be_driven day pooled.0 list)
     (option_and_then (λ (ts : List TheTrip). option_and_then (λ (c : ℕ). Some c) (block_cost day pooled.0 ts)) (trips_at day.trips list))
     worth.0 pooled.2 in
     let found = and_then_some (λ (ts : List TheTrip). option_and_then (λ (c : ℕ). Some c) (block_cost day pooled.0 ts))

@@ -1,9 +1,10 @@
 -- The legs of a block, trip by trip.
 use Rattle.std.proofs.Common.{◌≡◌, ℕ, ℤ, pos, ◌+◌, ◌*◌, ◌<◌, ◌-ℤ◌, Bool, true, false, cond, suc, List, [], ◌∷◌, ◌++◌, length, drop, Option, Some, None, refl, sym, ap, subst, ◌∙◌, arith, append_assoc, slice_get, slice_index, get_or, is_some, add-one, drop-cons}
 use Rattle.std.specs.Prelude.{option_and_then, unwrap_or}
-use Rattle.std.proofs.lemmas.Option.{slice_get-get_or, slice_get_within}
+use Rattle.std.proofs.lemmas.Option.{slice_get-get_or, slice_get_within, same_Some}
 use Rattle.plan_core.specs.declared.types.Leg.{Leg}
 use Rattle.plan_core.specs.declared.types.LegKind.TheVariants.{PullOut}
+use Rattle.plan_core.proofs.Options.{and_then_some}
 use Rattle.cover_core.specs.Cover.{AllBelow}
 use Rattle.trip_times.specs.declared.trip.Trip.{Trip as TheTrip}
 use Rattle.plan_params.specs.declared.rows.pool.Pool.{Pool}
@@ -13,7 +14,7 @@ use Rattle.day_model.specs.Facts.{DayFacts}
 use Rattle.day_model.specs.Links.{given, link, pull_in, pull_out, with_pool}
 use Rattle.day_model.specs.Pieces.{can_be_driven, is_shown, leg, legs_from, legs_of, link_legs, shown, trip_leg}
 use Rattle.block_cut.specs.Legs.{legs_at, legs_or, until_next}
-use Rattle.block_cut.proofs.Times.{and_then_some, given_some, some_same}
+use Rattle.block_cut.proofs.Times.{given_some}
 
 pub some_from : {A : Type 0} (o : Option A) → is_some o ≡ true → (x : A) × (o ≡ Some x)
 some_from None e = absurd (cc)
@@ -66,7 +67,7 @@ splits day pool t u us some =
       rest = ap is_some later;
       whole =
           ap legs_or whole.1
-          ∙ sym (some_same ((trip_leg t trip ∷ link_legs pool trip next l) ++ others.0) whole.0 others.2)
+          ∙ sym (same_Some ((trip_leg t trip ∷ link_legs pool trip next l) ++ others.0) whole.0 others.2)
           ∙ ap (λ (o : Option (List Leg)). legs_or o ++ others.0) (sym until)
           ∙ ap (λ (o : Option (List Leg)). legs_or (until_next day pool t u) ++ legs_or o) (sym later);
     }
@@ -105,7 +106,7 @@ legs_more day pool t i rest old new all within some pushed so_far =
 pub legs_of_cost : (day : DayFacts) (pool : Pool) (k : ℕ) (t : TheTrip) (js : List ℕ) (us : List TheTrip) (cost : ℕ) →
     trips_at day.trips js ≡ Some us → cost_from day pool t us ≡ Some cost → is_some (legs_from day pool k t js) ≡ true
 legs_of_cost day pool k t [] us cost at is =
-    let none : [] ≡ us = some_same [] us at in
+    let none : [] ≡ us = same_Some [] us at in
     let P : List TheTrip → Type 0 = λ us. cost_from day pool t us ≡ Some cost in
     let inward = and_then_some (λ (inward : ℕ). Some (pool.dead_rate * inward)) (pull_in day pool t) cost (subst P (sym none) is) in
     rw inward.1 refl
@@ -113,7 +114,7 @@ legs_of_cost day pool k t (j ∷ js) us cost at is =
     let first = and_then_some (λ (u : TheTrip). option_and_then (λ (ts : List TheTrip). Some (u ∷ ts)) (trips_at day.trips js))
     (slice_get day.trips j) us at in
     let rest = and_then_some (λ (ts : List TheTrip). Some (first.0 ∷ ts)) (trips_at day.trips js) us first.2 in
-    let same : first.0 ∷ rest.0 ≡ us = some_same (first.0 ∷ rest.0) us rest.2 in
+    let same : first.0 ∷ rest.0 ≡ us = same_Some (first.0 ∷ rest.0) us rest.2 in
     let P : List TheTrip → Type 0 = λ us. cost_from day pool t us ≡ Some cost in
     let linked = and_then_some
     (λ (l : Link). option_and_then (λ (rest_cost : ℕ). Some (link_cost pool first.0 l + rest_cost)) (cost_from day pool first.0 rest.0))
@@ -162,7 +163,7 @@ runs day class first rest some =
     let head = and_then_some (λ (t : TheTrip). option_and_then (λ (ts : List TheTrip). Some (t ∷ ts)) (trips_at day.trips rest))
     (slice_get day.trips first) found.0 found.1 in
     let tail = and_then_some (λ (ts : List TheTrip). Some (head.0 ∷ ts)) (trips_at day.trips rest) found.0 head.2 in
-    let same : head.0 ∷ tail.0 ≡ found.0 = some_same (head.0 ∷ tail.0) found.0 tail.2 in
+    let same : head.0 ∷ tail.0 ≡ found.0 = same_Some (head.0 ∷ tail.0) found.0 tail.2 in
     let P : List TheTrip → Type 0 = λ ts. block_cost day pooled.0 ts ≡ Some costs.0 in
     let allowed = given_some _ _ costs.0 (subst P (sym same) costs.1) in
     let out = and_then_some
@@ -202,7 +203,7 @@ pub runs_there : (day : DayFacts) (class first : ℕ) (pool : Pool) (rest : List
 runs_there day class first pool rest some here =
     let block = runs day class first rest some in
     let P : Pool → Type 0 = λ pool. is_some (legs_at day pool first rest) ≡ true in
-    subst P (some_same block.pool pool (sym block.there ∙ here)) block.legs
+    subst P (same_Some block.pool pool (sym block.there ∙ here)) block.legs
 
 -- the pool of a class, as an index reads it
 abbrev pub pool_at : List Pool → ℕ → Pool

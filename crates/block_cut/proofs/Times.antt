@@ -1,10 +1,13 @@
 -- The legs of a block stand one after another.
 use Rattle.std.proofs.Common.{◌≡◌, ℕ, ℤ, pos, negsuc, ◌+◌, ◌≤◌, ◌≤ℤ◌, ◌+ℤ◌, ◌-ℤ◌, ◌&&◌, Bool, true, false, cond, List, [], ◌∷◌, ◌++◌, Option, Some, None, Result, Ok, Err, IfOk, OnOk, refl, sym, ap, subst, ◌∙◌, arith, slice_get, nat_le, is_some}
-use Rattle.std.specs.Prelude.{option_and_then, unwrap_or}
+use Rattle.std.specs.Prelude.{option_and_then}
 use Rattle.std.proofs.lemmas.Int.{ints}
+use Rattle.std.proofs.lemmas.Option.{same_Some}
+pub use Rattle.std.proofs.lemmas.Option.{same_Some as some_same}
 use Rattle.plan_core.specs.declared.types.Leg.{Leg}
 use Rattle.plan_core.specs.declared.types.LegKind.TheVariants.{PullIn}
 use Rattle.plan_core.specs.declared.types.Point.{Point}
+pub use Rattle.plan_core.proofs.Options.{and_then_some}
 use Rattle.trip_times.specs.declared.trip.Trip.{Trip as TheTrip}
 use Rattle.plan_params.specs.declared.rows.pool.Pool.{Pool}
 use Rattle.day_model.specs.declared.link.Link.{Link}
@@ -15,21 +18,13 @@ use Rattle.day_model.specs.Pieces.{is_shown, leg, link_legs, shown, trip_leg}
 use Rattle.day_model.specs.Ranges.{IsDaily}
 use Rattle.block_cut.specs.Legs.{AreTimed, begin_of, legs_or, until_end, until_next}
 
-pub some_same : {A : Type 0} (x y : A) → Some x ≡ Some y → x ≡ y
-some_same {A = A} x y e = let f : Option A → A = λ o. unwrap_or o x in ap f e
-
-pub and_then_some : {A B : Type 0} (f : A → Option B) (o : Option A) (y : B) → option_and_then f o ≡ Some y →
-    (x : A) × (o ≡ Some x) × (f x ≡ Some y)
-and_then_some f None y e = absurd (cc)
-and_then_some f (Some x) y e = (x, refl, e)
-
 pub given_some : {A : Type 0} (b : Bool) (o : Option A) (y : A) → given b o ≡ Some y → o ≡ Some y
 given_some true o y e = e
 given_some false o y e = absurd (cc)
 
 -- a number of seconds is the number
 seconds_some : (z : ℤ) (n : ℕ) → seconds z ≡ Some n → z ≡ pos n
-seconds_some (pos m) n e = ap pos (some_same m n e)
+seconds_some (pos m) n e = ap pos (same_Some m n e)
 seconds_some (negsuc m) n e = absurd (cc)
 
 -- what holds of what was made holds after success
@@ -76,7 +71,7 @@ direct_fills day pool t u l e =
     let stood = and_then_some
     (λ (s : ℕ). given (nat_le day.params.settings.turn s && nat_le s day.params.settings.max_wait) (Some (Direct moved.0 s)))
     (seconds (u.begin.0 -ℤ t.end.0 -ℤ pos moved.0)) l moved.2 in
-    let is : Direct moved.0 stood.0 ≡ l = some_same (Direct moved.0 stood.0) l (given_some _ _ l stood.2) in
+    let is : Direct moved.0 stood.0 ≡ l = same_Some (Direct moved.0 stood.0) l (given_some _ _ l stood.2) in
     let z = seconds_some (u.begin.0 -ℤ t.end.0 -ℤ pos moved.0) stood.0 stood.1 in
     let fits : Fills pool t u (Direct moved.0 stood.0) =
     (omega (arith, ints), omega (arith, ints), (omega (arith, ints), omega (arith, ints, z), omega (arith, ints))) in
@@ -94,7 +89,7 @@ depot_fills day pool t u l e =
     (dead day pool.depot u.from) l inward.2 in
     let stood = and_then_some (λ (s : ℕ). Some (Depot inward.0 outward.0 s))
     (seconds (u.begin.0 -ℤ t.end.0 -ℤ pos inward.0 -ℤ pos outward.0)) l outward.2 in
-    let is : Depot inward.0 outward.0 stood.0 ≡ l = some_same (Depot inward.0 outward.0 stood.0) l stood.2 in
+    let is : Depot inward.0 outward.0 stood.0 ≡ l = same_Some (Depot inward.0 outward.0 stood.0) l stood.2 in
     let z = seconds_some (u.begin.0 -ℤ t.end.0 -ℤ pos inward.0 -ℤ pos outward.0) stood.0 stood.1 in
     let fits : Fills pool t u (Depot inward.0 outward.0 stood.0) = (
       omega (arith, ints),
@@ -147,7 +142,7 @@ end_or : (day : DayFacts) (pool : Pool) (t : ℕ) (trip : TheTrip) (o : Option �
     (λ inward. Some (trip_leg t trip ∷ leg PullIn None trip.to trip.end.0 pool.depot (trip.end.0 +ℤ pos inward) ∷ [])) o))
 end_or day pool t trip None inward e few daily = absurd (cc)
 end_or day pool t trip (Some i) inward e few daily =
-    let same : i ≡ inward = some_same i inward e in
+    let same : i ≡ inward = same_Some i inward e in
     (omega (arith, ints), daily.order, (omega (arith, ints), omega (arith, ints), omega (arith, ints, same, few, daily.ends)))
 
 -- the legs of the last trip and of the pull-in

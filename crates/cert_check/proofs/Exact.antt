@@ -1,7 +1,8 @@
 -- An accepted plan and certificate have no reason against them.
 use Rattle.std.proofs.Common.{◌≡◌, ℕ, ℤ, inl, inr, false, List, [], ◌∷◌, length, zero, suc, refl, sym, ap, ◌∙◌, subst, arith}
 use Rattle.std.proofs.lemmas.Int.{ints}
-use Rattle.std.specs.Prelude.{Option, Some, None, Result, Ok, Err, unwrap_or}
+use Rattle.std.specs.Prelude.{Option, Some, None, Result, Ok, Err}
+use Rattle.std.proofs.lemmas.Option.{same_Some}
 use Rattle.cover_core.specs.declared.Column.{Column}
 use Rattle.cover_core.specs.declared.Plan.{Plan}
 use Rattle.cover_core.specs.declared.marks.Gap.{Gap}
@@ -28,16 +29,13 @@ use Rattle.cert_check.specs.Reasons.{AllCharged, ArePlanAgain, AreShown, HasBloc
 ok-same : {T E : Type 0} (r : Result T E) (x y : T) → r ≡ Ok x → r ≡ Ok y → x ≡ y
 ok-same r x y h k = let e : Ok x ≡ Ok y = sym h ∙ k in cc
 
-some-same : {A : Type 0} (x y : A) → Some x ≡ Some y → x ≡ y
-some-same {A = A} x y e = let f : Option A → A = λ o. unwrap_or o x in ap f e
-
 -- the worths of lists are those of the problem
 one-column : (p : Problem) (l a b : Column) → l.class ≡ a.class → l.items ≡ a.items → l.class ≡ b.class → l.items ≡ b.items →
     p.worth a.class a.items ≡ Some a.worth → p.worth b.class b.items ≡ Some b.worth → a ≡ b
 one-column p l a b ca ia cb ib wa wb =
     let class : a.class ≡ b.class = sym ca ∙ cb in
     let items : a.items ≡ b.items = sym ia ∙ ib in
-    let worth : a.worth ≡ b.worth = some-same a.worth b.worth
+    let worth : a.worth ≡ b.worth = same_Some a.worth b.worth
     (sym wa ∙ (ap (λ k. p.worth k a.items) class ∙ (ap (λ xs. p.worth b.class xs) items ∙ wb))) in
     let make : ℕ → ℕ → List ℕ → Column = λ c w is. record { class = c; worth = w; items = is } in
     ap (λ c. make c a.worth a.items) class ∙ (ap (λ w. make b.class w a.items) worth ∙ ap (λ is. make b.class b.worth is) items)

@@ -7,6 +7,7 @@ use Rattle.std.proofs.lemmas.Slice.Eq.{bytes_eq-Decides}
 use Rattle.std.specs.List.{AllByRecursion, find, list_all, position_from, zip}
 use Rattle.std.specs.Ordering.{int_eq}
 use Rattle.std.specs.Str.{bytes_eq}
+use Rattle.std.proofs.lemmas.Bool.{and_from}
 use Rattle.vdv451_text.specs.declared.table.Field.{Field}
 use Rattle.vdv451_text.specs.declared.table.Field.TheVariants.{Num, Text, Raw, Empty}
 use Rattle.vdv451_text.specs.declared.table.Head.{Head}
@@ -24,10 +25,6 @@ own-number z = (Decides-int_eq z z).1 refl
 own-count : (n : ℕ) → nat_eq n n ≡ true
 own-count n = grind (arith, nat_tests)
 
-both : (a b : Bool) → a ≡ true → b ≡ true → (a && b) ≡ true
-both true b h k = k
-both false b h k = h
-
 own-field : (f : Field) → same_field f f ≡ true
 own-field (Num z) = own-number z
 own-field (Text text) = own-text text
@@ -38,26 +35,26 @@ own-field Empty = refl
 own-each : {A : Type 0} (same : A → A → Bool) → ((x : A) → same x x ≡ true) → (xs : List A) →
     list_all (λ p. same p.0 p.1) (zip xs xs) ≡ true
 own-each same own [] = refl
-own-each same own (x ∷ xs) = both (same x x) (list_all (λ p. same p.0 p.1) (zip xs xs)) (own x) (own-each same own xs)
+own-each same own (x ∷ xs) = and_from (same x x) (list_all (λ p. same p.0 p.1) (zip xs xs)) (own x) (own-each same own xs)
 
 own-fields : (row : List Field) → same_fields row row ≡ true
-own-fields row = both (nat_eq (length row) (length row)) (list_all (λ p. same_field p.0 p.1) (zip row row)) (own-count (length row))
+own-fields row = and_from (nat_eq (length row) (length row)) (list_all (λ p. same_field p.0 p.1) (zip row row)) (own-count (length row))
     (own-each same_field own-field row)
 
 own-row : (aside : Option ℕ) (row : List Field) → same_row aside row row ≡ true
 own-row None row = own-fields row
 own-row (Some place) row =
-    both (nat_eq (length row) (length row) && same_fields (take place row) (take place row))
+    and_from (nat_eq (length row) (length row) && same_fields (take place row) (take place row))
     (same_fields (drop (place + 1) row) (drop (place + 1) row))
-    (both (nat_eq (length row) (length row)) (same_fields (take place row) (take place row)) (own-count (length row))
+    (and_from (nat_eq (length row) (length row)) (same_fields (take place row) (take place row)) (own-count (length row))
     (own-fields (take place row)))
     (own-fields (drop (place + 1) row))
 
 own-head : (head : Head) → same_head head head ≡ true
-own-head head = both (bytes_eq head.name head.name) (bytes_eq head.format head.format) (own-text head.name) (own-text head.format)
+own-head head = and_from (bytes_eq head.name head.name) (bytes_eq head.format head.format) (own-text head.name) (own-text head.format)
 
 own-heads : (heads : List Head) → same_heads heads heads ≡ true
-own-heads heads = both (nat_eq (length heads) (length heads)) (list_all (λ p. same_head p.0 p.1) (zip heads heads))
+own-heads heads = and_from (nat_eq (length heads) (length heads)) (list_all (λ p. same_head p.0 p.1) (zip heads heads))
     (own-count (length heads)) (own-each same_head own-head heads)
 
 no-pair : (aside : Option ℕ) (from : ℕ) (rows : List (List Field)) →

@@ -1,9 +1,8 @@
 -- Numbers and columns of lists in range, one at a time.
-use Rattle.std.proofs.Common.{◌≡◌, ◌≢◌, ℕ, ℤ, pos, ◌≤ℤ◌, ◌≤◌, ◌+◌, ◌<◌, zero, suc, List, [], ◌∷◌, length, get_or, refl, arith, All, IsPermutation}
+use Rattle.std.proofs.Common.{◌≢◌, ℕ, ℤ, pos, ◌≤ℤ◌, ◌≤◌, ◌+◌, ◌<◌, zero, suc, List, [], ◌∷◌, length, get_or, arith, All, IsPermutation}
 use Rattle.std.proofs.lemmas.List.Elements.{All-get_or, All-nil, All-cons}
 use Rattle.std.proofs.lemmas.List.Sorted.{All-permutation}
 use Rattle.cover_core.specs.declared.Column.{Column}
-use Rattle.cover_core.specs.Plans.{number_at}
 use Rattle.column_pool.specs.Pools.{places_from}
 use Rattle.lagrangian_climb.specs.Choices.{AreAsked}
 use Rattle.class_lowering.specs.Lowering.{HaveItems}
@@ -16,11 +15,6 @@ pub asked-get : (zs : List ℤ) (i : ℕ) (d : ℤ) → i < length zs → AreAsk
 asked-get [] i d h are = absurd (omega arith)
 asked-get (z ∷ zs) zero d h are = record { low = are.0; high = are.1 }
 asked-get (z ∷ zs) (suc i) d h are = asked-get zs i d (omega arith) are.2
-
-pub number-get : (zs : List ℤ) (i : ℕ) (d : ℤ) → i < length zs → get_or zs i d ≡ number_at zs i
-number-get [] i d h = absurd (omega arith)
-number-get (z ∷ zs) zero d h = refl
-number-get (z ∷ zs) (suc i) d h = number-get zs i d (omega arith)
 
 pub items-get : (cs : List Column) (i : ℕ) (d : Column) → i < length cs → HaveItems cs → (get_or cs i d).items ≢ []
 items-get [] i d h are = absurd (omega arith)

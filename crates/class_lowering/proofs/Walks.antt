@@ -1,20 +1,11 @@
 -- Lowering along places, one more at a time.
-use Rattle.std.proofs.Common.{◌≡◌, ℕ, ℤ, ◌+◌, ◌<◌, ◌≤◌, zero, suc, List, [], ◌∷◌, length, get_or, drop, refl, sym, ap, ◌∙◌, arith, add-one, drop-cons}
+use Rattle.std.proofs.Common.{◌≡◌, ℕ, ℤ, ◌+◌, ◌<◌, ◌≤◌, List, [], ◌∷◌, length, get_or, drop, sym, ap, ◌∙◌, add-one, drop-cons}
 use Rattle.std.proofs.lemmas.List.{drop_all}
 use Rattle.plan_core.specs.declared.Price.{Price}
 use Rattle.cover_core.specs.declared.Column.{Column}
-use Rattle.cover_core.specs.Parts.{column_at, no_column}
+use Rattle.cover_core.specs.Parts.{column_at}
 use Rattle.cover_core.specs.Plans.{number_at}
 use Rattle.class_lowering.specs.Lowering.{lowered_along, lowered_prices}
-
-get_or-any : (cs : List Column) (i : ℕ) (d e : Column) → i < length cs → get_or cs i d ≡ get_or cs i e
-get_or-any [] i d e h = absurd (omega arith)
-get_or-any (c ∷ cs) zero d e h = refl
-get_or-any (c ∷ cs) (suc i) d e h = get_or-any cs i d e (omega arith)
-
-pub column-get : (cs : List Column) (i : ℕ) (d : Column) → i < length cs → d ≡ get_or cs i d → d ≡ column_at cs i
-column-get [] i d h is = absurd (omega arith)
-column-get (c ∷ cs) i d h is = is ∙ get_or-any (c ∷ cs) i d no_column h
 
 -- One place more. The invariant of the loop is that lowering along the places left, from the prices reached, gives the prices that
 -- lowering along all places gives from the first ones: so each column is lowered at the prices that the earlier ones left, as the

@@ -1,10 +1,10 @@
 -- Lists of items and of numbers, one more at a time.
-use Rattle.std.proofs.Common.{◌≡◌, ℕ, ℤ, pos, ◌≤ℤ◌, ◌+◌, ◌-◌, ◌*◌, ◌<◌, ◌≤◌, zero, suc, List, [], ◌∷◌, ◌++◌, length, get_or, take, reverse, refl, sym, subst, arith}
+use Rattle.std.proofs.Common.{◌≡◌, ℕ, ℤ, pos, ◌≤ℤ◌, ◌+◌, ◌-◌, ◌*◌, ◌<◌, ◌≤◌, zero, suc, List, [], ◌∷◌, ◌++◌, length, get_or, take, reverse, sym, subst, arith}
 use Rattle.std.proofs.lemmas.List.{get_or-reverse, length-reverse}
 use Rattle.std.proofs.lemmas.Nat.{row_fits}
 use Rattle.cover_core.specs.Cover.{AllBelow, Rises}
-use Rattle.cover_core.specs.Plans.{number_at}
-use Rattle.cover_core.proofs.Values.{AllBelow-get}
+use Rattle.cover_core.proofs.Values.{AllBelow-get, AllBelow-take}
+use Rattle.cover_core.proofs.Duality.{AllBelow-append}
 use Rattle.lagrangian_climb.specs.Choices.{AreAsked}
 
 pub AllBelow-push : (n : ℕ) (xs : List ℕ) (x : ℕ) → AllBelow n xs → x < n → AllBelow n (xs ++ x ∷ [])
@@ -50,20 +50,6 @@ pub asked-get : (zs : List ℤ) (i : ℕ) (d : ℤ) → i < length zs → AreAsk
 asked-get [] i d h are = absurd (omega arith)
 asked-get (z ∷ zs) zero d h are = record { low = are.0; high = are.1 }
 asked-get (z ∷ zs) (suc i) d h are = asked-get zs i d (omega arith) are.2
-
-pub number-get : (zs : List ℤ) (i : ℕ) (d : ℤ) → i < length zs → get_or zs i d ≡ number_at zs i
-number-get [] i d h = absurd (omega arith)
-number-get (z ∷ zs) zero d h = refl
-number-get (z ∷ zs) (suc i) d h = number-get zs i d (omega arith)
-
-AllBelow-append : (n : ℕ) (xs ys : List ℕ) → AllBelow n xs → AllBelow n ys → AllBelow n (xs ++ ys)
-AllBelow-append n [] ys all more = more
-AllBelow-append n (x ∷ xs) ys all more = (all.0, AllBelow-append n xs ys all.1 more)
-
-AllBelow-take : (n k : ℕ) (xs : List ℕ) → AllBelow n xs → AllBelow n (take k xs)
-AllBelow-take n zero xs all = tt
-AllBelow-take n (suc k) [] all = tt
-AllBelow-take n (suc k) (x ∷ xs) all = (all.0, AllBelow-take n k xs all.1)
 
 pub AllBelow-front : (n k : ℕ) (xs ys : List ℕ) → AllBelow n xs → AllBelow n ys → AllBelow n (take k (xs ++ ys))
 AllBelow-front n k xs ys all more = AllBelow-take n k (xs ++ ys) (AllBelow-append n xs ys all more)

@@ -1,8 +1,11 @@
 -- A request for a day that is made has the day of its calendar, names no file, and has at most 3,000 trips.
-use Rattle.std.proofs.Common.{◌≡◌, ℕ, ◌≤◌, ◌&&◌, Bool, true, false, List, [], ◌∷◌, Option, Some, None, refl, ap, subst, arith, if◌then◌else◌, nat_le}
-use Rattle.std.specs.Prelude.{drop, option_and_then, option_map, unwrap_or}
+use Rattle.std.proofs.Common.{◌≡◌, ℕ, ◌≤◌, ◌&&◌, Bool, true, false, List, [], ◌∷◌, Option, Some, None, refl, subst, arith, if◌then◌else◌, nat_le}
+use Rattle.std.specs.Prelude.{drop, option_map}
 use Rattle.std.specs.Str.Parse.{digits_value}
 use Rattle.std.proofs.lemmas.Bool.Decides.{nat_tests}
+use Rattle.std.proofs.lemmas.Option.{same_Some}
+use Rattle.std.proofs.lemmas.Bool.{and_parts}
+use Rattle.plan_core.proofs.Options.{and_then_some}
 use Rattle.price_rounds.specs.declared.effort.Effort.{Effort}
 use Rattle.command_words.specs.Options.{are_in_range, given_after, in_range, is_allowed, none_given, said, settings_if, settings_of, settings_said}
 use Rattle.command_words.specs.Words.{allowed_of, are_day_and_files, asked, asked_of, before_end, check_request, day_request, file_word, first_word, is_roster, make_request, moment_word, name_of, plain_words, replan_request, request_for, seed_said, week_request}
@@ -15,21 +18,9 @@ use Rattle.command_words.specs.declared.words.CommandName.{CommandName}
 use Rattle.command_words.specs.declared.words.CommandName.TheVariants as names
 use Rattle.command_words.specs.MadeRequests.{IsMadeRequest, makes}
 
-some_same : {A : Type 0} (x y : A) → Some x ≡ Some y → x ≡ y
-some_same {A = A} x y e = let f : Option A → A = λ o. unwrap_or o x in ap f e
-
-and_then_some : {A B : Type 0} (f : A → Option B) (o : Option A) (y : B) → option_and_then f o ≡ Some y →
-    (x : A) × (o ≡ Some x) × (f x ≡ Some y)
-and_then_some f None y e = absurd (cc)
-and_then_some f (Some x) y e = (x, refl, e)
-
 if_some : {A : Type 0} (b : Bool) (x y : A) → (if b then Some x else None) ≡ Some y → (b ≡ true) × (x ≡ y)
-if_some true x y e = (refl, some_same x y e)
+if_some true x y e = (refl, same_Some x y e)
 if_some false x y e = absurd (cc)
-
-and_last : (a b : Bool) → (a && b) ≡ true → b ≡ true
-and_last true b e = e
-and_last false b e = absurd (cc)
 
 -- The request.
 -- what options set has at most 3,000 trips
@@ -40,11 +31,11 @@ few_said : (allowed : Allowed) (words : List (List ℕ)) (settings : Settings) �
 few_said allowed words settings e =
     let (given, is, made) = and_then_some (settings_if allowed) (given_after none_given (said words)) settings e in
     let (tests, same) = if_some (is_allowed allowed given && are_in_range (settings_of given)) (settings_of given) settings made in
-    let ranges = and_last (is_allowed allowed given) (are_in_range (settings_of given)) tests in
-    let trips = and_last (in_range (settings_of given).effort)
-    (nat_le 1 (settings_of given).trips && nat_le (settings_of given).trips 3000) ranges in
+    let ranges = (and_parts (is_allowed allowed given) (are_in_range (settings_of given)) tests).1 in
+    let trips = (and_parts (in_range (settings_of given).effort)
+    (nat_le 1 (settings_of given).trips && nat_le (settings_of given).trips 3000) ranges).1 in
     let few : nat_le (settings_of given).trips 3000 ≡ true =
-    and_last (nat_le 1 (settings_of given).trips) (nat_le (settings_of given).trips 3000) trips in
+    (and_parts (nat_le 1 (settings_of given).trips) (nat_le (settings_of given).trips 3000) trips).1 in
     let low : (settings_of given).trips ≤ 3000 = grind (arith, nat_tests) in
     let P : Settings → Type 0 = λ settings. settings.trips ≤ 3000 in
     subst P same low
@@ -92,7 +83,7 @@ week_makes_none effort words r e =
 seeded : (settings : Settings) (o : Option ℕ) (r : Request) → option_map (make_request settings) o ≡ Some r →
     (seed : ℕ) × (make_request settings seed ≡ r)
 seeded settings None r e = absurd (cc)
-seeded settings (Some seed) r e = (seed, some_same (make_request settings seed) r e)
+seeded settings (Some seed) r e = (seed, same_Some (make_request settings seed) r e)
 
 named : (name : CommandName) (settings : Settings) (words : List (List ℕ)) (r : Request) → settings.trips ≤ 3000 →
     request_for name settings words ≡ Some r → makes r.command ≡ true → IsMadeRequest r

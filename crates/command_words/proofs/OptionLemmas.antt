@@ -2,6 +2,7 @@
 use Rattle.std.proofs.Common.{◌≡◌, ℕ, suc, Bool, true, false, not, ◌&&◌, ◌+◌, ◌<◌, List, [], ◌∷◌, length, arith, slice_index_or, drop, Option, Some, None, refl, sym, ◌∙◌, ap}
 use Rattle.std.proofs.Math.Seq.{drop-cons}
 use Rattle.std.specs.Option.{option_and_then}
+use Rattle.std.proofs.lemmas.Bool.{not-false}
 use Rattle.command_words.specs.declared.options.Given.{Given}
 use Rattle.command_words.specs.Options as spec
 
@@ -32,11 +33,7 @@ plain_option word words option = by_flag (spec.is_flag word) (spec.has_mark word
 plain_goes_on : (is_value : Bool) (word : List ℕ) (words : List (List ℕ)) → (not is_value && not (spec.is_option word)) ≡ false →
     plain_after is_value (word ∷ words) ≡ plain_after (not is_value && spec.takes_next word) words
 plain_goes_on true word words other = plain_value word words
-plain_goes_on false word words other = plain_option word words (is_so (spec.is_option word) other)
-  where
-    is_so : (b : Bool) → not b ≡ false → b ≡ true
-    is_so true e = refl
-    is_so false e = cc
+plain_goes_on false word words other = plain_option word words (not-false (spec.is_option word) other)
 
 -- The search for the first plain word goes on behind a word that is an option or a value. The plain words of all words are those of the
 -- words that are left, so long as the next one is known to be a value or not; and one more word that is not plain changes nothing of that:

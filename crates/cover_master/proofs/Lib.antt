@@ -1,7 +1,6 @@
 mod Ranks
-mod Covers
 mod Walks
 mod Prices
-mod Rules
+pub mod Rules
 mod Losses
 mod Limits

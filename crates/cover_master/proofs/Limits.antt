@@ -62,11 +62,6 @@ count-class class limit (k ∷ ks) =
       | false ↦ λ is. omega arith
     ] whole
 
-pub number_at-get : (zs : List ℤ) (i : ℕ) (d : ℤ) → i < length zs → get_or zs i d ≡ number_at zs i
-number_at-get [] i d h = absurd (omega arith)
-number_at-get (z ∷ zs) zero d h = refl
-number_at-get (z ∷ zs) (suc i) d h = number_at-get zs i d (omega arith)
-
 number_at-front : (zs : List ℤ) (z : ℤ) (i : ℕ) → i < length zs → number_at (zs ++ z ∷ []) i ≡ number_at zs i
 number_at-front [] z i h = absurd (omega arith)
 number_at-front (y ∷ ys) z zero h = refl

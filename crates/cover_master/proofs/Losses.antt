@@ -11,7 +11,7 @@ use Rattle.cover_core.specs.FirstLeast.{AllWithin, value}
 use Rattle.cover_core.proofs.Values.{IsWithin, price_at-within}
 use Rattle.cover_core.proofs.Parts.{Rises-once}
 use Rattle.cover_master.specs.Method.{clamped, lowered_by, lowered_price, lowered_prices, share_of}
-use Rattle.cover_master.proofs.Covers.{times-take}
+use Rattle.cover_core.proofs.Times.{times-take}
 use Rattle.cover_master.proofs.Rules.{prices_from-is, prices_from-within, clamped-within}
 
 pub price_at-set_same : (xs : List Price) (k : ℕ) (x : Price) → k < length xs → price_at (set xs k x) k ≡ x.0

@@ -1,5 +1,5 @@
 -- Prices by a rule: what has the rule's price at each item is the list of them, and what a rule keeps in range stays there.
-use Rattle.std.proofs.Common.{◌≡◌, ℕ, ℤ, pos, neg_ℤ, ◌≤ℤ◌, int_lt, ◌+◌, ◌<◌, true, false, cond, zero, suc, List, [], ◌∷◌, ◌++◌, length, refl, ap, ◌∙◌, arith}
+use Rattle.std.proofs.Common.{◌≡◌, ℕ, ℤ, pos, neg_ℤ, ◌≤ℤ◌, int_lt, ◌+◌, ◌<◌, true, false, cond, zero, suc, List, [], ◌∷◌, length, refl, ap, ◌∙◌, arith}
 use Rattle.std.proofs.lemmas.Int.{ints}
 use Rattle.plan_core.specs.declared.Price.{Price}
 use Rattle.cover_core.specs.Plans.{price_at}
@@ -42,7 +42,3 @@ clamped-within z =
             | false ↦ λ is'. let low : neg_ℤ (pos 10000000000000) ≤ℤ z = grind (arith, ints) in record { low = low; high = high }
           ] refl
     ] refl
-
-pub AllWithin-push : (n : ℕ) (xs : List Price) (x : Price) → AllWithin n xs → IsWithin n x.0 → AllWithin n (xs ++ x ∷ [])
-AllWithin-push n [] x h w = (w.low, w.high, tt)
-AllWithin-push n (y ∷ ys) x h w = (h.0, h.1, AllWithin-push n ys x h.2 w)

@@ -1,7 +1,10 @@
 -- Lists of a rest.
-use Rattle.std.proofs.Common.{◌≡◌, ◌≢◌, ℕ, ◌<◌, ◌≤◌, ◌&&◌, Bool, true, false, cond, nat_lt, List, [], ◌∷◌, length, Option, Some, None, refl, ap, subst, ◌∙◌, arith}
-use Rattle.std.specs.Prelude.{IfSome, unwrap_or}
+use Rattle.std.proofs.Common.{◌≡◌, ◌≢◌, ℕ, ◌<◌, ◌≤◌, ◌&&◌, Bool, true, false, cond, nat_lt, List, [], ◌∷◌, length, Option, Some, None, refl, subst, ◌∙◌, arith}
+use Rattle.std.specs.Prelude.{IfSome}
+pub use Rattle.std.proofs.lemmas.Bool.{and_from as true-both, and_parts as both-true}
 use Rattle.std.proofs.lemmas.Bool.Decides.{nat_tests}
+pub use Rattle.std.proofs.lemmas.Option.{same_Some as some-same}
+pub use Rattle.plan_core.proofs.Options.{given_some as from-cond}
 use Rattle.cover_core.specs.declared.Column.{Column}
 use Rattle.cover_core.specs.Cover.{Problem, AllBelow, Rises}
 use Rattle.cover_core.specs.Plans.{HasListedColumns, AreColumns}
@@ -9,24 +12,9 @@ use Rattle.cover_core.specs.Ranges.{HasModestWorths}
 use Rattle.cover_rest.specs.declared.begun.Begun.{Begun}
 use Rattle.cover_rest.specs.Rest.{all_below, bodies, is_rest_list, keeps_heads, rest_of, rest_worth, rises, written, written_plan}
 
-pub both-true : (a b : Bool) → (a && b) ≡ true → (a ≡ true) × (b ≡ true)
-both-true true b e = (refl, e)
-both-true false b e = absurd (cc)
-
-pub true-both : (a b : Bool) → a ≡ true → b ≡ true → (a && b) ≡ true
-true-both true b e f = f
-true-both false b e f = absurd (cc)
-
-pub from-cond : {A : Type 0} (b : Bool) (o : Option A) (y : A) → cond b o None ≡ Some y → (b ≡ true) × (o ≡ Some y)
-from-cond true o y e = (refl, e)
-from-cond false o y e = absurd (cc)
-
 pub onto-cond : {A : Type 0} (b : Bool) (o : Option A) → b ≡ true → cond b o None ≡ o
 onto-cond true o e = refl
 onto-cond false o e = absurd (cc)
-
-pub some-same : {A : Type 0} (x y : A) → Some x ≡ Some y → x ≡ y
-some-same {A = A} x y e = let f : Option A → A = λ o. unwrap_or o x in ap f e
 
 pub rises-rise : (list : List ℕ) → rises list ≡ true → Rises list
 rises-rise [] e = tt

@@ -1,8 +1,12 @@
 -- Blocks cost no more than all their seconds at the highest rate.
-use Rattle.std.proofs.Common.{◌≡◌, ℕ, ℤ, pos, negsuc, ◌+◌, ◌*◌, ◌<◌, ◌≤◌, ◌≤ℤ◌, ◌+ℤ◌, ◌-ℤ◌, ◌*ℤ◌, ◌&&◌, Bool, true, false, zero, suc, List, [], ◌∷◌, length, All, Option, Some, None, refl, sym, ap, subst, ◌∙◌, arith, slice_get, nat_le}
-use Rattle.std.specs.Prelude.{option_and_then, unwrap_or}
+use Rattle.std.proofs.Common.{◌≡◌, ℕ, ℤ, pos, negsuc, ◌+◌, ◌*◌, ◌<◌, ◌≤◌, ◌≤ℤ◌, ◌+ℤ◌, ◌-ℤ◌, ◌*ℤ◌, ◌&&◌, zero, suc, List, [], ◌∷◌, length, All, Option, Some, None, refl, sym, ap, subst, ◌∙◌, arith, slice_get, nat_le}
+use Rattle.std.specs.Prelude.{option_and_then}
 use Rattle.std.proofs.lemmas.Int.{ints}
 use Rattle.std.proofs.lemmas.List.Elements.{All-tail}
+use Rattle.std.proofs.lemmas.Option.{same_Some}
+pub use Rattle.std.proofs.lemmas.Option.{same_Some as some_same}
+use Rattle.plan_core.proofs.Options.{given_some}
+pub use Rattle.plan_core.proofs.Options.{and_then_some}
 use Rattle.trip_times.specs.declared.trip.Trip.{Trip}
 use Rattle.plan_params.specs.declared.rows.pool.Pool.{Pool}
 use Rattle.day_model.specs.declared.link.Link.{Link}
@@ -12,21 +16,9 @@ use Rattle.day_model.specs.Links.{depot_link, direct_for, direct_link, first_of,
 use Rattle.day_model.specs.Ranges.{IsDaily}
 use Rattle.depot_network.specs.Walk.{IsCheapUntil, end_of, seconds_of}
 
-pub some_same : {A : Type 0} (x y : A) → Some x ≡ Some y → x ≡ y
-some_same {A = A} x y e = let f : Option A → A = λ o. unwrap_or o x in ap f e
-
-pub and_then_some : {A B : Type 0} (f : A → Option B) (o : Option A) (y : B) → option_and_then f o ≡ Some y →
-    (x : A) × (o ≡ Some x) × (f x ≡ Some y)
-and_then_some f None y e = absurd (cc)
-and_then_some f (Some x) y e = (x, refl, e)
-
-given_some : {A : Type 0} (b : Bool) (o : Option A) (y : A) → given b o ≡ Some y → o ≡ Some y
-given_some true o y e = e
-given_some false o y e = absurd (cc)
-
 -- a number of seconds is the number
 pub seconds_some : (z : ℤ) (n : ℕ) → seconds z ≡ Some n → z ≡ pos n
-seconds_some (pos m) n e = ap pos (some_same m n e)
+seconds_some (pos m) n e = ap pos (same_Some m n e)
 seconds_some (negsuc m) n e = absurd (cc)
 
 -- the trip of a number, and that it is daily
@@ -41,7 +33,7 @@ pub pull_out_leaves : (trip : Trip) (o : Option ℕ) (out : ℕ) → pull_out_ov
 pull_out_leaves trip o out e =
     let moved = and_then_some (λ (m : ℕ). option_and_then (λ (n : ℕ). Some m) (seconds (trip.begin.0 -ℤ pos m))) o out e in
     let left = and_then_some (λ (n : ℕ). Some moved.0) (seconds (trip.begin.0 -ℤ pos moved.0)) out moved.2 in
-    let same : moved.0 ≡ out = some_same moved.0 out left.2 in
+    let same : moved.0 ≡ out = same_Some moved.0 out left.2 in
     let z = seconds_some (trip.begin.0 -ℤ pos moved.0) left.0 left.1 in
     omega (arith, ints, z, same)
 
@@ -53,7 +45,7 @@ direct_fits day t u l e =
     let stood = and_then_some
     (λ (s : ℕ). given (nat_le day.params.settings.turn s && nat_le s day.params.settings.max_wait) (Some (Direct moved.0 s)))
     (seconds (u.begin.0 -ℤ t.end.0 -ℤ pos moved.0)) l moved.2 in
-    let is : Direct moved.0 stood.0 ≡ l = some_same (Direct moved.0 stood.0) l (given_some _ _ l stood.2) in
+    let is : Direct moved.0 stood.0 ≡ l = same_Some (Direct moved.0 stood.0) l (given_some _ _ l stood.2).1 in
     let z = seconds_some (u.begin.0 -ℤ t.end.0 -ℤ pos moved.0) stood.0 stood.1 in
     let fits : pos (moved.0 + stood.0) ≤ℤ (u.begin.0 -ℤ t.end.0) = omega (arith, ints, z) in
     let P : Link → Type 0 = λ l. pos (seconds_of l) ≤ℤ (u.begin.0 -ℤ t.end.0) in
@@ -71,7 +63,7 @@ depot_fits day pool t u l e =
     (dead day pool.depot u.from) l inward.2 in
     let stood = and_then_some (λ (s : ℕ). Some (Depot inward.0 outward.0 s))
     (seconds (u.begin.0 -ℤ t.end.0 -ℤ pos inward.0 -ℤ pos outward.0)) l outward.2 in
-    let is : Depot inward.0 outward.0 stood.0 ≡ l = some_same (Depot inward.0 outward.0 stood.0) l stood.2 in
+    let is : Depot inward.0 outward.0 stood.0 ≡ l = same_Some (Depot inward.0 outward.0 stood.0) l stood.2 in
     let z = seconds_some (u.begin.0 -ℤ t.end.0 -ℤ pos inward.0 -ℤ pos outward.0) stood.0 stood.1 in
     let fits : pos (inward.0 + outward.0) ≤ℤ (u.begin.0 -ℤ t.end.0) = omega (arith, ints, z) in
     let P : Link → Type 0 = λ l. pos (seconds_of l) ≤ℤ (u.begin.0 -ℤ t.end.0) in

@@ -5,10 +5,13 @@ use Rattle.std.specs.List.{list_all}
 use Rattle.std.specs.Option.{option_map_or}
 use Rattle.std.proofs.lemmas.Bool.Decides.{nat_tests}
 use Rattle.std.proofs.lemmas.Int.{ints}
+use Rattle.std.proofs.lemmas.Bool.{not-false}
+use Rattle.std.proofs.lemmas.Option.{same_Some}
 use Rattle.plan_core.specs.declared.types.Leg.{Leg}
 use Rattle.plan_core.specs.declared.types.LegKind.{LegKind}
 use Rattle.plan_core.specs.declared.types.LegKind.TheVariants.{PullOut, Deadhead, Stand, PullIn}
 use Rattle.plan_core.specs.declared.types.Point.{Point}
+use Rattle.plan_core.proofs.Options.{given_some, and_then_some}
 use Rattle.vdv452_tables.specs.Keys.{point_eq}
 use Rattle.trip_times.specs.declared.trip.Trip.{Trip as TheTrip}
 use Rattle.deadheads.specs.Entries.{time_at}
@@ -19,7 +22,7 @@ use Rattle.day_model.specs.Facts.{DayFacts, dead, is_relief}
 use Rattle.day_model.specs.Links.{depot_link, direct_for, direct_link, first_of, given, link, pull_in, pull_out, pull_out_over, seconds}
 use Rattle.day_model.specs.Pieces.{can_be_driven, driving_seconds, duration, is_cut, is_shown, is_stand, is_trip, leg, legs_from, link_legs, longest_driving, may_be_driven, onto_first, parts, pieces_from, shown, trip_leg}
 use Rattle.depot_network.specs.Driving.{driven_in, driven_on, driven_over, drives, drives_on, is_cut_at, is_cut_on, kept, seconds_after, seconds_before, stand_of, stand_point, trip_seconds}
-use Rattle.depot_network.proofs.Bounds.{and_then_some, seconds_some, some_same}
+use Rattle.depot_network.proofs.Bounds.{seconds_some}
 
 -- Tests.
 true_last : (b : Bool) → (b && true) ≡ b
@@ -155,10 +158,6 @@ module _ (day : DayFacts) (pool : Pool) where
     pub before : point_eq t.to (stand_point pool u l) ≡ true → seconds_before l ≡ 0
     pub after : point_eq (stand_point pool u l) u.from ≡ true → seconds_after l ≡ 0
 
-  not_false : (b : Bool) → not b ≡ false → b ≡ true
-  not_false true e = refl
-  not_false false e = absurd (cc)
-
   -- a move
   driven : (d : ℕ) (kind : LegKind) (from to : Point) (begin end : ℤ) (m : ℕ) (legs : List Leg) →
       is_stand kind ≡ false → is_trip kind ≡ false →
@@ -169,7 +168,7 @@ module _ (day : DayFacts) (pool : Pool) where
       let shows : is_shown l ≡ not (point_eq from to) =
       ap (λ b. b || cond (is_stand kind) (nat_le 1 (duration l)) (not (point_eq from to))) no_trip
       ∙ ap (λ b. cond b (nat_le 1 (duration l)) (not (point_eq from to))) no_stand in
-      moved d l legs no_stand (λ out. seconds_are ∙ none (not_false (point_eq from to) (sym shows ∙ out)))
+      moved d l legs no_stand (λ out. seconds_are ∙ none (not-false (point_eq from to) (sym shows ∙ out)))
       ∙ ap (λ n. rest (d + n) legs) seconds_are
 
   -- The legs of a connection, a move, a stand and perhaps a second move, have the effect that the walk's formula states at once:
@@ -212,11 +211,7 @@ module _ (day : DayFacts) (pool : Pool) where
   no_dead : (from to : Point) (m : ℕ) → dead day from to ≡ Some m → point_eq from to ≡ true → m ≡ 0
   no_dead from to m is same =
       let none : dead day from to ≡ Some 0 = ap (λ b. if b then Some 0 else time_at day.deads (record { from = from; to = to })) same in
-      some_same m 0 (sym is ∙ none)
-
-  given_is : {A : Type 0} (b : Bool) (o : Option A) (y : A) → given b o ≡ Some y → o ≡ Some y
-  given_is true o y e = e
-  given_is false o y e = absurd (cc)
+      same_Some m 0 (sym is ∙ none)
 
   direct_timed : (t u : TheTrip) (l : Link) → direct_link day t u ≡ Some l → IsTimed t u l
   direct_timed t u l e =
@@ -225,7 +220,7 @@ module _ (day : DayFacts) (pool : Pool) where
       let (stand, is_stand, made) =
       and_then_some (λ (s : ℕ). given (nat_le day.params.settings.turn s && nat_le s day.params.settings.max_wait) (Some (Direct move s)))
       (seconds (u.begin.0 -ℤ t.end.0 -ℤ pos move)) l stands in
-      let is : Direct move stand ≡ l = some_same (Direct move stand) l (given_is _ _ l made) in
+      let is : Direct move stand ≡ l = same_Some (Direct move stand) l (given_some _ _ l made).1 in
       let z = seconds_some (u.begin.0 -ℤ t.end.0 -ℤ pos move) stand is_stand in
       let P : Link → Type 0 = λ l. IsTimed t u l in
       let timed : IsTimed t u (Direct move stand) =
@@ -243,7 +238,7 @@ module _ (day : DayFacts) (pool : Pool) where
       (seconds (u.begin.0 -ℤ t.end.0 -ℤ pos inward -ℤ pos o))) (dead day pool.depot u.from) l e1 in
       let (stand, is_stand, made) =
       and_then_some (λ (s : ℕ). Some (Depot inward outward s)) (seconds (u.begin.0 -ℤ t.end.0 -ℤ pos inward -ℤ pos outward)) l e2 in
-      let is : Depot inward outward stand ≡ l = some_same (Depot inward outward stand) l made in
+      let is : Depot inward outward stand ≡ l = same_Some (Depot inward outward stand) l made in
       let z = seconds_some (u.begin.0 -ℤ t.end.0 -ℤ pos inward -ℤ pos outward) stand is_stand in
       let P : Link → Type 0 = λ l. IsTimed t u l in
       let timed : IsTimed t u (Depot inward outward stand) =

@@ -2,9 +2,11 @@
 use Rattle.std.proofs.Common.{◌≡◌, ℕ, ℤ, pos, ◌+ℤ◌, ◌-ℤ◌, ◌≤ℤ◌, ◌+◌, ◌*◌, ◌<◌, ◌≤◌, Bool, true, false, cond, ◌&&◌, nat_lt, nat_eq, List, length, refl, sym, ap, ◌∙◌, subst, arith, slice_get}
 use Rattle.std.proofs.lemmas.Bool.Decides.{nat_tests}
 use Rattle.std.proofs.lemmas.Int.{ints}
-use Rattle.std.proofs.lemmas.Option.{slice_get_within}
-use Rattle.std.specs.Prelude.{Option, Some, None, option_and_then, unwrap_or, nat_le, int_le}
+use Rattle.std.proofs.lemmas.Option.{slice_get_within, same_Some}
+use Rattle.std.specs.Prelude.{Option, Some, option_and_then, nat_le, int_le}
+use Rattle.std.proofs.lemmas.Bool.{and_from, and_parts}
 use Rattle.plan_core.specs.declared.Price.{Price}
+use Rattle.plan_core.proofs.Options.{and_then_some, given_some}
 use Rattle.cover_core.specs.declared.marks.BlockMark.{BlockMark}
 use Rattle.cover_core.specs.Plans.{price_at}
 use Rattle.trip_times.specs.declared.trip.Trip.{Trip}
@@ -19,29 +21,9 @@ use Rattle.depot_network.specs.Driving.{trip_seconds}
 use Rattle.depot_network.specs.Open.{scaled}
 use Rattle.depot_network.specs.BlockMarks.{mark, kept, first_mark, moves_of, is_cut_stand, driven_on, extended_over, extended_mark, closed_value, is_as_good, block_marking}
 
-some_same : {A : Type 0} (x y : A) → Some x ≡ Some y → x ≡ y
-some_same {A = A} x y e = let f : Option A → A = λ o. unwrap_or o x in ap f e
-
-and_then_some : {A B : Type 0} (f : A → Option B) (o : Option A) (y : B) → option_and_then f o ≡ Some y →
-    (x : A) × (o ≡ Some x) × (f x ≡ Some y)
-and_then_some f None y e = absurd (cc)
-and_then_some f (Some x) y e = (x, refl, e)
-
-given_some : {A : Type 0} (b : Bool) (o : Option A) (y : A) → given b o ≡ Some y → (b ≡ true) × (o ≡ Some y)
-given_some true o y e = (refl, e)
-given_some false o y e = absurd (cc)
-
 given_onto : {A : Type 0} (b : Bool) (o : Option A) → b ≡ true → given b o ≡ o
 given_onto true o e = refl
 given_onto false o e = absurd (cc)
-
-both_true : (a b : Bool) → (a && b) ≡ true → (a ≡ true) × (b ≡ true)
-both_true true b e = (refl, e)
-both_true false b e = absurd (cc)
-
-and_true : (a b : Bool) → a ≡ true → b ≡ true → (a && b) ≡ true
-and_true true b h k = k
-and_true false b h k = absurd (cc)
 
 -- the parts of "at least as good"
 pub record IsBetter (a b : BlockMark) : Type 0 where
@@ -52,10 +34,10 @@ pub record IsBetter (a b : BlockMark) : Type 0 where
 
 pub good-parts : (a b : BlockMark) → is_as_good a b ≡ true → IsBetter a b
 good-parts a b h =
-    let (left, right) = both_true (nat_eq a.class b.class && nat_eq a.trip b.trip)
+    let (left, right) = and_parts (nat_eq a.class b.class && nat_eq a.trip b.trip)
     (nat_le a.driving b.driving && int_le a.value b.value) h in
-    let (class, trip) = both_true (nat_eq a.class b.class) (nat_eq a.trip b.trip) left in
-    let (driving, value) = both_true (nat_le a.driving b.driving) (int_le a.value b.value) right in
+    let (class, trip) = and_parts (nat_eq a.class b.class) (nat_eq a.trip b.trip) left in
+    let (driving, value) = and_parts (nat_le a.driving b.driving) (int_le a.value b.value) right in
     record {
       class = grind (arith, nat_tests);
       trip = grind (arith, nat_tests);
@@ -70,9 +52,9 @@ parts-good a b h =
     let trip = h.trip in
     let driving = h.driving in
     let value = h.value in
-    and_true (nat_eq a.class b.class && nat_eq a.trip b.trip) (nat_le a.driving b.driving && int_le a.value b.value)
-    (and_true (nat_eq a.class b.class) (nat_eq a.trip b.trip) (grind (arith, nat_tests)) (grind (arith, nat_tests)))
-    (and_true (nat_le a.driving b.driving) (int_le a.value b.value) (grind (arith, nat_tests)) (grind (arith, ints)))
+    and_from (nat_eq a.class b.class && nat_eq a.trip b.trip) (nat_le a.driving b.driving && int_le a.value b.value)
+    (and_from (nat_eq a.class b.class) (nat_eq a.trip b.trip) (grind (arith, nat_tests)) (grind (arith, nat_tests)))
+    (and_from (nat_le a.driving b.driving) (int_le a.value b.value) (grind (arith, nat_tests)) (grind (arith, ints)))
 
 below-limit : (m n : ℕ) → m ≤ n → nat_le n longest_driving ≡ true → nat_le m longest_driving ≡ true
 below-limit m n h k = grind (arith, nat_tests)
@@ -88,7 +70,7 @@ driven-kept : (cut : Bool) (first first' second second' class class' k : ℕ) (v
 driven-kept true first first' second second' class class' k value value' b same less more equal low e =
     let (limit, rest) = given_some (nat_le first' longest_driving) (kept (mark class' k second' value')) b e in
     let (limit2, is) = given_some (nat_le second' longest_driving) (Some (mark class' k second' value')) b rest in
-    let b_is = some_same (mark class' k second' value') b is in
+    let b_is = same_Some (mark class' k second' value') b is in
     let a = mark class k second value in
     let P : BlockMark → Type 0 = λ x. is_as_good a x ≡ true in (
       a,
@@ -98,7 +80,7 @@ driven-kept true first first' second second' class class' k value value' b same 
     )
 driven-kept false first first' second second' class class' k value value' b same less more equal low e =
     let (limit, is) = given_some (nat_le (first' + second') longest_driving) (Some (mark class' k (first' + second') value')) b e in
-    let b_is = some_same (mark class' k (first' + second') value') b is in
+    let b_is = same_Some (mark class' k (first' + second') value') b is in
     let a = mark class k (first + second) value in
     let sum : first + second ≤ first' + second' = omega arith in
     let P : BlockMark → Type 0 = λ x. is_as_good a x ≡ true in (
@@ -224,7 +206,7 @@ closed-kept day counts a b v good e =
     let inward = ins.0 in
     let tested = given_some (nat_le (b.driving + inward) longest_driving)
     (Some (b.value +ℤ scaled counts (pool.dead_rate * inward))) v ins.2 in
-    let total = some_same (b.value +ℤ scaled counts (pool.dead_rate * inward)) v tested.1 in
+    let total = same_Some (b.value +ℤ scaled counts (pool.dead_rate * inward)) v tested.1 in
     let driving = better.driving in
     let value = better.value in
     let P : ℕ → Type 0 = λ c. slice_get day.params.pools c ≡ Some pool in
@@ -271,13 +253,13 @@ driven-place : (cut : Bool) (first second class k : ℕ) (value : ℤ) (b : Bloc
 driven-place true first second class k value b e =
     let (limit, rest) = given_some (nat_le first longest_driving) (kept (mark class k second value)) b e in
     let (limit2, is) = given_some (nat_le second longest_driving) (Some (mark class k second value)) b rest in
-    let same = some_same (mark class k second value) b is in
+    let same = same_Some (mark class k second value) b is in
     let f : BlockMark → ℕ = λ m. m.class in
     let g : BlockMark → ℕ = λ m. m.trip in
     (sym (ap f same), sym (ap g same))
 driven-place false first second class k value b e =
     let (limit, is) = given_some (nat_le (first + second) longest_driving) (Some (mark class k (first + second) value)) b e in
-    let same = some_same (mark class k (first + second) value) b is in
+    let same = same_Some (mark class k (first + second) value) b is in
     let f : BlockMark → ℕ = λ m. m.class in
     let g : BlockMark → ℕ = λ m. m.trip in
     (sym (ap f same), sym (ap g same))
@@ -306,7 +288,7 @@ first-place day counts prices class k b e =
     let made = mark class k (out + trip_seconds t)
     (cond counts (pos 1000) (pos (1000 * (pool.fixed + pool.dead_rate * out))) -ℤ price_at prices k) in
     let (limit, is) = given_some (nat_le (out + trip_seconds t) longest_driving) (Some made) b outs.2 in
-    let same = some_same made b is in
+    let same = same_Some made b is in
     let f : BlockMark → ℕ = λ m. m.class in
     let g : BlockMark → ℕ = λ m. m.trip in
     (slice_get_within day.trips k t trips.1, sym (ap f same), sym (ap g same))
@@ -317,7 +299,7 @@ blocks-placed day counts prices = record {
   starts = λ class k b e. first-place day counts prices class k b e;
   steps = λ a b k e.
       let x = extension-parts day counts prices a b k e in
-      let tests = both_true (nat_lt a.trip k) (admits day x.next.line x.pool.typ) x.test in
+      let tests = and_parts (nat_lt a.trip k) (admits day x.next.line x.pool.typ) x.test in
       let test : nat_lt a.trip k ≡ true = tests.0 in
       let moves = moves_of x.pool x.next x.over in
       let (class, trip) = driven-place (is_cut_stand day x.pool moves) (a.driving + moves.before)

@@ -6,6 +6,8 @@ use Rattle.std.specs.Option.{option_map}
 use Rattle.std.proofs.lemmas.Bool.Decides.{nat_tests}
 use Rattle.std.proofs.lemmas.Int.{ints}
 use Rattle.std.proofs.lemmas.List.Elements.{All-head, All-map, All-tail, All-weaker}
+use Rattle.std.proofs.lemmas.Option.{same_Some}
+use Rattle.plan_core.proofs.Options.{and_then_some, given_some}
 use Rattle.cover_core.specs.Ranges.{HasFewPlaces, HasModestWorths}
 use Rattle.vdv452_tables.specs.Keys.{point_eq}
 use Rattle.trip_times.specs.declared.trip.Trip.{Trip}
@@ -21,19 +23,19 @@ use Rattle.depot_network.specs.declared.step.Step.{Step}
 use Rattle.depot_network.specs.Driving.{driven_first, driven_in, driven_on, kept}
 use Rattle.depot_network.specs.Network.{NetFacts, blocks}
 use Rattle.depot_network.specs.Walk.{IsCheapUntil, added, begun, ended, first_step, last_step, next_step, seconds_of, stepped, steps}
-use Rattle.depot_network.proofs.Bounds.{and_then_some, begun_cheap, extended_cheap, some_same}
-use Rattle.depot_network.proofs.Opens.{given_both, in_is, joined_parts, map_some}
+use Rattle.depot_network.proofs.Bounds.{begun_cheap, extended_cheap}
+use Rattle.depot_network.proofs.Opens.{in_is, joined_parts, map_some}
 use Rattle.depot_network.proofs.Walks.{worth_walked}
 
 -- the trip at a number is daily, and the pool at a number is in its ranges
 daily_at : (trips : List Trip) (k : ℕ) (trip : Trip) → All IsDaily trips → slice_get trips k ≡ Some trip → IsDaily trip
 daily_at [] k trip all is = absurd (cc)
-daily_at (x ∷ xs) zero trip all is = let P : Trip → Type 0 = λ y. IsDaily y in subst P (some_same x trip is) (All-head IsDaily x xs all)
+daily_at (x ∷ xs) zero trip all is = let P : Trip → Type 0 = λ y. IsDaily y in subst P (same_Some x trip is) (All-head IsDaily x xs all)
 daily_at (x ∷ xs) (suc k) trip all is = daily_at xs k trip (All-tail IsDaily x xs all) is
 
 pool_at : (pools : List Pool) (k : ℕ) (pool : Pool) → All IsPool pools → slice_get pools k ≡ Some pool → IsPool pool
 pool_at [] k pool all is = absurd (cc)
-pool_at (x ∷ xs) zero pool all is = let P : Pool → Type 0 = λ y. IsPool y in subst P (some_same x pool is) (All-head IsPool x xs all)
+pool_at (x ∷ xs) zero pool all is = let P : Pool → Type 0 = λ y. IsPool y in subst P (same_Some x pool is) (All-head IsPool x xs all)
 pool_at (x ∷ xs) (suc k) pool all is = pool_at xs k pool (All-tail IsPool x xs all) is
 
 -- seconds at a rate
@@ -76,7 +78,7 @@ first_low day pool class t cost sound there e =
     let begin : ℕ → ℕ = λ out. pool.fixed + pool.dead_rate * out in
     let (trip, at, e1) = and_then_some (λ (trip : Trip). given (admits day trip.line pool.typ) (option_map begin (pull_out day pool trip)))
     (slice_get day.trips t) cost e in
-    let (admitted, e2) = given_both (admits day trip.line pool.typ) (option_map begin (pull_out day pool trip)) cost e1 in
+    let (admitted, e2) = given_some (admits day trip.line pool.typ) (option_map begin (pull_out day pool trip)) cost e1 in
     let (out, is_out, same) = map_some begin (pull_out day pool trip) cost e2 in
     let is = pool_at day.params.pools class pool sound.pools there in
     let pulled = pulled_at day pool class t trip there at in
@@ -95,9 +97,9 @@ more_low day pool class t u cost more sound there e cheap =
     let (trip, at, e1) = and_then_some (λ (trip : Trip). option_and_then (over trip) (slice_get day.trips u))
     (slice_get day.trips t) more e in
     let (next, at_next, e2) = and_then_some (over trip) (slice_get day.trips u) more e1 in
-    let (later, e3) = given_both (nat_lt t u)
+    let (later, e3) = given_some (nat_lt t u)
     (given (admits day next.line pool.typ) (option_map (λ l. link_cost pool next l) (link day pool trip next))) more e2 in
-    let (admitted, e4) = given_both (admits day next.line pool.typ)
+    let (admitted, e4) = given_some (admits day next.line pool.typ)
     (option_map (λ l. link_cost pool next l) (link day pool trip next)) more e3 in
     let (l, is_link, same) = map_some (λ l. link_cost pool next l) (link day pool trip next) more e4 in
     let linked = linked_at day pool class t u trip next there at at_next in
@@ -119,7 +121,7 @@ kept_low n e =
 -- highest rate, though nothing else bounds a deadhead that short.
 last_low : (day : DayFacts) (pool : Pool) (driving t more : ℕ) → IsPool pool → last_step day pool driving t ≡ Some more → more ≤ 162000000
 last_low day pool driving t more is e =
-    let (driven, e1) = given_both (is_some (driven_in day pool driving t)) (ended day pool t) more e in
+    let (driven, e1) = given_some (is_some (driven_in day pool driving t)) (ended day pool t) more e in
     let (trip, at, e2) = and_then_some (λ (trip : Trip). option_map (λ (inward : ℕ). pool.dead_rate * inward) (pull_in day pool trip))
     (slice_get day.trips t) more e1 in
     let (inward, is_inward, same) = map_some (λ (inward : ℕ). pool.dead_rate * inward) (pull_in day pool trip) more e2 in
@@ -171,7 +173,7 @@ block_low day counts class list worth sound e =
     (sym (worth_walked day counts class list) ∙ e) in
     let (pool, there, walked) = and_then_some (λ (pool : Pool). steps day pool list) (slice_get day.params.pools class) cost is_cost in
     let low = counted_low counts cost (steps_low day pool class list cost sound there walked) in
-    let is : cond counts 1 cost ≡ worth = some_same (cond counts 1 cost) worth same in
+    let is : cond counts 1 cost ≡ worth = same_Some (cond counts 1 cost) worth same in
     omega (arith, low, is)
 
 -- the worths of the blocks of a day, where its trips are daily and its settings in their ranges

@@ -4,9 +4,12 @@ use Rattle.std.specs.Prelude.{option_and_then}
 use Rattle.std.specs.Option.{option_map}
 use Rattle.std.proofs.lemmas.Bool.Decides.{nat_tests}
 use Rattle.std.proofs.lemmas.Int.{ints}
-use Rattle.std.proofs.lemmas.Option.{slice_get_within}
+use Rattle.std.proofs.lemmas.Option.{slice_get_within, same_Some}
 use Rattle.std.proofs.lemmas.List.Elements.{All-tail}
+use Rattle.std.proofs.lemmas.Bool.{and_from, and_parts}
 use Rattle.plan_core.specs.declared.Price.{Price}
+use Rattle.plan_core.proofs.Options.{given_some, and_then_some}
+pub use Rattle.plan_core.proofs.Options.{given_some as given_both}
 use Rattle.cover_core.specs.FirstLeast.{AllWithin}
 use Rattle.cover_core.specs.Labels.{label_after, label_of, IsKept, IsValued}
 use Rattle.cover_core.specs.Plans.{price_at, price_of, value_of}
@@ -29,29 +32,17 @@ use Rattle.depot_network.specs.declared.step.Step.{Step}
 use Rattle.depot_network.specs.Driving.{driven_first, driven_in, driven_on, driven_over, driven_past, is_cut_on, kept, seconds_after, seconds_before, trip_seconds}
 use Rattle.depot_network.specs.Open.{OpenFits, begun_open, closed_open, extended_open, first_scaled, is_as_good, next_open, opening, scaled}
 use Rattle.depot_network.specs.Walk.{added, begun, ended, first_step, joined, last_step, next_step, seconds_of, stepped, steps}
-use Rattle.depot_network.proofs.Bounds.{and_then_some, link_fits, pull_out_leaves, some_same}
+use Rattle.depot_network.proofs.Bounds.{link_fits, pull_out_leaves}
 use Rattle.depot_network.proofs.Walks.{worth_walked}
 
 -- Options.
 pub map_some : {A B : Type 0} (f : A → B) (o : Option A) (y : B) → option_map f o ≡ Some y → (x : A) × (o ≡ Some x) × (f x ≡ y)
 map_some f None y e = absurd (cc)
-map_some f (Some x) y e = (x, refl, some_same (f x) y e)
-
-pub given_both : {A : Type 0} (b : Bool) (o : Option A) (y : A) → given b o ≡ Some y → (b ≡ true) × (o ≡ Some y)
-given_both true o y e = (refl, e)
-given_both false o y e = absurd (cc)
+map_some f (Some x) y e = (x, refl, same_Some (f x) y e)
 
 is_some_some : {A : Type 0} (o : Option A) → is_some o ≡ true → (x : A) × (o ≡ Some x)
 is_some_some None e = absurd (cc)
 is_some_some (Some x) e = (x, refl)
-
-both_true : (a b : Bool) → (a && b) ≡ true → (a ≡ true) × (b ≡ true)
-both_true true b e = (refl, e)
-both_true false b e = absurd (cc)
-
-and_true : (a b : Bool) → a ≡ true → b ≡ true → (a && b) ≡ true
-and_true true b h k = k
-and_true false b h k = absurd (cc)
 
 -- Steps.
 pub joined_parts : (c d : Option ℕ) (step : Step) → joined c d ≡ Some step → (c ≡ Some step.cost) × (d ≡ Some step.driving)
@@ -69,7 +60,7 @@ parts_joined c d cost driving e h = rw (e, h) refl
 
 -- driving that a piece may have
 kept_parts : (seconds x : ℕ) → kept seconds ≡ Some x → (nat_le seconds longest_driving ≡ true) × (seconds ≡ x)
-kept_parts seconds x e = let (test, is) = given_both (nat_le seconds longest_driving) (Some seconds) x e in (test, some_same seconds x is)
+kept_parts seconds x e = let (test, is) = given_some (nat_le seconds longest_driving) (Some seconds) x e in (test, same_Some seconds x is)
 
 kept_is : (seconds : ℕ) → nat_le seconds longest_driving ≡ true → kept seconds ≡ Some seconds
 kept_is seconds test = rw test refl
@@ -87,7 +78,7 @@ kept_few seconds x e = let (test, is) = kept_parts seconds x e in grind (arith, 
 past_less : (cut : Bool) (d d' before second x : ℕ) → d ≤ d' → driven_past cut d' before second ≡ Some x →
     (y : ℕ) × (driven_past cut d before second ≡ Some y) × (y ≤ x)
 past_less true d d' before second x less e =
-    let (test, is) = given_both (nat_le (d' + before) longest_driving) (kept second) x e in
+    let (test, is) = given_some (nat_le (d' + before) longest_driving) (kept second) x e in
     let low = less_kept (d + before) (d' + before) (omega arith) test in
     (x, (let all : given (nat_le (d + before) longest_driving) (kept second) ≡ kept second = rw low refl in all ∙ is), omega arith)
 past_less false d d' before second x less e =
@@ -97,7 +88,7 @@ past_less false d d' before second x less e =
 
 past_few : (cut : Bool) (d before second x : ℕ) → driven_past cut d before second ≡ Some x → x ≤ longest_driving
 past_few true d before second x e =
-    let (test, is) = given_both (nat_le (d + before) longest_driving) (kept second) x e in kept_few second x is
+    let (test, is) = given_some (nat_le (d + before) longest_driving) (kept second) x e in kept_few second x is
 past_few false d before second x e = kept_few (d + before + second) x e
 
 -- the parts of driving on
@@ -180,7 +171,7 @@ next_less day pool d d' t u step less e =
 
 last_less : (day : DayFacts) (pool : Pool) (d d' t m : ℕ) → d ≤ d' → last_step day pool d' t ≡ Some m → last_step day pool d t ≡ Some m
 last_less day pool d d' t m less e =
-    let (there, is) = given_both (is_some (driven_in day pool d' t)) (ended day pool t) m e in
+    let (there, is) = given_some (is_some (driven_in day pool d' t)) (ended day pool t) m e in
     let (x, is_in) = is_some_some (driven_in day pool d' t) there in
     let (y, is_on) = in_less day pool d d' t x less is_in in
     let test : is_some (driven_in day pool d t) ≡ true = ap is_some is_on in
@@ -190,14 +181,14 @@ last_less day pool d d' t m less e =
 -- a block that is as good
 pub same_trip : (a b : OpenBlock) → is_as_good a b ≡ true → (a.trip ≡ b.trip) × (a.driving ≤ b.driving) × (a.value ≤ℤ b.value)
 same_trip a b h =
-    let (trip, rest) = both_true (nat_eq a.trip b.trip) (nat_le a.driving b.driving && int_le a.value b.value) h in
-    let (driving, value) = both_true (nat_le a.driving b.driving) (int_le a.value b.value) rest in
+    let (trip, rest) = and_parts (nat_eq a.trip b.trip) (nat_le a.driving b.driving && int_le a.value b.value) h in
+    let (driving, value) = and_parts (nat_le a.driving b.driving) (int_le a.value b.value) rest in
     (grind (arith, nat_tests), grind (arith, nat_tests), grind (arith, ints))
 
 pub as_good : (a b : OpenBlock) → a.trip ≡ b.trip → a.driving ≤ b.driving → a.value ≤ℤ b.value → is_as_good a b ≡ true
 as_good a b trip driving value =
-    and_true (nat_eq a.trip b.trip) (nat_le a.driving b.driving && int_le a.value b.value) (grind (arith, nat_tests))
-    (and_true (nat_le a.driving b.driving) (int_le a.value b.value) (grind (arith, nat_tests)) (grind (arith, ints)))
+    and_from (nat_eq a.trip b.trip) (nat_le a.driving b.driving && int_le a.value b.value) (grind (arith, nat_tests))
+    (and_from (nat_le a.driving b.driving) (int_le a.value b.value) (grind (arith, nat_tests)) (grind (arith, ints)))
 
 module _ (day : DayFacts) (counts : Bool) (prices : List Price) (pool : Pool) where
   -- what an open block with a trip more is
@@ -254,7 +245,7 @@ module _ (day : DayFacts) (counts : Bool) (prices : List Price) (pool : Pool) wh
         let y = next_parts b b' u eb in
         let P : ℕ → Type 0 = λ t. next_step day pool b.driving t u ≡ Some y.step in
         let (s, is, cost, low) = next_less day pool a.driving b.driving a.trip u y.step driving (subst P (sym trip) y.is_step) in
-        let one : s ≡ x.step = some_same s x.step (sym is ∙ x.is_step) in
+        let one : s ≡ x.step = same_Some s x.step (sym is ∙ x.is_step) in
         let costs : x.step.cost ≡ y.step.cost = (let f : Step → ℕ = λ z. z.cost in sym (ap f one) ∙ cost) in
         let same : scaled counts x.step.cost ≡ scaled counts y.step.cost = ap (scaled counts) costs in
         let va = x.value in
@@ -284,7 +275,7 @@ module _ (day : DayFacts) (counts : Bool) (prices : List Price) (pool : Pool) wh
       and_then_some (λ (next : Trip). given (nat_lt t u)
       (given (admits day next.line pool.typ) (option_map (λ l. link_cost pool next l) (link day pool trip next))))
       (slice_get day.trips u) m e1 in
-      let (later, e3) = given_both (nat_lt t u)
+      let (later, e3) = given_some (nat_lt t u)
       (given (admits day next.line pool.typ) (option_map (λ l. link_cost pool next l) (link day pool trip next))) m e2 in
       (grind (arith, nat_tests), slice_get_within day.trips u next next_is)
 
@@ -315,7 +306,7 @@ module _ (day : DayFacts) (counts : Bool) (prices : List Price) (pool : Pool) wh
       (rest : ℕ) × (stepped day pool cost a.driving a.trip list ≡ Some (cost + rest))
       × (v +ℤ price_of prices list ≡ a.value +ℤ scaled counts rest)
   from_label [] a b v cost e c =
-      let same : a ≡ b = some_same a b e in
+      let same : a ≡ b = same_Some a b e in
       let P : OpenBlock → Type 0 = λ x. closed_open day counts pool x ≡ Some v in
       let (m, is, value) = map_some (λ (m : ℕ). a.value +ℤ scaled counts m) (last_step day pool a.driving a.trip)
       v (subst P (sym same) c) in
@@ -415,7 +406,7 @@ module _ (day : DayFacts) (counts : Bool) (prices : List Price) (pool : Pool) wh
       let (step, is_step, more) =
       and_then_some (λ (step : Step). stepped day pool step.cost step.driving t ts) (first_step day pool t) c is in
       let (b, v, rest, label, closes, sum, value) = onto_label ts (begun_open counts prices t step) step.cost c more in
-      let is_worth : cond counts 1 (step.cost + rest) ≡ worth = ap (cond counts 1) (sym sum) ∙ some_same (cond counts 1 c) worth same in
+      let is_worth : cond counts 1 (step.cost + rest) ≡ worth = ap (cond counts 1) (sym sum) ∙ same_Some (cond counts 1 c) worth same in
       let is_value : v ≡ value_of prices worth (t ∷ ts) =
       first_sum t step.cost rest v (price_of prices ts) value ∙ ap (λ n. value_of prices n (t ∷ ts)) is_worth in (
         b,
@@ -479,7 +470,7 @@ module _ (day : DayFacts) (counts : Bool) (prices : List Price) (pool : Pool) wh
     where
       daily_at : (trips : List Trip) (t : ℕ) (trip : Trip) → slice_get trips t ≡ Some trip → All IsDaily trips → IsDaily trip
       daily_at [] t trip e daily = absurd (cc)
-      daily_at (x ∷ xs) zero trip e daily = let P : Trip → Type 0 = IsDaily in subst P (some_same x trip e) (daily 0 x (omega arith))
+      daily_at (x ∷ xs) zero trip e daily = let P : Trip → Type 0 = IsDaily in subst P (same_Some x trip e) (daily 0 x (omega arith))
       daily_at (x ∷ xs) (suc t) trip e daily = daily_at xs t trip e (All-tail IsDaily x xs daily)
 
   cost_few : (u : Trip) (l : Link) → IsPool pool → link_cost pool u l ≤ 10000 * seconds_of l
@@ -513,9 +504,9 @@ module _ (day : DayFacts) (counts : Bool) (prices : List Price) (pool : Pool) wh
       and_then_some (λ (next : Trip). given (nat_lt t u)
       (given (admits day next.line pool.typ) (option_map (λ l. link_cost pool next l) (link day pool trip next))))
       (slice_get day.trips u) m e1 in
-      let (later, e3) = given_both (nat_lt t u)
+      let (later, e3) = given_some (nat_lt t u)
       (given (admits day next.line pool.typ) (option_map (λ l. link_cost pool next l) (link day pool trip next))) m e2 in
-      let (admitted, e4) = given_both (admits day next.line pool.typ)
+      let (admitted, e4) = given_some (admits day next.line pool.typ)
       (option_map (λ l. link_cost pool next l) (link day pool trip next)) m e3 in
       let (l, linked, same) = map_some (λ (l : Link). link_cost pool next l) (link day pool trip next) m e4 in
       let fits = link_fits day pool trip next l linked in
@@ -529,7 +520,7 @@ module _ (day : DayFacts) (counts : Bool) (prices : List Price) (pool : Pool) wh
       let (trip, trip_is, e1) =
       and_then_some (λ (trip : Trip). given (admits day trip.line pool.typ)
       (option_map (λ out. pool.fixed + pool.dead_rate * out) (pull_out day pool trip))) (slice_get day.trips t) m e in
-      let (admitted, e2) = given_both (admits day trip.line pool.typ)
+      let (admitted, e2) = given_some (admits day trip.line pool.typ)
       (option_map (λ out. pool.fixed + pool.dead_rate * out) (pull_out day pool trip)) m e1 in
       let (out, is_out, same) = map_some (λ (out : ℕ). pool.fixed + pool.dead_rate * out) (pull_out day pool trip) m e2 in
       let leaves = pull_out_leaves trip (dead day pool.depot trip.from) out is_out in

@@ -1,8 +1,10 @@
 -- Promise: a list of trips that is a block is not empty, rises, and has trips of the day alone.
-use Rattle.std.proofs.Common.{◌≡◌, ◌≢◌, ℕ, ◌<◌, ◌&&◌, Bool, true, false, cond, nat_lt, List, [], ◌∷◌, length, Option, Some, None, refl, sym, ap, subst, arith, slice_get}
-use Rattle.std.specs.Prelude.{option_and_then, unwrap_or}
+use Rattle.std.proofs.Common.{◌≡◌, ◌≢◌, ℕ, ◌<◌, true, cond, nat_lt, List, [], ◌∷◌, length, Option, Some, None, sym, subst, arith, slice_get}
+use Rattle.std.specs.Prelude.{option_and_then}
 use Rattle.std.proofs.lemmas.Bool.Decides.{nat_tests}
-use Rattle.std.proofs.lemmas.Option.{slice_get_within}
+use Rattle.std.proofs.lemmas.Option.{slice_get_within, same_Some}
+use Rattle.std.proofs.lemmas.Bool.{and_parts}
+use Rattle.plan_core.proofs.Options.{and_then_some, given_some}
 use Rattle.cover_core.specs.Cover.{AllBelow, Rises}
 use Rattle.cover_core.specs.Plans.{HasListedColumns}
 use Rattle.trip_times.specs.declared.trip.Trip.{Trip}
@@ -13,32 +15,16 @@ use Rattle.day_model.specs.Blocks.{block_cost, rises, trips_at}
 use Rattle.day_model.specs.Pieces.{can_be_driven}
 use Rattle.depot_network.specs.Network.{NetFacts, blocks}
 
-some_same : {A : Type 0} (x y : A) → Some x ≡ Some y → x ≡ y
-some_same {A = A} x y e = let f : Option A → A = λ o. unwrap_or o x in ap f e
-
-and_then_some : {A B : Type 0} (f : A → Option B) (o : Option A) (y : B) → option_and_then f o ≡ Some y →
-    (x : A) × (o ≡ Some x) × (f x ≡ Some y)
-and_then_some f None y e = absurd (cc)
-and_then_some f (Some x) y e = (x, refl, e)
-
-given_some : {A : Type 0} (b : Bool) (o : Option A) (y : A) → given b o ≡ Some y → (b ≡ true) × (o ≡ Some y)
-given_some true o y e = (refl, e)
-given_some false o y e = absurd (cc)
-
-both_true : (a b : Bool) → (a && b) ≡ true → (a ≡ true) × (b ≡ true)
-both_true true b e = (refl, e)
-both_true false b e = absurd (cc)
-
-rises_rise : (list : List ℕ) → rises list ≡ true → Rises list
+pub rises_rise : (list : List ℕ) → rises list ≡ true → Rises list
 rises_rise [] e = tt
 rises_rise (x ∷ []) e = tt
 rises_rise (x ∷ y ∷ rest) e =
-    let parts = both_true (nat_lt x y) (rises (y ∷ rest)) e in
+    let parts = and_parts (nat_lt x y) (rises (y ∷ rest)) e in
     let test : nat_lt x y ≡ true = parts.0 in
     let below : x < y = grind (arith, nat_tests) in
     (below, rises_rise (y ∷ rest) parts.1)
 
-trips_below : (trips : List Trip) (list : List ℕ) (found : List Trip) → trips_at trips list ≡ Some found → AllBelow (length trips) list
+pub trips_below : (trips : List Trip) (list : List ℕ) (found : List Trip) → trips_at trips list ≡ Some found → AllBelow (length trips) list
 trips_below trips [] found e = tt
 trips_below trips (k ∷ ks) found e =
     let first = and_then_some (λ (t : Trip). option_and_then (λ (ts : List Trip). Some (t ∷ ts)) (trips_at trips ks))
@@ -46,11 +32,11 @@ trips_below trips (k ∷ ks) found e =
     let rest = and_then_some (λ (ts : List Trip). Some (first.0 ∷ ts)) (trips_at trips ks) found first.2 in
     (slice_get_within trips k first.0 first.1, trips_below trips ks rest.0 rest.1)
 
-none_of_none : (day : DayFacts) (pool : Pool) (list : List ℕ) (found : List Trip) (cost : ℕ) → trips_at day.trips list ≡ Some found →
+pub none_of_none : (day : DayFacts) (pool : Pool) (list : List ℕ) (found : List Trip) (cost : ℕ) → trips_at day.trips list ≡ Some found →
     block_cost day pool found ≡ Some cost → list ≢ []
 none_of_none day pool list found cost at is = λ e.
     let P : List ℕ → Type 0 = λ ks. trips_at day.trips ks ≡ Some found in
-    let none : found ≡ [] = sym (some_same [] found (subst P e at)) in
+    let none : found ≡ [] = sym (same_Some [] found (subst P e at)) in
     let Q : List Trip → Type 0 = λ ts. block_cost day pool ts ≡ Some cost in
     let bad : None ≡ Some cost = subst Q none is in
     cc

@@ -41,11 +41,6 @@ pub rent-take : (caps : List ℕ) (zs : List ℤ) (i : ℕ) → i < length caps 
     rent (take (i + 1) caps) zs ≡ rent (take i caps) zs +ℤ (pos (get_or caps i 0) *ℤ number_at zs i)
 rent-take caps zs i h k = rw add-one (rent-more caps zs i h k)
 
-pub number_at-get : (zs : List ℤ) (i : ℕ) (d : ℤ) → i < length zs → get_or zs i d ≡ number_at zs i
-number_at-get [] i d h = absurd (omega arith)
-number_at-get (z ∷ zs) zero d h = refl
-number_at-get (z ∷ zs) (suc i) d h = number_at-get zs i d (omega arith)
-
 pub AreAtLeast-get : (low : ℤ) (zs : List ℤ) (i : ℕ) (d : ℤ) → i < length zs → AreAtLeast low zs → low ≤ℤ get_or zs i d
 AreAtLeast-get low [] i d h w = absurd (omega arith)
 AreAtLeast-get low (z ∷ zs) zero d h w = w.0

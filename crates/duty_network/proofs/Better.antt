@@ -2,32 +2,22 @@
 use Rattle.std.proofs.Common.{◌≡◌, ℕ, ℤ, pos, ◌+ℤ◌, ◌-ℤ◌, ◌*ℤ◌, ◌≤ℤ◌, ◌+◌, ◌≤◌, Bool, true, false, cond, ◌&&◌, ◌||◌, List, refl, sym, ap, ◌∙◌, arith, subst}
 use Rattle.std.proofs.lemmas.Int.{ints}
 use Rattle.std.proofs.lemmas.Bool.Decides.{nat_tests}
-use Rattle.std.specs.Prelude.{Option, Some, None, option_and_then, nat_le, nat_lt, int_le, unwrap_or, slice_get, ◌<◌, length}
+use Rattle.std.specs.Prelude.{Option, Some, option_and_then, nat_le, nat_lt, int_le, slice_get, ◌<◌, length}
+use Rattle.std.proofs.lemmas.Bool.{and_from, and_parts}
+pub use Rattle.std.proofs.lemmas.Option.{same_Some as Some-same}
+pub use Rattle.plan_core.proofs.Options.{and_then_some as and_then-Some, given_some as given-Some}
 use Rattle.plan_core.specs.declared.types.Price.{Price}
 use Rattle.cover_core.specs.Plans.{price_at}
 use Rattle.cover_core.specs.Labels.{IsKept, IsValued}
 use Rattle.plan_core.specs.declared.types.Piece.{Piece}
 use Rattle.duty_network.specs.Times.{given}
 use Rattle.eu561_rules.specs.Duty.{completes_break}
-use Rattle.eu561_rules.proofs.Runs.{both_true, and_true}
 use Rattle.plan_params.specs.declared.rows.group.Group.{Group}
 use Rattle.cover_core.specs.declared.marks.Mark.{Mark}
 use Rattle.duty_network.specs.Duties.{DutyFacts, limits_of, pause, pause_at, sign_off, sign_on}
 use Rattle.duty_network.specs.Ranges.{off_value}
 use Rattle.point_grid.proofs.Flat.{there}
 use Rattle.duty_network.specs.Marks.{first_mark, is_open, next_mark, one_mark, extended_mark, marking, IsAtLeastAsGood, closes_lawfully, closed_value}
-
-pub Some-same : {A : Type 0} (x y : A) → Some x ≡ Some y → x ≡ y
-Some-same {A = A} x y e = let f : Option A → A = λ o. unwrap_or o x in ap f e
-
-pub and_then-Some : {A B : Type 0} (f : A → Option B) (o : Option A) (y : B) → option_and_then f o ≡ Some y →
-    (x : A) × (o ≡ Some x) × (f x ≡ Some y)
-and_then-Some f None y e = absurd (cc)
-and_then-Some f (Some x) y e = (x, refl, e)
-
-pub given-Some : {A : Type 0} (b : Bool) (o : Option A) (y : A) → given b o ≡ Some y → (b ≡ true) × (o ≡ Some y)
-given-Some true o y e = (refl, e)
-given-Some false o y e = absurd (cc)
 
 pub nat_le-down : (a b n : ℕ) → a ≤ b → nat_le b n ≡ true → nat_le a n ≡ true
 nat_le-down a b n h k = grind (arith, nat_tests)
@@ -69,9 +59,9 @@ next_mark-good g prices a b time k q good = record {
 
 pub is_open-better : (g : Group) (a b : Mark) (end : ℤ) → IsAtLeastAsGood a b → is_open g b end ≡ true → is_open g a end ≡ true
 is_open-better g a b end good open_b =
-    let (low, last) = both_true _ _ open_b in
-    let (driving, total) = both_true _ _ low in
-    and_true _ _ (and_true _ _ (nat_le-down a.driving b.driving _ good.driving driving) (nat_le-down a.total b.total _ good.total total))
+    let (low, last) = and_parts _ _ open_b in
+    let (driving, total) = and_parts _ _ low in
+    and_from _ _ (and_from _ _ (nat_le-down a.driving b.driving _ good.driving driving) (nat_le-down a.total b.total _ good.total total))
     (int_le-up end a.start.0 b.start.0 _ good.start last)
 
 -- Dominance stays over each further piece: a mark as good as another can be extended wherever the other can, since less driving and
@@ -105,13 +95,13 @@ good-kept d prices class g = record {
       let (q, is_q, e2) = and_then-Some _ (slice_get d.pieces k) b' e1 in
       let (time, is_time, e3) = and_then-Some _ (pause d p q) b' e2 in
       let (test, made) = given-Some _ _ b' e3 in
-      let (later, open_b) = both_true _ _ test in
+      let (later, open_b) = and_parts _ _ test in
       let better = next_mark-good g prices a b time k q good in
       let open_a = is_open-better g _ _ q.end.0 better open_b in
       let from : slice_get d.pieces a.piece ≡ Some p = ap (slice_get d.pieces) good.piece ∙ is_p in
       let later_a : nat_lt a.piece k ≡ true = ap (λ n. nat_lt n k) good.piece ∙ later in (
         next_mark g prices a time k q,
-        extended-is d g prices a k time p q from is_q is_time (and_true _ _ later_a open_a),
+        extended-is d g prices a k time p q from is_q is_time (and_from _ _ later_a open_a),
         (let P : Mark → Type 0 = λ m. IsAtLeastAsGood (next_mark g prices a time k q) m in subst P (Some-same _ _ made) better),
       );
 }
@@ -135,9 +125,9 @@ spread-order g = short-first g.reduced
 pub closes-better : (g : Group) (a b : Mark) (off : ℤ) → IsAtLeastAsGood a b →
     closes_lawfully g b off ≡ true → closes_lawfully g a off ≡ true
 closes-better g a b off good e =
-    let (low, last) = both_true _ _ e in
-    let (driving, total) = both_true _ _ low in
-    and_true _ _ (and_true _ _ (nat_le-down a.driving b.driving _ good.driving driving) (nat_le-down a.total b.total _ good.total total))
+    let (low, last) = and_parts _ _ e in
+    let (driving, total) = and_parts _ _ low in
+    and_from _ _ (and_from _ _ (nat_le-down a.driving b.driving _ good.driving driving) (nat_le-down a.total b.total _ good.total total))
     (int_le-chain off a.start.0 b.start.0 _ _ good.start
     (limit-up a.three b.three (limits_of g).long_spread (limits_of g).spread good.three (spread-order g)) last)
 
@@ -176,7 +166,7 @@ from-extended d g prices b b' k e =
     let (q, is_q, e2) = and_then-Some _ (slice_get d.pieces k) b' e1 in
     let (time, is_time, e3) = and_then-Some _ (pause d p q) b' e2 in
     let (test, made) = given-Some _ _ b' e3 in
-    let (later, open_b) = both_true _ _ test in
+    let (later, open_b) = and_parts _ _ test in
     let same = Some-same (next_mark g prices b time k q) b' made in
     (sym (ap (λ (m : Mark). m.value) same), later, sym (ap (λ (m : Mark). m.piece) same))
 

@@ -3,6 +3,7 @@ use Rattle.std.proofs.Common.{◌≡◌, ℕ, ℤ, pos, ◌+ℤ◌, ◌-ℤ◌, 
 use Rattle.std.proofs.lemmas.Int.{ints}
 use lib.IntN.{suc_ℤ-*ℤ}
 use Rattle.std.specs.Prelude.{Option, Some, None, option_and_then, nat_le, int_le, negsuc, slice_get}
+use Rattle.std.proofs.lemmas.Bool.{and_from, and_parts}
 use Rattle.plan_core.specs.declared.types.Price.{Price}
 use Rattle.cover_core.specs.Plans.{price_at, price_of, value_of}
 use Rattle.cover_core.specs.Labels.{label_after, label_of}
@@ -15,7 +16,7 @@ use Rattle.eu561_rules.specs.Summary.{Summary, StandsFor, tally_after}
 use Rattle.eu561_rules.specs.Duty.{completes_break}
 use Rattle.eu561_rules.specs.Lawful.{no_drives, run, IsFine, AreBounded, is_lawful}
 use Rattle.eu561_rules.proofs.Tallies.{either}
-use Rattle.eu561_rules.proofs.Runs.{both_true, and_true, after-limits, run-limits, run-stands, run-fine-back, fine-next, lawful-from, lawful-onto, le-true, true-le}
+use Rattle.eu561_rules.proofs.Runs.{after-limits, run-limits, run-stands, run-fine-back, fine-next, lawful-from, lawful-onto, le-true, true-le}
 use Rattle.plan_params.specs.declared.rows.group.Group.{Group}
 use Rattle.cover_core.specs.declared.marks.Mark.{Mark}
 use Rattle.duty_network.specs.Duties.{Duty, DutyFacts, begins, cost_of, drives_after, drives_of, duty_of, duty_worth, ends, follows, last_piece, limits_of, pause, pieces_at, sign_off, sign_on}
@@ -94,7 +95,7 @@ open-fine : (g : Group) (m : Mark) (t : Summary) (end : ℤ) → t.limits ≡ li
 open-fine g m t end limits f fine below =
     let block : t.limits.block ≡ (limits_of g).block = ap (λ (l : _). l.block) limits in
     let day : t.limits.day ≡ (limits_of g).day = ap (λ (l : _). l.day) limits in
-    and_true _ _ (and_true _ _ (le-true m.driving (limits_of g).block (omega (arith, f.driving, fine.driving)))
+    and_from _ _ (and_from _ _ (le-true m.driving (limits_of g).block (omega (arith, f.driving, fine.driving)))
     (le-true m.total (limits_of g).day (omega (arith, f.total, fine.total)))) (grind (arith, ints))
 
 fine-open : (g : Group) (m : Mark) (t : Summary) (d : Drive) (end : ℤ) → t.limits ≡ limits_of g → IsFine t → FieldsAre m (tally_after t d) →
@@ -102,8 +103,8 @@ fine-open : (g : Group) (m : Mark) (t : Summary) (d : Drive) (end : ℤ) → t.l
 fine-open g m t d end limits fine f e =
     let block : t.limits.block ≡ (limits_of g).block = ap (λ (l : _). l.block) limits in
     let day : t.limits.day ≡ (limits_of g).day = ap (λ (l : _). l.day) limits in
-    let (low, last) = both_true _ _ e in
-    let (driving, total) = both_true _ _ low in
+    let (low, last) = and_parts _ _ e in
+    let (driving, total) = and_parts _ _ low in
     let less : m.driving ≤ (limits_of g).block = true-le _ _ driving in
     let few : m.total ≤ (limits_of g).day = true-le _ _ total in
     fine-next t d fine (omega (arith, f.driving)) (omega (arith, f.total))
@@ -139,7 +140,7 @@ from-label d prices class g (k ∷ ks) m m' p t here limits f fine e =
           let (q, is_q, e2) = and_then-Some _ (slice_get d.pieces k) x e1 in
           let (time, is_time, e3) = and_then-Some _ (pause d p1 q) x e2 in
           let (test, made) = given-Some _ _ x e3 in
-          let (later, open_x) = both_true _ _ test in
+          let (later, open_x) = and_parts _ _ test in
           let same_p : p1 ≡ p = Some-same p1 p (sym is_p ∙ here) in
           let next : next_mark g prices m time k q ≡ x = Some-same _ x made in
           let t' : Summary = tally_after t (drive_of time q) in
@@ -159,7 +160,7 @@ from-label d prices class g (k ∷ ks) m m' p t here limits f fine e =
             ds = drive_of time q ∷ rest.ds;
             pieces = pieces-more d.pieces k ks q rest.qs is_q rest.pieces;
             drives = drives-more d p q rest.qs time rest.ds between rest.drives;
-            rising = and_true _ _ later rising;
+            rising = and_from _ _ later rising;
             piece = rest.piece;
             fields = rest.fields;
             fine = rest.fine;
@@ -256,7 +257,7 @@ onto-label d prices class g (k ∷ ks) (q ∷ qs) (x ∷ ds) m p t here limits f
     let is_qs' : pieces_at d.pieces ks ≡ Some qs = cc in
     let is_x : x ≡ drive_of time q = cc in
     let is_ds' : drives_after d q qs ≡ Some ds = cc in
-    let (later, rising) = both_true _ _ up in
+    let (later, rising) = and_parts _ _ up in
     let t' : Summary = tally_after t (drive_of time q) in
     let P : Drive → Type 0 = λ y. IsFine (run (tally_after t y) ds) in
     let fine_end : IsFine (run t' ds) = subst P is_x fine in
@@ -265,7 +266,7 @@ onto-label d prices class g (k ∷ ks) (q ∷ qs) (x ∷ ds) m p t here limits f
     let limits' : t'.limits ≡ limits_of g = after-limits t (drive_of time q) ∙ limits in
     let ends = ends-rise d q qs ds timed.1 is_ds' in
     let open_next = open-fine g (next_mark g prices m time k q) t' q.end.0 limits' f' fine' (omega (arith, ints)) in
-    let made = extended-is d g prices m k time p q here is_q is_time (and_true _ _ later open_next) in
+    let made = extended-is d g prices m k time p q here is_q is_time (and_from _ _ later open_next) in
     let (m', e) = onto-label d prices class g ks qs ds (next_mark g prices m time k q) q t' is_q limits' f' fine_end timed.1
     in_time is_qs' is_ds' rising in
     (m', ap (λ o. label_after (marking d prices class g) o ks) made ∙ e)
@@ -347,7 +348,7 @@ close-fields g m t off on time limits f fine start is_time below =
     ap (λ (l : _). cond t.long l.long_spread l.spread) limits
     ∙ ap (λ b. cond b (limits_of g).long_spread (limits_of g).spread) (sym f.three) in
     let within : time ≤ cond m.three (limits_of g).long_spread (limits_of g).spread = omega arith in
-    and_true _ _ (and_true _ _ (le-true m.driving (limits_of g).block (omega (arith, f.driving, fine.driving)))
+    and_from _ _ (and_from _ _ (le-true m.driving (limits_of g).block (omega (arith, f.driving, fine.driving)))
     (le-true m.total (limits_of g).day (omega (arith, f.total, fine.total))))
     (int_le-true _ _ _ _ _ start is_time within)
 
@@ -358,7 +359,7 @@ fields-close g m t off on time limits f start is_time e =
     let spread : cond t.long t.limits.long_spread t.limits.spread ≡ cond m.three (limits_of g).long_spread (limits_of g).spread =
     ap (λ (l : _). cond t.long l.long_spread l.spread) limits
     ∙ ap (λ b. cond b (limits_of g).long_spread (limits_of g).spread) (sym f.three) in
-    let (low, last) = both_true _ _ e in
+    let (low, last) = and_parts _ _ e in
     let within : time ≤ cond m.three (limits_of g).long_spread (limits_of g).spread =
     true-int_le off m.start.0 on time _ start is_time last in
     omega arith
@@ -636,8 +637,8 @@ first-parts d prices class g k m e =
 open-first : (g : Group) (m : Mark) (p : Piece) (end : ℤ) → m.driving ≡ p.driving → m.total ≡ p.driving → is_open g m end ≡ true →
     IsFine (tally_after (no_drives (limits_of g)) (drive_of 0 p))
 open-first g m p end driving total e =
-    let (low, last) = both_true _ _ e in
-    let (less, few) = both_true _ _ low in
+    let (low, last) = and_parts _ _ e in
+    let (less, few) = and_parts _ _ low in
     let less' : m.driving ≤ (limits_of g).block = true-le _ _ less in
     let few' : m.total ≤ (limits_of g).day = true-le _ _ few in
     first-fine g p (omega arith) (omega arith)

@@ -2,6 +2,7 @@
 use Rattle.std.proofs.Common.{◌≡◌, ℕ, ℤ, ◌≤◌, ◌-ℤ◌, Bool, true, false, cond, ◌&&◌, nat_le, zero, suc, List, [], ◌∷◌, All, Option, Some, None, refl, ap, subst, ◌∙◌, arith, slice_get, mul-le-mul}
 use Rattle.std.specs.Prelude.{option_and_then, IfSome}
 use Rattle.std.proofs.lemmas.List.Elements.{All-head, All-map, All-tail, All-weaker}
+use Rattle.std.proofs.lemmas.Bool.{and_parts}
 use Rattle.cover_core.specs.Ranges.{HasFewPlaces, HasModestWorths}
 use Rattle.plan_core.specs.declared.types.Piece.{Piece}
 use Rattle.plan_params.specs.declared.rows.group.Group.{Group}
@@ -10,7 +11,7 @@ use Rattle.eu561_rules.specs.declared.rules.Drive.{Drive}
 use Rattle.eu561_rules.specs.declared.rules.Limits.{Limits}
 use Rattle.eu561_rules.specs.Duty.{driving_of, has_long_pause, spread_limit}
 use Rattle.eu561_rules.specs.Lawful.{is_lawful, keeps_article7}
-use Rattle.eu561_rules.proofs.Runs.{both_true, true-le}
+use Rattle.eu561_rules.proofs.Runs.{true-le}
 use Rattle.duty_network.specs.Times.{seconds}
 use Rattle.duty_network.specs.Duties.{Duty, DutyFacts, begins, cost_of, drives_of, duties, duty_of, duty_worth, ends, limits_of, pieces_at}
 use Rattle.duty_network.specs.Ranges.{NetFits}
@@ -60,7 +61,7 @@ duty-low d class list fits = low (duty_worth d class list) refl
         let (duty, is_duty, e1) = and_then-Some _ (duty_of d class list) worth e in
         let limits : Limits = limits_of duty.group in
         let (lawful, same) = given-Some (is_lawful limits duty.drives duty.spread) (Some (cost_of d.counts duty)) worth e1 in
-        let (rest, spread) = both_true (nat_le (driving_of duty.drives) limits.day && keeps_article7 limits duty.drives)
+        let (rest, spread) = and_parts (nat_le (driving_of duty.drives) limits.day && keeps_article7 limits duty.drives)
         (nat_le duty.spread (spread_limit limits duty.drives)) lawful in
         let short : duty.spread ≤ spread_limit limits duty.drives = true-le duty.spread (spread_limit limits duty.drives) spread in
         let most = spread-low duty.group duty.drives in

@@ -7,6 +7,7 @@ use Rattle.std.specs.Prelude.{All, Some, ◌&&◌, nat_lt, slice_get, length, if
 use Rattle.std.specs.List.{find}
 use Rattle.std.specs.Option.{option_map}
 use Rattle.std.proofs.lemmas.List.Elements.{All-head, All-tail}
+use Rattle.std.proofs.lemmas.Bool.{and_parts, ltb-true}
 use Rattle.plan_core.specs.declared.types.Point.{Point}
 use Rattle.vdv452_tables.specs.Keys.{point_eq}
 use Rattle.plan_params.specs.declared.rows.ParamRows.{ParamRows}
@@ -16,7 +17,7 @@ use Rattle.cover_core.specs.FirstLeast.{AllWithin}
 use Rattle.cover_core.proofs.Values.{price_at-within}
 use Rattle.plan_core.specs.declared.types.Piece.{Piece}
 use Rattle.label_search.specs.Laws.{IsSafe}
-use Rattle.eu561_rules.proofs.Runs.{both_true, true-le}
+use Rattle.eu561_rules.proofs.Runs.{true-le}
 use Rattle.plan_params.specs.declared.rows.group.Group.{Group}
 use Rattle.plan_params.specs.Limits.{IsGroup}
 use Rattle.plan_params.specs.LookUps.{way_in}
@@ -26,7 +27,7 @@ use Rattle.duty_network.specs.Duties.{DutyFacts, pause, sign_on}
 use Rattle.duty_network.specs.Marks.{is_open, one_mark, next_mark, marking}
 use Rattle.duty_network.specs.Ranges.{AreTimed, IsShift, MarkFits, NetFits, on_value, off_value}
 use Rattle.duty_network.proofs.Better.{Some-same, and_then-Some, given-Some}
-use Rattle.duty_network.proofs.Tied.{at-below, later-piece}
+use Rattle.duty_network.proofs.Tied.{at-below}
 
 pub timed-from : (xs : List Piece) → All IsShift xs → AreTimed xs
 timed-from [] h = tt
@@ -97,8 +98,8 @@ day-most false = omega arith
 
 open-fits : (g : Group) (m : Mark) (end : ℤ) → is_open g m end ≡ true → (m.driving ≤ 16200) × (m.total ≤ 36000)
 open-fits g m end e =
-    let (low, last) = both_true _ _ e in
-    let (driving, total) = both_true _ _ low in
+    let (low, last) = and_parts _ _ e in
+    let (driving, total) = and_parts _ _ low in
     let less : m.driving ≤ 16200 = true-le m.driving 16200 driving in
     let few : m.total ≤ cond g.ten 36000 32400 = true-le _ _ total in
     let most = day-most g.ten in
@@ -150,8 +151,8 @@ marking-safe d prices class g f modest w = record {
       let (time, is_time, e3) = and_then-Some _ (pause d p q) b e2 in
       let (test, made) = given-Some _ _ b e3 in
       let next : Mark = next_mark g prices a time k q in
-      let (later, open_next) = both_true (nat_lt a.piece k) (is_open g next q.end.0) test in
-      let order = later-piece a.piece k later in
+      let (later, open_next) = and_parts (nat_lt a.piece k) (is_open g next q.end.0) test in
+      let order = ltb-true a.piece k later in
       let (driving, total) = open-fits g next q.end.0 open_next in
       let own = price_at-within 10000000000000 prices k w in let plow = own.low in let phigh = own.high in
       let below = at-below d.pieces k q is_q in

@@ -2,7 +2,9 @@
 use Rattle.std.proofs.Common.{◌≡◌, ℕ, ℤ, pos, negsuc, neg_ℤ, ◌+ℤ◌, ◌*ℤ◌, ◌≤ℤ◌, ◌*◌, ◌≤◌, ◌<◌, Bool, true, false, cond, ◌||◌, zero, suc, List, [], ◌∷◌, length, refl, sym, ap, arith}
 use Rattle.std.proofs.lemmas.Int.{ints}
 use Rattle.std.proofs.lemmas.Bool.Decides.{nat_tests}
-use Rattle.std.specs.Prelude.{Some, not, nat_eq, nat_le, nat_lt, int_le, slice_get}
+use Rattle.std.specs.Prelude.{Some, not, nat_eq, nat_le, int_le, slice_get}
+use Rattle.std.proofs.lemmas.Bool.{and_from, and_parts, le-leb, leb-true, ltb-true}
+pub use Rattle.std.proofs.lemmas.Bool.{ltb-true as later-piece}
 use Rattle.plan_core.specs.declared.types.Price.{Price}
 use Rattle.cover_core.specs.Plans.{price_of, number_at}
 use Rattle.cover_core.specs.Labels.{IsKept, IsValued, IsCover}
@@ -12,7 +14,6 @@ use Rattle.label_search.specs.Pricing.{IsTied}
 use Rattle.label_search.specs.Rests.{rests_of}
 use Rattle.label_search.proofs.Losses.{rest-steps, rest-at_most}
 use Rattle.label_search.proofs.Pricing.{kept-by, valued-by, cover-pays}
-use Rattle.eu561_rules.proofs.Runs.{both_true, and_true}
 use Rattle.plan_params.specs.declared.rows.group.Group.{Group}
 use Rattle.cover_core.specs.declared.marks.Mark.{Mark}
 use Rattle.duty_network.specs.Duties.{DutyFacts, sign_on, sign_off, duty_worth}
@@ -47,12 +48,6 @@ eq-from a b e = grind (arith, nat_tests)
 eq-onto : (a b : ℕ) → a ≡ b → nat_eq a b ≡ true
 eq-onto a b e = grind (arith, nat_tests)
 
-le-from : (a b : ℕ) → nat_le a b ≡ true → a ≤ b
-le-from a b e = grind (arith, nat_tests)
-
-le-onto : (a b : ℕ) → a ≤ b → nat_le a b ≡ true
-le-onto a b e = grind (arith, nat_tests)
-
 int-from : (a b : ℤ) → int_le a b ≡ true → a ≤ℤ b
 int-from a b e = grind (arith, ints)
 
@@ -61,30 +56,30 @@ int-onto a b e = grind (arith, ints)
 
 pub test-good : (a b : Mark) → is_as_good a b ≡ true → IsAtLeastAsGood a b
 test-good a b e =
-    let (e7, value) = both_true _ (int_le a.value b.value) e in
-    let (e6, three) = both_true _ (not b.three || a.three) e7 in
-    let (e5, total) = both_true _ (nat_le a.total b.total) e6 in
-    let (e4, quarter) = both_true _ (cond b.quarter a.quarter (not a.quarter)) e5 in
-    let (e3, driving) = both_true _ (nat_le a.driving b.driving) e4 in
-    let (e2, start) = both_true _ (int_le b.start.0 a.start.0) e3 in
-    let (class, piece) = both_true (nat_eq a.class b.class) (nat_eq a.piece b.piece) e2 in
+    let (e7, value) = and_parts _ (int_le a.value b.value) e in
+    let (e6, three) = and_parts _ (not b.three || a.three) e7 in
+    let (e5, total) = and_parts _ (nat_le a.total b.total) e6 in
+    let (e4, quarter) = and_parts _ (cond b.quarter a.quarter (not a.quarter)) e5 in
+    let (e3, driving) = and_parts _ (nat_le a.driving b.driving) e4 in
+    let (e2, start) = and_parts _ (int_le b.start.0 a.start.0) e3 in
+    let (class, piece) = and_parts (nat_eq a.class b.class) (nat_eq a.piece b.piece) e2 in
     record {
       class = eq-from a.class b.class class;
       piece = eq-from a.piece b.piece piece;
       start = int-from b.start.0 a.start.0 start;
-      driving = le-from a.driving b.driving driving;
+      driving = leb-true a.driving b.driving driving;
       quarter = same-bits a.quarter b.quarter quarter;
-      total = le-from a.total b.total total;
+      total = leb-true a.total b.total total;
       three = has-bit a.three b.three three;
       value = int-from a.value b.value value;
     }
 
 pub good-test : (a b : Mark) → IsAtLeastAsGood a b → is_as_good a b ≡ true
 good-test a b g =
-    and_true _ _ (and_true _ _ (and_true _ _ (and_true _ _ (and_true _ _ (and_true _ _ (and_true _ _
+    and_from _ _ (and_from _ _ (and_from _ _ (and_from _ _ (and_from _ _ (and_from _ _ (and_from _ _
     (eq-onto a.class b.class g.class) (eq-onto a.piece b.piece g.piece)) (int-onto b.start.0 a.start.0 g.start))
-    (le-onto a.driving b.driving g.driving))
-    (bits-same a.quarter b.quarter g.quarter)) (le-onto a.total b.total g.total)) (bit-has a.three b.three g.three))
+    (le-leb a.driving b.driving g.driving))
+    (bits-same a.quarter b.quarter g.quarter)) (le-leb a.total b.total g.total)) (bit-has a.three b.three g.three))
     (int-onto a.value b.value g.value)
 
 pub test-kept : (d : DutyFacts) (prices : List Price) (class : ℕ) (g : Group) → IsKept (marking d prices class g) (GoodAs is_as_good)
@@ -108,9 +103,6 @@ to-piece d g prices a b k e =
     let (q, is_q, e2) = and_then-Some _ (slice_get d.pieces k) b e1 in
     at-below d.pieces k q is_q
 
-pub later-piece : (a k : ℕ) → nat_lt a k ≡ true → a < k
-later-piece a k e = grind (arith, nat_tests)
-
 pub marking-stepwise : (d : DutyFacts) (prices : List Price) (class : ℕ) (g : Group) →
     IsStepwise (marking d prices class g) (length d.pieces) (λ m. m.piece)
 marking-stepwise d prices class g = record {
@@ -121,7 +113,7 @@ marking-stepwise d prices class g = record {
       (at-below d.pieces k p is_p, sym (ap (λ (x : Mark). x.piece) (Some-same _ m made)));
   steps = λ a b k e.
       let (value, later, piece) = from-extended d g prices a b k e in
-      (later-piece a.piece k later, to-piece d g prices a b k e, piece);
+      (ltb-true a.piece k later, to-piece d g prices a b k e, piece);
 }
 
 pub marking-tied : (d : DutyFacts) (prices : List Price) (class : ℕ) (g : Group) →
@@ -154,7 +146,7 @@ marking-floor d prices class g timed long = record {
       omega (arith, ints);
   steps = λ a b k fits e.
       let (value, later, piece) = from-extended d g prices a b k e in
-      let order = later-piece a.piece k later in
+      let order = ltb-true a.piece k later in
       let below = to-piece d g prices a b k e in
       let inside : k < length prices = omega arith in
       let rest = rest-steps prices a.piece k order inside in

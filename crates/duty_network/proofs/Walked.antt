@@ -5,6 +5,7 @@ use Rattle.std.proofs.lemmas.Bool.Decides.{nat_tests}
 use Rattle.std.specs.Option.{option_map}
 use Rattle.std.proofs.lemmas.Iterator.Adapters.{option_map_id}
 use Rattle.std.proofs.lemmas.List.{length-append}
+use Rattle.std.proofs.lemmas.Bool.{and_from, and_parts, lt-ltb}
 use Rattle.plan_core.specs.declared.types.Piece.{Piece}
 use Rattle.plan_params.specs.declared.rows.group.Group.{Group}
 use Rattle.eu561_rules.specs.declared.rules.Drive.{Drive}
@@ -14,7 +15,7 @@ use Rattle.eu561_rules.specs.declared.rules.Verdict.TheVariants.{Lawful}
 use Rattle.eu561_rules.specs.Duty.{Judged}
 use Rattle.eu561_rules.specs.Lawful.{is_lawful}
 use Rattle.eu561_rules.specs.Summary.{StandsFor, Summary}
-use Rattle.eu561_rules.proofs.Runs.{both_true, and_true, lawful-test, test-lawful}
+use Rattle.eu561_rules.proofs.Runs.{lawful-test, test-lawful}
 use Rattle.eu561_rules.proofs.Verdicts.{judged-lawful}
 use Rattle.duty_network.specs.Times.{given, rises}
 use Rattle.duty_network.specs.Duties.{Duty, DutyFacts, cost_of, drives_after, duty_of, duty_worth, last_piece, limits_of, pause, pause_at, pieces_at, sign_off, sign_on}
@@ -114,9 +115,6 @@ drop-none (x ∷ xs) (suc i) h = drop-none xs i (omega arith)
 lt-false : (a b : ℕ) → b ≤ a → nat_lt a b ≡ false
 lt-false a b h = grind (arith, nat_tests)
 
-lt-true : (a b : ℕ) → a < b → nat_lt a b ≡ true
-lt-true a b h = grind (arith, nat_tests)
-
 -- at a place of the list
 pub tallying-falls : (d : DutyFacts) (k : ℕ) (ks : List ℕ) (first : Drive) (j i : ℕ) (tally : Summary) →
     IsTallying d k ks first j (drop i ks) tally → i < length ks →
@@ -143,7 +141,7 @@ pub tallying-next : (d : DutyFacts) (k : ℕ) (ks : List ℕ) (first : Drive) (j
 tallying-next d k ks first j i tally tally' time q t below up is_time is_q add =
     let P : List ℕ → Type 0 = λ l. IsTallying d k ks first j l tally in
     tallying-more d k ks first j (slice_index_or ks i 0) (drop (i + 1) ks) tally tally' time q (subst P (drop-on ks i below) t) up
-    (lt-true j (slice_index_or ks i 0) up) is_time is_q add
+    (lt-ltb j (slice_index_or ks i 0) up) is_time is_q add
 
 pub tallying-all : (d : DutyFacts) (k : ℕ) (ks : List ℕ) (first : Drive) (j i : ℕ) (tally : Summary) →
     IsTallying d k ks first j (drop i ks) tally → length ks ≤ i → IsTallied d k ks first j tally
@@ -205,7 +203,7 @@ from-walk d (j ∷ js) k p ds here e =
       qs = q ∷ rest.qs;
       pieces = pieces-on d.pieces j js q rest.qs is_q rest.pieces;
       drives = drives-on d p q rest.qs time more between rest.drives ∙ ap (λ (l : List Drive). Some l) same;
-      rising = and_true _ _ up rest.rising;
+      rising = and_from _ _ up rest.rising;
       last = rest.last;
     }
 
@@ -225,7 +223,7 @@ onto-walk d (j ∷ js) k p (q ∷ qs) ds here is_qs is_ds up =
     let (time, more, is_time, is_more, same_d) = drives-parts d p q qs ds is_ds in
     let is_q : slice_get d.pieces j ≡ Some q = cc in
     let is_qs' : pieces_at d.pieces js ≡ Some qs = cc in
-    let (later, rising) = both_true (nat_lt k j) (rises (j ∷ js)) up in
+    let (later, rising) = and_parts (nat_lt k j) (rises (j ∷ js)) up in
     let x = onto-walk d js j q qs more is_q is_qs' is_more rising in
     let between : pause_at d k j ≡ Some time = pause-numbers d k j p q here is_q ∙ is_time in
     let on = x.on in

@@ -1,9 +1,11 @@
 -- Promise: a list of pieces that is a duty is not empty, rises, and has pieces of the net alone.
-use Rattle.std.proofs.Common.{◌≡◌, ◌≢◌, ℕ, ℤ, ◌<◌, ◌&&◌, ◌-ℤ◌, Bool, true, false, nat_lt, List, [], ◌∷◌, length, Option, Some, None, refl, sym, ap, subst, arith, slice_get}
-use Rattle.std.specs.Prelude.{option_and_then, unwrap_or}
+use Rattle.std.proofs.Common.{◌≡◌, ◌≢◌, ℕ, ℤ, ◌<◌, ◌-ℤ◌, true, nat_lt, List, [], ◌∷◌, length, Option, Some, None, sym, subst, arith, slice_get}
+use Rattle.std.specs.Prelude.{option_and_then}
 use Rattle.std.proofs.lemmas.Bool.Decides.{nat_tests}
-use Rattle.std.proofs.lemmas.Option.{slice_get_within}
+use Rattle.std.proofs.lemmas.Option.{slice_get_within, same_Some}
+use Rattle.std.proofs.lemmas.Bool.{and_parts}
 use Rattle.plan_core.specs.declared.types.Piece.{Piece}
+use Rattle.plan_core.proofs.Options.{and_then_some, given_some}
 use Rattle.cover_core.specs.Cover.{AllBelow, Rises}
 use Rattle.cover_core.specs.Plans.{HasListedColumns}
 use Rattle.plan_params.specs.declared.rows.group.Group.{Group}
@@ -12,27 +14,11 @@ use Rattle.eu561_rules.specs.Lawful.{is_lawful}
 use Rattle.duty_network.specs.Times.{given, rises, seconds}
 use Rattle.duty_network.specs.Duties.{Duty, DutyFacts, begins, cost_of, drives_of, duties, duty_of, ends, limits_of, pieces_at}
 
-some_same : {A : Type 0} (x y : A) → Some x ≡ Some y → x ≡ y
-some_same {A = A} x y e = let f : Option A → A = λ o. unwrap_or o x in ap f e
-
-and_then_some : {A B : Type 0} (f : A → Option B) (o : Option A) (y : B) → option_and_then f o ≡ Some y →
-    (x : A) × (o ≡ Some x) × (f x ≡ Some y)
-and_then_some f None y e = absurd (cc)
-and_then_some f (Some x) y e = (x, refl, e)
-
-given_some : {A : Type 0} (b : Bool) (o : Option A) (y : A) → given b o ≡ Some y → (b ≡ true) × (o ≡ Some y)
-given_some true o y e = (refl, e)
-given_some false o y e = absurd (cc)
-
-both_true : (a b : Bool) → (a && b) ≡ true → (a ≡ true) × (b ≡ true)
-both_true true b e = (refl, e)
-both_true false b e = absurd (cc)
-
 rises_rise : (list : List ℕ) → rises list ≡ true → Rises list
 rises_rise [] e = tt
 rises_rise (x ∷ []) e = tt
 rises_rise (x ∷ y ∷ rest) e =
-    let parts = both_true (nat_lt x y) (rises (y ∷ rest)) e in
+    let parts = and_parts (nat_lt x y) (rises (y ∷ rest)) e in
     let test : nat_lt x y ≡ true = parts.0 in
     let below : x < y = grind (arith, nat_tests) in
     (below, rises_rise (y ∷ rest) parts.1)
@@ -50,7 +36,7 @@ none_of_none : (d : DutyFacts) (list : List ℕ) (found : List Piece) (drives : 
     drives_of d found ≡ Some drives → list ≢ []
 none_of_none d list found drives at is = λ e.
     let P : List ℕ → Type 0 = λ ks. pieces_at d.pieces ks ≡ Some found in
-    let none : found ≡ [] = sym (some_same [] found (subst P e at)) in
+    let none : found ≡ [] = sym (same_Some [] found (subst P e at)) in
     let Q : List Piece → Type 0 = λ ps. drives_of d ps ≡ Some drives in
     let bad : None ≡ Some drives = subst Q none is in
     cc

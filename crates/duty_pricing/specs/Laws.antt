@@ -3,6 +3,7 @@ use Rattle.std.proofs.Common.{◌≡◌, ℕ, ℤ, pos, ◌+◌, ◌-◌, ◌*�
 use Rattle.std.proofs.lemmas.Int.{ints}
 use Rattle.std.proofs.lemmas.Bool.Decides.{nat_tests}
 use Rattle.std.specs.Prelude.{◌||◌, Option, Some, None, int_le, nat_le, nat_lt, slice_get}
+use Rattle.std.proofs.lemmas.Bool.{and_parts}
 use Rattle.plan_core.specs.Limits.{most_price}
 use Rattle.plan_core.specs.declared.types.Piece.{Piece}
 use Rattle.plan_core.specs.declared.types.Price.{Price}
@@ -18,7 +19,6 @@ use Rattle.label_search.proofs.Limits.{floor-hides}
 use Rattle.label_search.proofs.Pricing.{of_range-tied, of_start-hides, of_start-kept, of_start-stepwise, of_start-valued, start-parts}
 use Rattle.plan_params.specs.declared.rows.group.Group.{Group}
 use Rattle.plan_params.specs.Limits.{IsGroup}
-use Rattle.eu561_rules.proofs.Runs.{both_true}
 use Rattle.duty_network.specs.Duties.{DutyFacts, duty_worth, limits_of, pause, pause_at, sign_off}
 use Rattle.duty_network.specs.Marks.{closed_value, extended_mark, is_as_good, is_open, marking, next_mark}
 use Rattle.duty_network.specs.Ranges.{NetFits, off_value}
@@ -71,15 +71,15 @@ extended-parts d g prices a b k e =
     let (q, is_q, e2) = and_then-Some _ (slice_get d.pieces k) b e1 in
     let (time, is_time, e3) = and_then-Some _ (pause d p q) b e2 in
     let (test, made) = given-Some _ _ b e3 in
-    let (later, opened) = both_true _ _ test in
+    let (later, opened) = and_parts _ _ test in
     (p, q, time, is_p, is_q, is_time, later, opened, Some-same (next_mark g prices a time k q) b made)
 
 -- what is opened keeps the day's driving, and ends in time
 pub open-parts : (g : Group) (m : Mark) (end : ℤ) → is_open g m end ≡ true →
     (m.total ≤ (limits_of g).day) × (end ≤ℤ (m.start.0 +ℤ pos 54000))
 open-parts g m end e =
-    let (first, in_time) = both_true _ _ e in
-    let (block, day) = both_true _ _ first in
+    let (first, in_time) = and_parts _ _ e in
+    let (block, day) = and_parts _ _ first in
     (le-of m.total (limits_of g).day day, at-most end (m.start.0 +ℤ pos 54000) in_time)
 
 pub duty-safe : (d : DutyFacts) (prices : List Price) (class : ℕ) (g : Group) (first end : ℕ) (latest : ℤ) → NetFits d → IsGroup g →
@@ -190,7 +190,7 @@ bound-floor d prices class g first r latest rows over reach until bound = record
       let (off, is_off, e2) = and_then-Some _ (sign_off d g p) v e1 in
       let (test, made) = given-Some _ _ v e2 in
       let same : a.value +ℤ off_value d.counts g off ≡ v = Some-same _ v made in
-      let (other, spread) = both_true _ _ test in
+      let (other, spread) = and_parts _ _ test in
       let within = at-most (off -ℤ a.start.0) (pos (cond a.three (limits_of g).long_spread (limits_of g).spread)) spread in
       let start = s.start in
       let least = close-row d prices g r latest first rows over a.three a.piece (units_left r g a.total) p off bound s.from s.fits.piece

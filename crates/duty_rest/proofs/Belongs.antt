@@ -3,8 +3,9 @@
 use Rattle.std.proofs.Common.{◌≡◌, ◌==◌, ℕ, ◌+◌, ◌-◌, ◌<◌, ◌≤◌, Bool, true, false, cond, ◌&&◌, ◌||◌, not, zero, suc, List, [], ◌∷◌, ◌++◌, length, refl, sym, ap, subst, ◌∙◌, arith, inl, inr, Option, Some, None, slice_get, nat_eq}
 use Rattle.std.specs.Option.{option_map, option_map_or}
 use Rattle.std.specs.Prelude.{option_and_then}
-use Rattle.std.proofs.lemmas.Bool.{cases_lt}
+use Rattle.std.proofs.lemmas.Bool.{cases_lt, and_parts}
 use Rattle.std.proofs.lemmas.Bool.Decides.{nat_tests}
+use Rattle.std.proofs.lemmas.Option.{same_Some}
 use Rattle.plan_core.specs.declared.types.Piece.{Piece}
 use Rattle.cover_core.specs.declared.Column.{Column}
 use Rattle.cover_core.specs.Cover.{AllBelow}
@@ -19,12 +20,8 @@ use Rattle.duty_rest.specs.declared.head.DutyHead.{DutyHead}
 use Rattle.duty_rest.specs.Heads.{begun_from, begun_part, begun_parts, by_first, class_of, duty_head, duty_heads_of, head_of, is_one_of, last_of, listed, row_heads}
 use Rattle.duty_rest.specs.Rest.{begun_of, may_begin}
 use Rattle.duty_rest.specs.Laws.{KeptLeavesNoneBegun, belongs, belongs_to, has_begun_in, none_begun}
-use Rattle.duty_rest.proofs.Found.{from-below, parts-length, some-same}
+use Rattle.duty_rest.proofs.Found.{from-below, parts-length}
 use Rattle.duty_rest.proofs.Apart.{head-more, head_with, held, held-append, held_times, part_at, times_from}
-
-both-true : (a b : Bool) → (a && b) ≡ true → (a ≡ true) × (b ≡ true)
-both-true true b e = (refl, e)
-both-true false b e = absurd (cc)
 
 -- A begun piece of a duty is found. Pieces are counted on from `k`, so that the induction goes along the parts, and the piece `k + j`
 -- is met at its place. With it the begun pieces of a duty hold all that a part of the duty stands for.
@@ -105,7 +102,7 @@ module _ (d : DutyFacts) (begun : List (Option (ℕ × ℕ))) (moment : ℕ) whe
   duty-holds : (i : ℕ) (row : DutyRow) → belongs d.params.groups (part_at begun i) row ≡ true →
       1 ≤ held_times i (listed (duty_head d begun moment row))
   duty-holds i row own =
-      let (one, there) = both-true (is_one_of (part_at begun i) row.parts)
+      let (one, there) = and_parts (is_one_of (part_at begun i) row.parts)
       (option_map_or (λ (class : ℕ). true) (class_of d.params.groups row.group 0) false) own in
       let pieces : List ℕ = begun_from begun row.parts 0 in
       let some : 1 ≤ times i pieces = from-there begun row.parts 0 i i (omega arith) one in
@@ -175,7 +172,7 @@ at-most x [] j c at = absurd (cc)
 at-most x (b ∷ bs) zero c at =
     let both = times-append x b.items (all_items bs) in
     let P : Column → Type 0 = λ c. times x c.items ≤ times x (all_items (b ∷ bs)) in
-    subst P (some-same b c at) (omega (arith, both))
+    subst P (same_Some b c at) (omega (arith, both))
 at-most x (b ∷ bs) (suc j) c at =
     let both = times-append x b.items (all_items bs) in
     let rest = at-most x bs j c at in
@@ -186,15 +183,15 @@ at-most x (b ∷ bs) (suc j) c at =
 same-place : (x : ℕ) (cs : List Column) (j k : ℕ) (c e : Column) → times x (all_items cs) ≤ 1 → slice_get cs j ≡ Some c →
     slice_get cs k ≡ Some e → 1 ≤ times x c.items → 1 ≤ times x e.items → c ≡ e
 same-place x [] j k c e once atc ate here there = absurd (cc)
-same-place x (b ∷ bs) zero zero c e once atc ate here there = sym (some-same b c atc) ∙ some-same b e ate
+same-place x (b ∷ bs) zero zero c e once atc ate here there = sym (same_Some b c atc) ∙ same_Some b e ate
 same-place x (b ∷ bs) zero (suc k) c e once atc ate here there =
     let both = times-append x b.items (all_items bs) in
-    let first : times x b.items ≡ times x c.items = ap (λ (c : Column). times x c.items) (some-same b c atc) in
+    let first : times x b.items ≡ times x c.items = ap (λ (c : Column). times x c.items) (same_Some b c atc) in
     let rest = at-most x bs k e ate in
     absurd (omega (arith, both, first, rest, once, here, there))
 same-place x (b ∷ bs) (suc j) zero c e once atc ate here there =
     let both = times-append x b.items (all_items bs) in
-    let first : times x b.items ≡ times x e.items = ap (λ (c : Column). times x c.items) (some-same b e ate) in
+    let first : times x b.items ≡ times x e.items = ap (λ (c : Column). times x c.items) (same_Some b e ate) in
     let rest = at-most x bs j c atc in
     absurd (omega (arith, both, first, rest, once, here, there))
 same-place x (b ∷ bs) (suc j) (suc k) c e once atc ate here there =
@@ -204,7 +201,7 @@ same-place x (b ∷ bs) (suc j) (suc k) c e once atc ate here there =
 part-is : (blocks earlier : List Column) (moment : ℕ) (ps : List Piece) (i : ℕ) (p : Piece) → slice_get ps i ≡ Some p →
     part_at (begun_parts blocks earlier moment ps) i ≡ begun_part blocks earlier moment p
 part-is blocks earlier moment [] i p at = absurd (cc)
-part-is blocks earlier moment (q ∷ qs) zero p at = ap (begun_part blocks earlier moment) (some-same q p at)
+part-is blocks earlier moment (q ∷ qs) zero p at = ap (begun_part blocks earlier moment) (same_Some q p at)
 part-is blocks earlier moment (q ∷ qs) (suc i) p at = part-is blocks earlier moment qs i p at
 
 within : (ps : List Piece) (i : ℕ) (p : Piece) → slice_get ps i ≡ Some p → i < length ps

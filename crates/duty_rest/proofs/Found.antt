@@ -1,15 +1,12 @@
 -- Begun pieces and heads, one after another.
 use Rattle.std.proofs.Common.{◌≡◌, ℕ, ◌+◌, ◌-◌, ◌<◌, ◌≤◌, zero, suc, arith, subst, true, false, cond, List, [], ◌∷◌, ◌++◌, length, refl, sym, ap, ◌∙◌, Option, Some, slice_get}
-use Rattle.std.specs.Prelude.{unwrap_or}
 use Rattle.std.proofs.lemmas.List.{append_assoc}
+use Rattle.std.proofs.lemmas.Option.{same_Some}
 use Rattle.plan_core.specs.declared.types.Piece.{Piece}
 use Rattle.cover_core.specs.declared.Column.{Column}
 use Rattle.cover_core.specs.Cover.{AllBelow}
 use Rattle.duty_rest.specs.declared.head.DutyHead.{DutyHead}
 use Rattle.duty_rest.specs.Heads.{begun_from, begun_parts, by_first, heads_at, is_one_of}
-
-pub some-same : {A : Type 0} (x y : A) → Some x ≡ Some y → x ≡ y
-some-same {A = A} x y e = let f : Option A → A = λ o. unwrap_or o x in ap f e
 
 -- there is one for each piece
 pub parts-length : (blocks earlier : List Column) (moment : ℕ) (ps : List Piece) → length (begun_parts blocks earlier moment ps) ≡ length ps
@@ -29,7 +26,7 @@ from-below n (o ∷ os) parts k few =
 
 pub below-at : (n : ℕ) (ks : List ℕ) (i k : ℕ) → AllBelow n ks → slice_get ks i ≡ Some k → k < n
 below-at n [] i k below is = absurd (cc)
-below-at n (l ∷ ls) zero k below is = let P : ℕ → Type 0 = λ k. k < n in subst P (some-same l k is) below.0
+below-at n (l ∷ ls) zero k below is = let P : ℕ → Type 0 = λ k. k < n in subst P (same_Some l k is) below.0
 below-at n (l ∷ ls) (suc i) k below is = below-at n ls i k below.1 is
 
 -- the heads that begin with one piece more

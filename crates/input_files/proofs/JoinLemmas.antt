@@ -1,19 +1,16 @@
 -- The tables of several files in one list.
-use Rattle.std.proofs.Common.{◌≡◌, List, [], ◌∷◌, ◌++◌, All, IsTrue, Bool, true, false, ◌&&◌, ◌∙◌, refl}
+use Rattle.std.proofs.Common.{◌≡◌, List, [], ◌∷◌, ◌++◌, All, IsTrue, true, ◌∙◌, refl}
 use Rattle.std.proofs.lemmas.List.Elements.{All-append, All-nil, recursion_from_All}
 use Rattle.std.proofs.lemmas.List.Folds.{list_all-append}
 use Rattle.std.specs.List.{AllByRecursion}
+use Rattle.std.proofs.lemmas.Bool.{and_from}
 use Rattle.vdv451_text.specs.declared.table.Table.{Table}
 use Rattle.vdv451_text.specs.Plain.{are_plain, is_plain_table}
 use Rattle.input_files.specs.Parts.{joined}
 
-both_true : (a b : Bool) → a ≡ true → b ≡ true → (a && b) ≡ true
-both_true true b p q = q
-both_true false b p q = cc
-
 -- plain tables behind plain tables
 plain_both : (xs ys : List Table) → are_plain xs ≡ true → are_plain ys ≡ true → are_plain (xs ++ ys) ≡ true
-plain_both xs ys p q = list_all-append is_plain_table xs ys ∙ both_true (are_plain xs) (are_plain ys) p q
+plain_both xs ys p q = list_all-append is_plain_table xs ys ∙ and_from (are_plain xs) (are_plain ys) p q
 
 each_plain : (parts : List (List Table)) → AllByRecursion (λ tables. IsTrue (are_plain tables)) parts → IsTrue (are_plain (joined parts))
 each_plain [] each = refl

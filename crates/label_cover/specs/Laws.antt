@@ -4,6 +4,7 @@ use Rattle.std.proofs.lemmas.Int.{ints}
 use Rattle.std.proofs.lemmas.List.{length-map}
 use Rattle.std.proofs.lemmas.List.Elements.{All-head, All-tail}
 use Rattle.std.specs.Prelude.{◌&&◌, All, Option, Some, None, cond, option_and_then, nat_lt, slice_get}
+use Rattle.std.proofs.lemmas.Bool.{and_parts}
 use Rattle.plan_core.specs.Limits.{most_kept_price}
 use Rattle.plan_core.specs.declared.types.Piece.{Piece}
 use Rattle.plan_core.specs.declared.types.Price.{Price}
@@ -18,7 +19,7 @@ use Rattle.label_search.specs.Pricing.{IsTied}
 use Rattle.label_search.proofs.Pricing.{kept-by, valued-by}
 use Rattle.plan_params.specs.declared.rows.group.Group.{Group}
 use Rattle.plan_params.specs.Limits.{IsGroup}
-use Rattle.eu561_rules.proofs.Runs.{both_true, true-le}
+use Rattle.eu561_rules.proofs.Runs.{true-le}
 use Rattle.mark_cover.specs.Marking.{Marking, of_class, IsOrdered, IsPlaced, AreMarksOf}
 use Rattle.mark_cover.specs.Minimal.{AreSafe, IsApart}
 use Rattle.duty_network.specs.Duties.{DutyFacts, caps_of, duties, duty_worth, limits_of, pause, sign_on}
@@ -204,8 +205,8 @@ day-most false = omega arith
 
 open-fits : (g : Group) (m : Mark) (end : ℤ) → is_open g m end ≡ true → (m.driving ≤ 16200) × (m.total ≤ 36000)
 open-fits g m end e =
-    let (low, last) = both_true _ _ e in
-    let (driving, total) = both_true _ _ low in
+    let (low, last) = and_parts _ _ e in
+    let (driving, total) = and_parts _ _ low in
     let less : m.driving ≤ 16200 = true-le m.driving 16200 driving in
     let few : m.total ≤ cond g.ten 36000 32400 = true-le _ _ total in
     let most = day-most g.ten in
@@ -249,7 +250,7 @@ next-ranges d prices g a b k f w h e =
     let (time, is_time, e3) = and_then-Some _ (pause d p q) b e2 in
     let (test, made) = given-Some _ _ b e3 in
     let next : Mark = next_mark g prices a time k q in
-    let (later, open_next) = both_true (nat_lt a.piece k) (is_open g next q.end.0) test in
+    let (later, open_next) = and_parts (nat_lt a.piece k) (is_open g next q.end.0) test in
     let order = later-piece a.piece k later in
     let (driving, total) = open-fits g next q.end.0 open_next in
     let own = price_at-within most_kept_price prices k w in let plow = own.low in let phigh = own.high in

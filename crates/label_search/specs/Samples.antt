@@ -3,6 +3,7 @@ use Rattle.std.specs.Prelude.{◌≡◌, ℕ, ℤ, pos, neg_ℤ, ◌+ℤ◌, ◌
 use Rattle.std.proofs.Common.{arith, ap, sym, ◌∙◌, subst}
 use Rattle.std.proofs.lemmas.Bool.Decides.{nat_tests}
 use Rattle.std.proofs.lemmas.Int.{ints}
+use Rattle.std.proofs.lemmas.Bool.{and_from, and_parts}
 use Rattle.cover_core.specs.Cover.{Problem}
 use Rattle.cover_core.specs.Plans.{HasListedColumns}
 use Rattle.cover_core.specs.Labels.{Labelling, IsKept, IsValued}
@@ -25,14 +26,6 @@ from-cond false a b e = absurd (cc)
 onto-cond : {L : Type 0} (t : Bool) (a : L) → t ≡ true → cond t (Some a) None ≡ Some a
 onto-cond true a e = refl
 onto-cond false a e = absurd (cc)
-
-both_true : (a b : Bool) → (a && b) ≡ true → (a ≡ true) × (b ≡ true)
-both_true true b e = (refl, e)
-both_true false b e = absurd (cc)
-
-and_true : (a b : Bool) → a ≡ true → b ≡ true → (a && b) ≡ true
-and_true true b h k = k
-and_true false b h k = absurd (cc)
 
 -- the last item, and the cost so far
 abbrev pub Way : Type 0
@@ -62,10 +55,10 @@ abbrev pub WayFits : Way → Type 0
 WayFits a = (neg_ℤ (pos (5 * (a.0 + 1))) ≤ℤ a.1) × (a.1 ≤ℤ pos (5 * (a.0 + 1)))
 
 good-parts : (a b : Way) → way_good a b ≡ true → (a.0 ≡ b.0) × (a.1 ≤ℤ b.1)
-good-parts a b h = let (left, right) = both_true (nat_eq a.0 b.0) (int_le a.1 b.1) h in (grind (arith, nat_tests), grind (arith, ints))
+good-parts a b h = let (left, right) = and_parts (nat_eq a.0 b.0) (int_le a.1 b.1) h in (grind (arith, nat_tests), grind (arith, ints))
 
 parts-good : (a b : Way) → a.0 ≡ b.0 → a.1 ≤ℤ b.1 → way_good a b ≡ true
-parts-good a b h k = and_true (nat_eq a.0 b.0) (int_le a.1 b.1) (grind (arith, nat_tests)) (grind (arith, ints))
+parts-good a b h k = and_from (nat_eq a.0 b.0) (int_le a.1 b.1) (grind (arith, nat_tests)) (grind (arith, ints))
 
 -- what an extension is
 record IsStep (count seed : ℕ) (a b : Way) (item : ℕ) : Type 0 where
@@ -77,7 +70,7 @@ record IsStep (count seed : ℕ) (a b : Way) (item : ℕ) : Type 0 where
 step-parts : (count seed : ℕ) (a b : Way) (item : ℕ) → (ways count seed).extend a item ≡ Some b → IsStep count seed a b item
 step-parts count seed a b item e =
     let (test, is) = from-cond (nat_lt a.0 item && nat_lt item count) (way item (a.1 +ℤ toll seed a.0 item)) b e in
-    let (left, right) = both_true (nat_lt a.0 item) (nat_lt item count) test in
+    let (left, right) = and_parts (nat_lt a.0 item) (nat_lt item count) test in
     let last : Way → ℕ = λ w. w.0 in
     let worth : Way → ℤ = λ w. w.1 in
     record { up = grind (arith, nat_tests); there = grind (arith, nat_tests); item_is = sym (ap last is); value_is = sym (ap worth is) }
@@ -86,7 +79,7 @@ parts-step : (count seed : ℕ) (a : Way) (item : ℕ) → a.0 < item → item <
     (ways count seed).extend a item ≡ Some (way item (a.1 +ℤ toll seed a.0 item))
 parts-step count seed a item up there =
     onto-cond (nat_lt a.0 item && nat_lt item count) (way item (a.1 +ℤ toll seed a.0 item))
-    (and_true (nat_lt a.0 item) (nat_lt item count) (grind (arith, nat_tests)) (grind (arith, nat_tests)))
+    (and_from (nat_lt a.0 item) (nat_lt item count) (grind (arith, nat_tests)) (grind (arith, nat_tests)))
 
 pub ways-kept : (count seed : ℕ) → IsKept (ways count seed) (GoodAs way_good)
 ways-kept count seed = record {
@@ -127,7 +120,7 @@ pub ways-stepwise : (count seed : ℕ) → IsStepwise (ways count seed) count (�
 ways-stepwise count seed = record {
   starts = λ item a e.
       let (test, is) = from-cond (nat_eq item 0 && nat_lt item count) (way item (pos 0)) a e in
-      let (left, right) = both_true (nat_eq item 0) (nat_lt item count) test in
+      let (left, right) = and_parts (nat_eq item 0) (nat_lt item count) test in
       let last : Way → ℕ = λ w. w.0 in
       (grind (arith, nat_tests), sym (ap last is));
   steps = λ a b item e. let x = step-parts count seed a b item e in (x.up, x.there, x.item_is);
@@ -248,16 +241,16 @@ record IsNoWorse (a b : Haul) : Type 0 where
 
 haul-parts : (a b : Haul) → haul_good a b ≡ true → IsNoWorse a b
 haul-parts a b h =
-    let (front, right) = both_true (nat_eq a.0 b.0 && int_le a.1 b.1) (nat_lt a.2 (b.2 + 1)) h in
-    let (left, middle) = both_true (nat_eq a.0 b.0) (int_le a.1 b.1) front in
+    let (front, right) = and_parts (nat_eq a.0 b.0 && int_le a.1 b.1) (nat_lt a.2 (b.2 + 1)) h in
+    let (left, middle) = and_parts (nat_eq a.0 b.0) (int_le a.1 b.1) front in
     let below : a.2 < b.2 + 1 = grind (arith, nat_tests) in
     record { item = grind (arith, nat_tests); value = grind (arith, ints); load = omega arith }
 
 parts-haul : (a b : Haul) → a.0 ≡ b.0 → a.1 ≤ℤ b.1 → a.2 ≤ b.2 → haul_good a b ≡ true
 parts-haul a b h k l =
     let below : a.2 < b.2 + 1 = omega arith in
-    and_true (nat_eq a.0 b.0 && int_le a.1 b.1) (nat_lt a.2 (b.2 + 1))
-    (and_true (nat_eq a.0 b.0) (int_le a.1 b.1) (grind (arith, nat_tests)) (grind (arith, ints))) (grind (arith, nat_tests))
+    and_from (nat_eq a.0 b.0 && int_le a.1 b.1) (nat_lt a.2 (b.2 + 1))
+    (and_from (nat_eq a.0 b.0) (int_le a.1 b.1) (grind (arith, nat_tests)) (grind (arith, ints))) (grind (arith, nat_tests))
 
 below-is : (x y : ℕ) → nat_lt x y ≡ true → x < y
 below-is x y h = grind (arith, nat_tests)
@@ -278,8 +271,8 @@ haul-step : (count seed room : ℕ) (a b : Haul) (item : ℕ) → (hauls count s
 haul-step count seed room a b item e =
     let (test, is) = from-cond (nat_lt a.0 item && nat_lt item count && nat_lt (a.2 + weight item) room)
     (haul item (a.1 +ℤ toll seed a.0 item) (a.2 + weight item)) b e in
-    let (front, right) = both_true (nat_lt a.0 item && nat_lt item count) (nat_lt (a.2 + weight item) room) test in
-    let (left, middle) = both_true (nat_lt a.0 item) (nat_lt item count) front in
+    let (front, right) = and_parts (nat_lt a.0 item && nat_lt item count) (nat_lt (a.2 + weight item) room) test in
+    let (left, middle) = and_parts (nat_lt a.0 item) (nat_lt item count) front in
     let last : Haul → ℕ = λ w. w.0 in
     let worth : Haul → ℤ = λ w. w.1 in
     let load : Haul → ℕ = λ w. w.2 in
@@ -297,8 +290,8 @@ step-haul : (count seed room : ℕ) (a : Haul) (item : ℕ) → a.0 < item → i
 step-haul count seed room a item up there fits =
     onto-cond (nat_lt a.0 item && nat_lt item count && nat_lt (a.2 + weight item) room)
     (haul item (a.1 +ℤ toll seed a.0 item) (a.2 + weight item))
-    (and_true (nat_lt a.0 item && nat_lt item count) (nat_lt (a.2 + weight item) room)
-    (and_true (nat_lt a.0 item) (nat_lt item count) (grind (arith, nat_tests)) (grind (arith, nat_tests)))
+    (and_from (nat_lt a.0 item && nat_lt item count) (nat_lt (a.2 + weight item) room)
+    (and_from (nat_lt a.0 item) (nat_lt item count) (grind (arith, nat_tests)) (grind (arith, nat_tests)))
     (is-below (a.2 + weight item) room fits))
 
 pub hauls-kept : (count seed room : ℕ) → IsKept (hauls count seed room) (GoodAs haul_good)
@@ -343,7 +336,7 @@ haul-starts : (count seed room item : ℕ) (a : Haul) → (hauls count seed room
     (item < count) × (weight item < room) × (haul item (toll seed item item) (weight item) ≡ a)
 haul-starts count seed room item a e =
     let (test, is) = from-cond (nat_lt item count && nat_lt (weight item) room) (haul item (toll seed item item) (weight item)) a e in
-    let (left, right) = both_true (nat_lt item count) (nat_lt (weight item) room) test in
+    let (left, right) = and_parts (nat_lt item count) (nat_lt (weight item) room) test in
     (below-is item count left, below-is (weight item) room right, is)
 
 pub hauls-stepwise : (count seed room : ℕ) → IsStepwise (hauls count seed room) count (λ a. a.0)

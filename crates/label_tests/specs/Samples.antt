@@ -3,6 +3,7 @@ use Rattle.std.specs.Prelude.{◌≡◌, ℕ, ℤ, pos, neg_ℤ, zero, suc, ◌+
 use Rattle.std.proofs.Common.{arith, ap, sym, ◌∙◌, subst}
 use Rattle.std.proofs.lemmas.Bool.Decides.{nat_tests}
 use Rattle.std.proofs.lemmas.Int.{ints}
+use Rattle.std.proofs.lemmas.Bool.{and_from, and_parts}
 use Rattle.plan_core.specs.Limits.{most_items}
 use Rattle.plan_core.specs.declared.Price.{Price}
 use Rattle.cover_core.specs.Cover.{Problem}
@@ -61,24 +62,16 @@ onto-cond : {L : Type 0} (t : Bool) (a : L) → t ≡ true → cond t (Some a) N
 onto-cond true a e = refl
 onto-cond false a e = absurd (cc)
 
-both_true : (a b : Bool) → (a && b) ≡ true → (a ≡ true) × (b ≡ true)
-both_true true b e = (refl, e)
-both_true false b e = absurd (cc)
-
-and_true : (a b : Bool) → a ≡ true → b ≡ true → (a && b) ≡ true
-and_true true b h k = k
-and_true false b h k = absurd (cc)
-
 good-parts : (a b : Step) → step_good a b ≡ true → (a.0 ≡ b.0) × (a.1 ≡ b.1) × (a.2 ≤ℤ b.2)
 good-parts a b h =
-    let (left, right) = both_true (nat_eq a.0 b.0 && nat_eq a.1 b.1) (int_le a.2 b.2) h in
-    let (class, item) = both_true (nat_eq a.0 b.0) (nat_eq a.1 b.1) left in
+    let (left, right) = and_parts (nat_eq a.0 b.0 && nat_eq a.1 b.1) (int_le a.2 b.2) h in
+    let (class, item) = and_parts (nat_eq a.0 b.0) (nat_eq a.1 b.1) left in
     (grind (arith, nat_tests), grind (arith, nat_tests), grind (arith, ints))
 
 parts-good : (a b : Step) → a.0 ≡ b.0 → a.1 ≡ b.1 → a.2 ≤ℤ b.2 → step_good a b ≡ true
 parts-good a b h k l =
-    and_true (nat_eq a.0 b.0 && nat_eq a.1 b.1) (int_le a.2 b.2)
-    (and_true (nat_eq a.0 b.0) (nat_eq a.1 b.1) (grind (arith, nat_tests)) (grind (arith, nat_tests))) (grind (arith, ints))
+    and_from (nat_eq a.0 b.0 && nat_eq a.1 b.1) (int_le a.2 b.2)
+    (and_from (nat_eq a.0 b.0) (nat_eq a.1 b.1) (grind (arith, nat_tests)) (grind (arith, nat_tests))) (grind (arith, ints))
 
 -- what an extension is
 record IsNext (prices : List Price) (a b : Step) (item : ℕ) : Type 0 where
@@ -91,7 +84,7 @@ record IsNext (prices : List Price) (a b : Step) (item : ℕ) : Type 0 where
 next-parts : (prices : List Price) (a b : Step) (item : ℕ) → next_step prices a item ≡ Some b → IsNext prices a b item
 next-parts prices a b item e =
     let (test, is) = from-cond (nat_lt a.1 item && nat_lt item (length prices)) (step a.0 item (a.2 -ℤ price_at prices item)) b e in
-    let (left, right) = both_true (nat_lt a.1 item) (nat_lt item (length prices)) test in
+    let (left, right) = and_parts (nat_lt a.1 item) (nat_lt item (length prices)) test in
     let f : Step → ℕ = λ s. s.0 in
     let h : Step → ℕ = λ s. s.1 in
     let v : Step → ℤ = λ s. s.2 in
@@ -108,7 +101,7 @@ parts-next : (prices : List Price) (a : Step) (item : ℕ) → a.1 < item → it
     next_step prices a item ≡ Some (step a.0 item (a.2 -ℤ price_at prices item))
 parts-next prices a item up there =
     onto-cond (nat_lt a.1 item && nat_lt item (length prices)) (step a.0 item (a.2 -ℤ price_at prices item))
-    (and_true (nat_lt a.1 item) (nat_lt item (length prices)) (grind (arith, nat_tests)) (grind (arith, nat_tests)))
+    (and_from (nat_lt a.1 item) (nat_lt item (length prices)) (grind (arith, nat_tests)) (grind (arith, nat_tests)))
 
 record IsFirst (prices : List Price) (class item : ℕ) (b : Step) : Type 0 where
   pub there : item < length prices
@@ -119,7 +112,7 @@ record IsFirst (prices : List Price) (class item : ℕ) (b : Step) : Type 0 wher
 first-parts : (prices : List Price) (class item : ℕ) (b : Step) → first_step prices class item ≡ Some b → IsFirst prices class item b
 first-parts prices class item b e =
     let (test, is) = from-cond (nat_lt class 2 && nat_lt item (length prices)) (step class item (pos 1000 -ℤ price_at prices item)) b e in
-    let (left, right) = both_true (nat_lt class 2) (nat_lt item (length prices)) test in
+    let (left, right) = and_parts (nat_lt class 2) (nat_lt item (length prices)) test in
     let f : Step → ℕ = λ s. s.0 in
     let h : Step → ℕ = λ s. s.1 in
     let v : Step → ℤ = λ s. s.2 in
@@ -161,8 +154,8 @@ onto-after : (prices : List Price) (class : ℕ) (a : Step) (xs : List ℕ) → 
     (b : Step) × (label_after (of_class (steps prices) class) (Some a) xs ≡ Some b) × (b.2 ≡ a.2 -ℤ price_of prices xs)
 onto-after prices class a [] h = (a, refl, omega (arith, ints))
 onto-after prices class a (x ∷ xs) h =
-    let (tests, rest) = both_true (nat_lt a.1 x && nat_lt x (length prices)) (rises_after (length prices) x xs) h in
-    let (up, there) = both_true (nat_lt a.1 x) (nat_lt x (length prices)) tests in
+    let (tests, rest) = and_parts (nat_lt a.1 x && nat_lt x (length prices)) (rises_after (length prices) x xs) h in
+    let (up, there) = and_parts (nat_lt a.1 x) (nat_lt x (length prices)) tests in
     let next = step a.0 x (a.2 -ℤ price_at prices x) in
     let made = parts-next prices a x (grind (arith, nat_tests)) (grind (arith, nat_tests)) in
     let (b, is, value) = onto-after prices class next xs rest in
@@ -192,8 +185,8 @@ from-after prices class a b (x ∷ xs) e =
           let up = p.up in
           let there = p.there in
           let P : ℕ → Type 0 = λ i. rises_after (length prices) i xs ≡ true in (
-            and_true (nat_lt a.1 x && nat_lt x (length prices)) (rises_after (length prices) x xs)
-                (and_true (nat_lt a.1 x) (nat_lt x (length prices)) (grind (arith, nat_tests)) (grind (arith, nat_tests)))
+            and_from (nat_lt a.1 x && nat_lt x (length prices)) (rises_after (length prices) x xs)
+                (and_from (nat_lt a.1 x) (nat_lt x (length prices)) (grind (arith, nat_tests)) (grind (arith, nat_tests)))
                 (subst P item_is rest),
             omega (arith, ints),
           )
@@ -204,11 +197,11 @@ onto-list : (prices : List Price) (class : ℕ) → class < 2 → (list : List �
 onto-list prices class below [] worth e = absurd (cc)
 onto-list prices class below (x ∷ xs) worth e =
     let (tests, one) = from-cond (nat_lt x (length prices) && rises_after (length prices) x xs) 1 worth e in
-    let (there, rest) = both_true (nat_lt x (length prices)) (rises_after (length prices) x xs) tests in
+    let (there, rest) = and_parts (nat_lt x (length prices)) (rises_after (length prices) x xs) tests in
     let first = step class x (pos 1000 -ℤ price_at prices x) in
     let made : first_step prices class x ≡ Some first =
     onto-cond (nat_lt class 2 && nat_lt x (length prices)) first
-    (and_true (nat_lt class 2) (nat_lt x (length prices)) (grind (arith, nat_tests)) there) in
+    (and_from (nat_lt class 2) (nat_lt x (length prices)) (grind (arith, nat_tests)) there) in
     let (b, is, value) = onto-after prices class first xs rest in
     let total : b.2 ≡ value_of prices worth (x ∷ xs) = omega (arith, ints) in
     (b, ap (λ o. label_after (of_class (steps prices) class) o xs) made ∙ is, ap Some total)
@@ -232,7 +225,7 @@ from-list prices class (x ∷ xs) a v e closes =
           let same : a.2 ≡ v = ap f closes in (
             1,
             onto-cond (nat_lt x (length prices) && rises_after (length prices) x xs) 1
-                (and_true (nat_lt x (length prices)) (rises_after (length prices) x xs) (grind (arith, nat_tests)) (subst P item_is rest)),
+                (and_from (nat_lt x (length prices)) (rises_after (length prices) x xs) (grind (arith, nat_tests)) (subst P item_is rest)),
             omega (arith, ints),
           )
     ] refl e

@@ -3,5 +3,4 @@ mod InPlay
 mod Gains
 mod Walks
 mod Keeps
-mod Times
 mod Ranges

@@ -1,8 +1,6 @@
 -- Numbers of lists in range, one at a time.
-use Rattle.std.proofs.Common.{◌≡◌, ℕ, ℤ, pos, neg_ℤ, ◌≤ℤ◌, ◌<◌, zero, suc, List, [], ◌∷◌, ◌++◌, length, get_or, refl, arith}
+use Rattle.std.proofs.Common.{◌≡◌, ℕ, ℤ, pos, neg_ℤ, ◌≤ℤ◌, ◌<◌, zero, suc, List, [], ◌∷◌, ◌++◌, length, get_or, arith}
 use Rattle.std.proofs.lemmas.Int.{ints}
-use Rattle.plan_core.specs.declared.Price.{Price}
-use Rattle.cover_core.specs.FirstLeast.{AllWithin}
 use Rattle.cover_core.specs.Plans.{number_at}
 use Rattle.cover_core.proofs.Values.{IsWithin}
 use Rattle.lagrangian_climb.specs.declared.vectors.Span.{Span}
@@ -21,11 +19,6 @@ pub near-zeros : (n : ℕ) (zs : List ℤ) → ((i : ℕ) → number_at zs i ≡
 near-zeros n [] h = tt
 near-zeros n (z ∷ zs) h = let here : z ≡ pos 0 = h 0 in (omega (arith, ints), omega (arith, ints), near-zeros n zs (λ i. h (suc i)))
 
-pub number-get : (zs : List ℤ) (i : ℕ) (d : ℤ) → i < length zs → get_or zs i d ≡ number_at zs i
-number-get [] i d h = absurd (omega arith)
-number-get (z ∷ zs) zero d h = refl
-number-get (z ∷ zs) (suc i) d h = number-get zs i d (omega arith)
-
 pub record IsSpan (s : Span) : Type 0 where
   pub low : neg_ℤ (pos 10000000000000) ≤ℤ s.low
   pub ordered : s.low ≤ℤ s.high
@@ -35,7 +28,3 @@ pub span-get : (ss : List Span) (i : ℕ) (d : Span) → i < length ss → AreSp
 span-get [] i d h are = absurd (omega arith)
 span-get (s ∷ ss) zero d h are = record { low = are.0; ordered = are.1; high = are.2 }
 span-get (s ∷ ss) (suc i) d h are = span-get ss i d (omega arith) are.3
-
-pub within-push : (n : ℕ) (xs : List Price) (x : Price) → AllWithin n xs → IsWithin n x.0 → AllWithin n (xs ++ x ∷ [])
-within-push n [] x h w = (w.low, w.high, tt)
-within-push n (y ∷ ys) x h w = (h.0, h.1, within-push n ys x h.2 w)

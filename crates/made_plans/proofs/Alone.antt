@@ -1,5 +1,6 @@
 -- Each trip of a roomy day has room of its own.
 use Rattle.std.proofs.Common.{◌≡◌, ℕ, ◌+◌, ◌*◌, true, false, [], ◌∷◌, Some, refl, ◌∙◌, arith, slice_get, nat_le}
+use Rattle.std.proofs.lemmas.Bool.{le-leb}
 use Rattle.trip_times.specs.declared.trip.Trip.{Trip}
 use Rattle.plan_params.specs.declared.rows.group.Group.{Group}
 use Rattle.plan_params.specs.declared.rows.pool.Pool.{Pool}
@@ -10,7 +11,7 @@ use Rattle.depot_network.specs.Driving.{drives, trip_seconds}
 use Rattle.depot_network.proofs.Drives.{driven_is}
 use Rattle.made_plans.specs.Roomy.{IsAlone, IsRoomyWith}
 use Rattle.made_plans.specs.Rooms.{HasRoomForTrips}
-use Rattle.made_plans.proofs.Places.{there, first_mapped, le_test}
+use Rattle.made_plans.proofs.Places.{there, first_mapped}
 
 -- a trip alone can be driven
 alone_drives : (day : DayFacts) (pool : Pool) (k : ℕ) (t : Trip) → slice_get day.trips k ≡ Some t → IsAlone day pool t →
@@ -20,9 +21,9 @@ alone_drives day pool k t at is =
     let in_is = is.in_is in
     let short = is.short in
     let first : nat_le (is.out + trip_seconds t) longest_driving ≡ true =
-    le_test (is.out + trip_seconds t) longest_driving (omega (arith, short)) in
+    le-leb (is.out + trip_seconds t) longest_driving (omega (arith, short)) in
     let last : nat_le (is.out + trip_seconds t + is.inward) longest_driving ≡ true =
-    le_test (is.out + trip_seconds t + is.inward) longest_driving short in
+    le-leb (is.out + trip_seconds t + is.inward) longest_driving short in
     rw (at, out_is, first, in_is, last) refl
 
 -- a trip alone has a worth as a block of the pool

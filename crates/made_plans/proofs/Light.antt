@@ -5,8 +5,10 @@ use Rattle.std.specs.List.{list_all}
 use Rattle.std.specs.Option.{option_map_or}
 use Rattle.std.proofs.lemmas.Int.{ints}
 use Rattle.std.proofs.lemmas.List.Elements.{All-append, All-nil}
+use Rattle.std.proofs.lemmas.Bool.{le-leb}
 use Rattle.plan_core.specs.declared.types.Leg.{Leg}
 use Rattle.plan_core.specs.declared.types.Piece.{Piece}
+use Rattle.plan_core.proofs.Options.{and_then_some, given_some}
 use Rattle.cover_core.specs.declared.Column.{Column}
 use Rattle.cover_core.specs.Plans.{AreColumns, HasListedColumns}
 use Rattle.trip_times.specs.declared.trip.Trip.{Trip}
@@ -25,13 +27,9 @@ use Rattle.block_cut.proofs.Few.{all_few, plan_items}
 use Rattle.duty_network.specs.Duties.{duty_worth}
 use Rattle.made_plans.specs.Roomy.{IsRoomyWith}
 use Rattle.made_plans.specs.Rooms.{HasRoomForPieces}
-use Rattle.made_plans.proofs.Places.{all_there, and_then_some, first_mapped, le_test, there}
+use Rattle.made_plans.proofs.Places.{all_there, first_mapped, there}
 use Rattle.made_plans.proofs.Running.{IsRunning, pieces_running, pieces_short}
 use Rattle.made_plans.proofs.Whole.{legs_whole}
-
-given_true : {A : Type 0} (b : Bool) (o : Option A) (y : A) → given b o ≡ Some y → (b ≡ true) × (o ≡ Some y)
-given_true true o y e = (refl, e)
-given_true false o y e = absurd (cc)
 
 -- a piece that can be a duty alone
 pub record IsLight (day : DayFacts) (group : Group) (way : ℕ) (p : Piece) : Type 0 where
@@ -44,11 +42,11 @@ pub record IsLight (day : DayFacts) (group : Group) (way : ℕ) (p : Piece) : Ty
 lawful_one : (ten reduced : Bool) (driving spread : ℕ) → driving ≤ longest_driving → spread ≤ regular.spread →
     is_lawful (limits_for ten reduced) (record { pause = 0; driving = driving } ∷ []) spread ≡ true
 lawful_one ten reduced driving spread low within =
-    let four : nat_le (driving + 0) 16200 ≡ true = le_test (driving + 0) 16200 (omega (arith, low)) in
-    let nine : nat_le (driving + 0) 32400 ≡ true = le_test (driving + 0) 32400 (omega (arith, low)) in
-    let tenth : nat_le (driving + 0) 36000 ≡ true = le_test (driving + 0) 36000 (omega (arith, low)) in
-    let thirteen : nat_le spread 46800 ≡ true = le_test spread 46800 (omega (arith, within)) in
-    let fifteen : nat_le spread 54000 ≡ true = le_test spread 54000 (omega (arith, within)) in
+    let four : nat_le (driving + 0) 16200 ≡ true = le-leb (driving + 0) 16200 (omega (arith, low)) in
+    let nine : nat_le (driving + 0) 32400 ≡ true = le-leb (driving + 0) 32400 (omega (arith, low)) in
+    let tenth : nat_le (driving + 0) 36000 ≡ true = le-leb (driving + 0) 36000 (omega (arith, low)) in
+    let thirteen : nat_le spread 46800 ≡ true = le-leb spread 46800 (omega (arith, within)) in
+    let fifteen : nat_le spread 54000 ≡ true = le-leb spread 54000 (omega (arith, within)) in
     let Goal : Bool → Bool → Type 0 =
     λ ten reduced. is_lawful (limits_for ten reduced) (record { pause = 0; driving = driving } ∷ []) spread ≡ true in
     elim ten as (λ ten. Goal ten reduced) [
@@ -92,12 +90,12 @@ module _ (day : DayFacts) (pool : Pool) (group : Group) (way : ℕ) (roomy : IsR
       let cost : Pool → Option ℕ =
       λ pool. option_and_then (λ (ts : List Trip). option_and_then (λ (c : ℕ). Some c) (block_cost day pool ts))
       (trips_at day.trips list) in
-      let (up, e1) = given_true (rises list)
+      let (up, e1) = given_some (rises list)
       (option_and_then (λ (pool : Pool). given (can_be_driven day pool list) (cost pool)) (slice_get day.params.pools column.class))
       worth e in
       let (q, is_q, e2) = and_then_some (λ (pool : Pool). given (can_be_driven day pool list) (cost pool))
       (slice_get day.params.pools column.class) worth e1 in
-      let (driven, e3) = given_true (can_be_driven day q list) (cost q) worth e2 in
+      let (driven, e3) = given_some (can_be_driven day q list) (cost q) worth e2 in
       let Light : List Piece → Type 0 = λ ps. All (IsLight day group way) ps in
       let Goal : Option (List Leg) → Type 0 = λ o. legs_of day q list ≡ o →
       option_map_or (λ pieces. list_all may_be_driven pieces)

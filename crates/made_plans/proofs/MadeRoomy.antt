@@ -4,7 +4,11 @@ use Rattle.std.specs.Prelude.{option_and_then}
 use Rattle.std.specs.Int.RustNames.{unsigned_abs}
 use Rattle.std.proofs.lemmas.Bool.Decides.{nat_tests}
 use Rattle.std.proofs.lemmas.Int.{ints}
+use Rattle.std.proofs.lemmas.Bool.{and_parts, le-leb}
+use Rattle.std.proofs.lemmas.Option.{same_Some}
+use Rattle.std.proofs.Math.Bool.{or-true}
 use Rattle.plan_core.specs.declared.types.Point.{Point}
+use Rattle.plan_core.proofs.Options.{and_then_some, given_some}
 use Rattle.vdv452_tables.specs.Keys.{point_eq}
 use Rattle.trip_times.specs.declared.trip.Trip.{Trip}
 use Rattle.plan_params.specs.declared.rows.ParamRows.{ParamRows}
@@ -21,7 +25,7 @@ use Rattle.made_plans.specs.MadeRows.{point}
 use Rattle.made_plans.specs.MadeTrips.{IsMadeTrip, IsTerminal}
 use Rattle.made_plans.specs.Roomy.{IsAlone, IsNear, IsRoomy, IsRoomyWith}
 use Rattle.made_plans.proofs.MadeDay.{IsMade, made_dead, made_group, made_is, made_params, made_pool}
-use Rattle.made_plans.proofs.Places.{all_there, and_both, and_then_some, le_test, some_same}
+use Rattle.made_plans.proofs.Places.{all_there}
 
 -- What holds of each of the eight terminals holds of all. The lemmas below are shown by it, terminal by terminal, by computing with
 -- the day's tables, so that later only arithmetic over the numbers of terminals is left.
@@ -124,27 +128,15 @@ natural : (z : ℤ) → pos 0 ≤ℤ z → (n : ℕ) × (z ≡ pos n)
 natural (pos n) low = (n, refl)
 natural (negsuc n) low = absurd (omega (arith, ints, low))
 
-or_true : (b : Bool) → (b || true) ≡ true
-or_true true = refl
-or_true false = refl
-
 point_same : (at : Point) → point_eq at at ≡ true
 point_same at =
     let typ : (at.typ == at.typ) ≡ true = grind (arith, nat_tests) in
     let nr : (at.nr == at.nr) ≡ true = grind (arith, nat_tests) in
     rw (typ, nr) refl
 
-given_parts : {A : Type 0} (b : Bool) (o : Option A) (y : A) → given b o ≡ Some y → (b ≡ true) × (o ≡ Some y)
-given_parts true o y e = (refl, e)
-given_parts false o y e = absurd (cc)
-
 given_none : {A : Type 0} (b : Bool) (x : A) → given b (Some x) ≡ None → b ≡ false
 given_none true x e = absurd (cc)
 given_none false x e = refl
-
--- where both tests hold they hold together
-and_from : (a b : Bool) → a ≡ true → b ≡ true → (a && b) ≡ true
-and_from a b first second = rw (first, second) refl
 
 -- which of two is there
 either : (P : Link → Type 0) (a b : Option Link) (l : Link) → ((l : Link) → a ≡ Some l → P l) → (a ≡ None → (l : Link) → b ≡ Some l → P l) →
@@ -163,11 +155,11 @@ record IsMadePool (trips : ℕ) (q : Pool) : Type 0 where
 pool_made : (trips class : ℕ) (q : Pool) → slice_get (made_params trips).pools class ≡ Some q → IsMadePool trips q
 pool_made trips zero q e =
     let P : Pool → Type 0 = λ q. IsMadePool trips q in
-    subst P (some_same (made_pool 1 101 trips) q e)
+    subst P (same_Some (made_pool 1 101 trips) q e)
     (record { d = 101; p = 2; depot_is = refl; depot = first_depot; near = near_first trips })
 pool_made trips (suc zero) q e =
     let P : Pool → Type 0 = λ q. IsMadePool trips q in
-    subst P (some_same (made_pool 2 102 trips) q e)
+    subst P (same_Some (made_pool 2 102 trips) q e)
     (record { d = 102; p = 7; depot_is = refl; depot = second_depot; near = near_second trips })
 pool_made trips (suc (suc n)) q e = absurd (cc)
 
@@ -241,7 +233,7 @@ module _ (trips : ℕ) (day : DayFacts) (made : IsMade trips day) where
         (between_is trip.to next.from trip.to_there next.from_there)
 
     long_stand : (s : ℕ) → 300 ≤ s → (nat_le 1 s ≡ true) × (nat_le day.params.settings.handover s ≡ true)
-    long_stand s long = (le_test 1 s (omega (arith, long)), ap (λ n. nat_le n s) handover ∙ le_test 300 s long)
+    long_stand s long = (le-leb 1 s (omega (arith, long)), ap (λ n. nat_le n s) handover ∙ le-leb 300 s long)
 
     direct : (l : Link) → direct_link day t u ≡ Some l → Cut l
     direct l e =
@@ -250,16 +242,16 @@ module _ (trips : ℕ) (day : DayFacts) (made : IsMade trips day) where
         let (stand, is_stand, made_of) =
         and_then_some (λ (s : ℕ). given (nat_le day.params.settings.turn s && nat_le s day.params.settings.max_wait) (Some (Direct move s)))
         (seconds (u.begin.0 -ℤ t.end.0 -ℤ pos move)) l stands in
-        let (test, is) = given_parts (nat_le day.params.settings.turn stand && nat_le stand day.params.settings.max_wait)
+        let (test, is) = given_some (nat_le day.params.settings.turn stand && nat_le stand day.params.settings.max_wait)
         (Some (Direct move stand)) l made_of in
         let turned : nat_le 300 stand ≡ true =
         sym (ap (λ n. nat_le n stand) turn)
-        ∙ (and_both (nat_le day.params.settings.turn stand) (nat_le stand day.params.settings.max_wait) test).0 in
+        ∙ (and_parts (nat_le day.params.settings.turn stand) (nat_le stand day.params.settings.max_wait) test).0 in
         let long : 300 ≤ stand = grind (arith, nat_tests) in
         let (some, handed) = long_stand stand long in
         let here : Cut (Direct move stand) = rw (some, handed, relieved) refl in
         let P : Link → Type 0 = λ l. Cut l in
-        subst P (some_same (Direct move stand) l is) here
+        subst P (same_Some (Direct move stand) l is) here
 
     in_is : dead day t.to q.depot ≡ Some (beside pool.p trip.to)
     in_is = dead_is t.to q.depot trip.to pool.d (beside pool.p trip.to) trip.to_is pool.depot_is (pool.depot.inward trip.to trip.to_there)
@@ -295,7 +287,7 @@ module _ (trips : ℕ) (day : DayFacts) (made : IsMade trips day) where
         ∙ none) in
         let tested : (nat_le 300 n && nat_le n 7200) ≡ false =
         sym (ap (λ k. nat_le k n && nat_le n day.params.settings.max_wait) turn ∙ ap (λ k. nat_le 300 n && nat_le n k) wait) ∙ test in
-        let enough : nat_le 300 n ≡ true = le_test 300 n (omega (arith, around)) in
+        let enough : nat_le 300 n ≡ true = le-leb 300 n (omega (arith, around)) in
         let past : nat_le n 7200 ≡ false = sym (ap (λ b. b && nat_le n 7200) enough) ∙ tested in
         let over : 7200 < n = grind (arith, nat_tests) in
         omega (arith, over, in_short, out_short)
@@ -311,10 +303,10 @@ module _ (trips : ℕ) (day : DayFacts) (made : IsMade trips day) where
         let long = stands_long stand none (seconds_some (u.begin.0 -ℤ t.end.0 -ℤ pos i -ℤ pos o) stand is_stand) in
         let (some, handed) = long_stand stand long in
         let own : (is_relief day q.depot || point_eq q.depot q.depot) ≡ true =
-        ap (λ b. is_relief day q.depot || b) (point_same q.depot) ∙ or_true (is_relief day q.depot) in
+        ap (λ b. is_relief day q.depot || b) (point_same q.depot) ∙ or-true (is_relief day q.depot) in
         let here : Cut (Depot i o stand) = rw (some, handed, own) refl in
         let P : Link → Type 0 = λ l. Cut l in
-        subst P (some_same (Depot i o stand) l is) here
+        subst P (same_Some (Depot i o stand) l is) here
 
     -- A direct connection stands for its minimum layover of 300 seconds at least, which is a handover too, and at a terminal, where
     -- drivers are relieved; one via the depot stands there for 300 at least (`stands_long`), and a depot is a place for cuts. So each

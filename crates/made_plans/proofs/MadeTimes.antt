@@ -2,6 +2,7 @@
 use Rattle.std.proofs.Common.{◌≡◌, ℕ, zero, suc, ◌+◌, ◌*◌, ◌≤◌, Bool, true, false, cond, [], ◌∷◌, Option, Some, Result, Ok, Err, refl, sym, ap, subst, ◌∙◌, arith, nat_le}
 use Rattle.std.specs.Prelude.{if◌then◌else◌, unwrap_or}
 use Rattle.std.proofs.lemmas.Int.{ints}
+use Rattle.std.proofs.lemmas.Bool.{le-leb}
 use Rattle.plan_core.specs.declared.types.Point.{Point}
 use Rattle.vdv452_rows.specs.declared.rows.TripRow.{TripRow}
 use Rattle.vdv452_tables.specs.Keys.{group_dwell_key_eq, group_dwell_key_of, line_key_eq, line_key_of, move_key_eq, named, run_key_of, trip_dwell_key_eq, trip_dwell_key_of, value_at}
@@ -13,7 +14,6 @@ use Rattle.trip_times.specs.Timing.{dwell_at, ended, run_time_of, timed, timed_i
 use Rattle.day_maker.specs.Made.{lines, variant_name}
 use Rattle.made_plans.specs.MadeRows.{made_net, point, rows_each, line_rows, stop_rows, run_rows, dwell_rows}
 use Rattle.made_plans.specs.MadeTrips.{IsMadeRow, IsMadeTrip, IsTerminal}
-use Rattle.made_plans.proofs.Places.{le_test}
 use Rattle.made_plans.proofs.MadeNet.{lines_are, stops_are, runs_are, dwells_are, no_dwells}
 
 -- what holds of each line
@@ -153,7 +153,7 @@ module _ (seed trips : ℕ) (row : TripRow) (made : IsMadeRow row) where
       let to : Point = point (end_of out l) in
       let latest = made.latest in
       let high = made.high in
-      let within : nat_le (row.start + seconds) 172800 ≡ true = le_test (row.start + seconds) 172800 (omega (arith, latest, high)) in
+      let within : nat_le (row.start + seconds) 172800 ≡ true = le-leb (row.start + seconds) 172800 (omega (arith, latest, high)) in
       let ended_is : ended row from to seconds ≡ Ok (trip_over row from to seconds) =
       ap (λ b. if b then Ok (trip_over row from to seconds) else Err PastEnd) within in
       (trip_over row from to seconds, timed_is ∙ ended_is)

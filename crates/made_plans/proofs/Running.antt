@@ -4,6 +4,7 @@ use Rattle.std.specs.List.{list_all}
 use Rattle.std.proofs.lemmas.Bool.Decides.{nat_tests}
 use Rattle.std.proofs.lemmas.Int.{ints}
 use Rattle.std.proofs.lemmas.List.Elements.{All-append, All-cons, All-nil}
+use Rattle.std.proofs.lemmas.Bool.{and_parts}
 use Rattle.plan_core.specs.declared.types.Leg.{Leg}
 use Rattle.plan_core.specs.declared.types.Piece.{Piece}
 use Rattle.plan_params.specs.declared.rows.group.Group.{Group}
@@ -13,7 +14,6 @@ use Rattle.day_model.specs.Pieces.{driving_seconds, duration, is_cut, is_stand, 
 use Rattle.block_cut.specs.Cuts.{begun, continued, cut_on, ended, grown, next_index}
 use Rattle.block_cut.proofs.Pieces.{cut_whole}
 use Rattle.made_plans.specs.Roomy.{IsNear}
-use Rattle.made_plans.proofs.Places.{and_both}
 use Rattle.made_plans.proofs.Whole.{AreWhole, IsSound}
 
 -- a piece that lasts as long as it is driven, near the home at both ends
@@ -94,7 +94,7 @@ pub pieces_short : (one other index at : ℕ) (ps : List (List Leg)) → list_al
 pieces_short one other index at [] all = All-nil IsShort
 pieces_short one other index at ([] ∷ rest) all = pieces_short one other index at rest all
 pieces_short one other index at ((l ∷ ls) ∷ rest) all =
-    let (test, others) = and_both (nat_le (driving_seconds (l ∷ ls)) longest_driving)
+    let (test, others) = and_parts (nat_le (driving_seconds (l ∷ ls)) longest_driving)
     (list_all may_be_driven (pieces_from one (index + 1) rest)) all in
     let low : driving_seconds (l ∷ ls) ≤ longest_driving = grind (arith, nat_tests) in
     All-cons IsShort (piece_of other at l ls) (pieces_from other (at + 1) rest) low

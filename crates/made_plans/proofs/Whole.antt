@@ -3,10 +3,13 @@ use Rattle.std.proofs.Common.{◌≡◌, ℕ, ℤ, pos, ◌≤ℤ◌, ◌+ℤ◌
 use Rattle.std.specs.Prelude.{option_and_then, if◌then◌else◌}
 use Rattle.std.specs.Int.RustNames.{unsigned_abs}
 use Rattle.std.proofs.lemmas.Int.{ints}
+use Rattle.std.proofs.lemmas.Bool.{and_parts, not-false}
+use Rattle.std.proofs.lemmas.Option.{same_Some}
 use Rattle.plan_core.specs.declared.types.Leg.{Leg}
 use Rattle.plan_core.specs.declared.types.LegKind.{LegKind}
 use Rattle.plan_core.specs.declared.types.LegKind.TheVariants.{PullOut, Deadhead, Stand, PullIn}
 use Rattle.plan_core.specs.declared.types.Point.{Point}
+use Rattle.plan_core.proofs.Options.{and_then_some, given_some}
 use Rattle.vdv452_tables.specs.Keys.{point_eq}
 use Rattle.trip_times.specs.declared.trip.Trip.{Trip as TheTrip}
 use Rattle.deadheads.specs.Entries.{time_at}
@@ -20,7 +23,6 @@ use Rattle.day_model.specs.Pieces.{duration, is_cut, is_shown, is_stand, is_trip
 use Rattle.depot_network.specs.Driving.{is_cut_on, seconds_after, seconds_before, stand_of, stand_point}
 use Rattle.depot_network.proofs.Bounds.{seconds_some}
 use Rattle.made_plans.specs.Roomy.{IsNear, IsRoomyWith}
-use Rattle.made_plans.proofs.Places.{and_both, and_then_some, some_same}
 
 -- a leg that ends no earlier than it begins, near the home at both ends; a stand is a cut, and a leg that is left out takes no time
 pub record IsSound (day : DayFacts) (pool : Pool) (group : Group) (way : ℕ) (l : Leg) : Type 0 where
@@ -35,10 +37,6 @@ abbrev pub AreWhole : DayFacts → Pool → Group → ℕ → ℤ → ℤ → Li
 AreWhole day pool group way from to [] = from ≡ to
 AreWhole day pool group way from to (l ∷ ls) = (from ≡ l.begin.0) × IsSound day pool group way l × AreWhole day pool group way l.end.0 to ls
 
-not_false : (b : Bool) → not b ≡ false → b ≡ true
-not_false true e = refl
-not_false false e = absurd (cc)
-
 -- the parts of a connection: its stand fills the time between its trips, and moves between equal points take none
 record IsFilled (pool : Pool) (t u : TheTrip) (l : Link) : Type 0 where
   pub stand : (u.begin.0 -ℤ t.end.0 -ℤ pos (seconds_before l) -ℤ pos (seconds_after l)) ≡ pos (stand_of l)
@@ -48,11 +46,7 @@ record IsFilled (pool : Pool) (t u : TheTrip) (l : Link) : Type 0 where
 no_dead : (day : DayFacts) (from to : Point) (m : ℕ) → dead day from to ≡ Some m → point_eq from to ≡ true → m ≡ 0
 no_dead day from to m is same =
     let none : dead day from to ≡ Some 0 = ap (λ b. if b then Some 0 else time_at day.deads (record { from = from; to = to })) same in
-    some_same m 0 (sym is ∙ none)
-
-given_is : {A : Type 0} (b : Bool) (o : Option A) (y : A) → given b o ≡ Some y → o ≡ Some y
-given_is true o y e = e
-given_is false o y e = absurd (cc)
+    same_Some m 0 (sym is ∙ none)
 
 -- A direct connection: the stand is what the time between the trips leaves after the deadhead, and a deadhead between equal points
 -- takes no time. Both are read off the computation that gives the connection. That via the depot, below, has two deadheads with the
@@ -65,8 +59,8 @@ direct_filled day pool t u l e =
     and_then_some (λ (s : ℕ). given (nat_le day.params.settings.turn s && nat_le s day.params.settings.max_wait) (Some (Direct move s)))
     (seconds (u.begin.0 -ℤ t.end.0 -ℤ pos move)) l stands in
     let is : Direct move stand ≡ l =
-    some_same (Direct move stand) l
-    (given_is (nat_le day.params.settings.turn stand && nat_le stand day.params.settings.max_wait) (Some (Direct move stand)) l made) in
+    same_Some (Direct move stand) l
+    (given_some (nat_le day.params.settings.turn stand && nat_le stand day.params.settings.max_wait) (Some (Direct move stand)) l made).1 in
     let z = seconds_some (u.begin.0 -ℤ t.end.0 -ℤ pos move) stand is_stand in
     let P : Link → Type 0 = λ l. IsFilled pool t u l in
     let filled : IsFilled pool t u (Direct move stand) =
@@ -84,7 +78,7 @@ depot_filled day pool t u l e =
     (dead day pool.depot u.from) l e1 in
     let (stand, is_stand, made) =
     and_then_some (λ (s : ℕ). Some (Depot inward outward s)) (seconds (u.begin.0 -ℤ t.end.0 -ℤ pos inward -ℤ pos outward)) l e2 in
-    let is : Depot inward outward stand ≡ l = some_same (Depot inward outward stand) l made in
+    let is : Depot inward outward stand ≡ l = same_Some (Depot inward outward stand) l made in
     let z = seconds_some (u.begin.0 -ℤ t.end.0 -ℤ pos inward -ℤ pos outward) stand is_stand in
     let P : Link → Type 0 = λ l. IsFilled pool t u l in
     let filled : IsFilled pool t u (Depot inward outward stand) =
@@ -140,7 +134,7 @@ module _ (day : DayFacts) (pool : Pool) (group : Group) (way : ℕ) where
       record {
         order = omega (arith, ints, long);
         cut = λ stands. absurd (cc);
-        hidden = λ out. let zero_long = none (not_false (point_eq from to) (sym shows ∙ out)) in omega (arith, ints, long, zero_long);
+        hidden = λ out. let zero_long = none (not-false (point_eq from to) (sym shows ∙ out)) in omega (arith, ints, long, zero_long);
         from = near_from;
         to = near_to;
       }
@@ -168,7 +162,7 @@ module _ (day : DayFacts) (pool : Pool) (group : Group) (way : ℕ) where
       Near pool.depot → AreWhole day pool group way t.end.0 u.begin.0 (link_legs pool t u l)
   link_whole t u (Direct move stand) filled cut near_to near_from near_depot =
       let whole = filled.stand in
-      let (some, test) = and_both (nat_le 1 stand)
+      let (some, test) = and_parts (nat_le 1 stand)
       (nat_le day.params.settings.handover stand && (is_relief day u.from || point_eq u.from pool.depot)) cut in
       let long : (u.begin.0 -ℤ (t.end.0 +ℤ pos move)) ≡ pos stand = omega (arith, ints, whole) in (
         refl,
@@ -177,7 +171,7 @@ module _ (day : DayFacts) (pool : Pool) (group : Group) (way : ℕ) where
       )
   link_whole t u (Depot inward outward stand) filled cut near_to near_from near_depot =
       let whole = filled.stand in
-      let (some, test) = and_both (nat_le 1 stand)
+      let (some, test) = and_parts (nat_le 1 stand)
       (nat_le day.params.settings.handover stand && (is_relief day pool.depot || point_eq pool.depot pool.depot)) cut in
       let long : (u.begin.0 -ℤ pos outward -ℤ (t.end.0 +ℤ pos inward)) ≡ pos stand = omega (arith, ints, whole) in (
         refl,
@@ -211,7 +205,7 @@ module _ (day : DayFacts) (pool : Pool) (group : Group) (way : ℕ) where
           let (inward, is_in, made) =
           and_then_some (λ (m : ℕ). Some (trip_leg k t ∷ leg PullIn None t.to t.end.0 pool.depot (t.end.0 +ℤ pos m) ∷ []))
           (pull_in day pool t) ls e in
-          let is : (trip_leg k t ∷ leg PullIn None t.to t.end.0 pool.depot (t.end.0 +ℤ pos inward) ∷ []) ≡ ls = some_same _ ls made in
+          let is : (trip_leg k t ∷ leg PullIn None t.to t.end.0 pool.depot (t.end.0 +ℤ pos inward) ∷ []) ≡ ls = same_Some _ ls made in
           let P : List Leg → Type 0 = λ ls. AreWhole day pool group way t.begin.0 (t.end.0 +ℤ pos inward) ls in
           let order = (roomy.alone k t at).order in (
             t.end.0 +ℤ pos inward,
@@ -236,7 +230,7 @@ module _ (day : DayFacts) (pool : Pool) (group : Group) (way : ℕ) where
           (legs_from day pool j u js)) (link day pool t u) ls e1 in
           let (rest, is_rest, made) =
           and_then_some (λ (rest : List Leg). Some ((trip_leg k t ∷ link_legs pool t u l) ++ rest)) (legs_from day pool j u js) ls e2 in
-          let is : ((trip_leg k t ∷ link_legs pool t u l) ++ rest) ≡ ls = some_same _ ls made in
+          let is : ((trip_leg k t ∷ link_legs pool t u l) ++ rest) ≡ ls = same_Some _ ls made in
           let (end, later) = from_whole j u js rest is_u is_rest in
           let P : List Leg → Type 0 = λ ls. AreWhole day pool group way t.begin.0 end ls in
           let order = (roomy.alone k t at).order in
@@ -277,7 +271,7 @@ module _ (day : DayFacts) (pool : Pool) (group : Group) (way : ℕ) where
           and_then_some (λ (rest : List Leg). Some (shown (leg PullOut None pool.depot (t.begin.0 -ℤ pos out) t.from t.begin.0 ∷ rest)))
           (legs_from day pool k t ks) legs e2 in
           let begun : Leg = leg PullOut None pool.depot (t.begin.0 -ℤ pos out) t.from t.begin.0 in
-          let is : shown (begun ∷ rest) ≡ legs = some_same _ legs made in
+          let is : shown (begun ∷ rest) ≡ legs = same_Some _ legs made in
           let (end, later) = from_whole k t ks rest at is_rest in
           let P : List Leg → Type 0 = λ ls. AreWhole day pool group way (t.begin.0 -ℤ pos out) end ls in
           let is_dead = out_dead t (dead day pool.depot t.from) out is_out in

@@ -1,8 +1,10 @@
 -- From the tests to the first gap.
 use Rattle.std.proofs.Common.{◌≡◌, ℕ, ℤ, neg_ℤ, ◌+◌, ◌<◌, ◌≤◌, ◌⊎◌, inl, inr, ◌<ℤ◌, Bool, true, false, not, ◌||◌, List, [], ◌∷◌, zero, suc, refl, sym, ap, ◌∙◌, arith, subst}
 use Rattle.std.proofs.lemmas.Int.{ints}
-use Rattle.std.specs.Prelude.{Option, Some, None, slice_get, unwrap_or, int_lt, IfSome, IfNone}
+use Rattle.std.specs.Prelude.{Option, Some, None, slice_get, int_lt, IfSome, IfNone}
 use Rattle.std.specs.List.{list_any}
+use Rattle.std.proofs.lemmas.Option.{same_Some}
+use Rattle.std.proofs.lemmas.Bool.{not-false, not-true}
 use Rattle.cover_core.specs.declared.marks.Gap.{Gap}
 use Rattle.cover_core.specs.declared.marks.Gap.TheVariants.{First, Next, Close}
 use Rattle.cover_core.specs.Plans.{number_at}
@@ -10,11 +12,8 @@ use Rattle.mark_cover.specs.Marking.{Marking, IsPlaced}
 use Rattle.mark_cover.specs.Covers.{IsMet, ClosesBelow, IsMarkCover, IsGap, IsNoLater, IsFirstGap}
 use Rattle.mark_cover.specs.Searches.{AreMetBy, AreUnmetBetween, is_met, is_unmet, is_below, is_low, IsFirstStart, IsFirstStep, IsFirstClosing}
 
-some-same : {A : Type 0} (x y : A) → Some x ≡ Some y → x ≡ y
-some-same {A = A} x y e = let f : Option A → A = λ o. unwrap_or o x in ap f e
-
 get-same : {L : Type 0} (o : Option L) (a b : L) → o ≡ Some a → o ≡ Some b → a ≡ b
-get-same o a b h k = some-same a b (sym h ∙ k)
+get-same o a b h k = same_Some a b (sym h ∙ k)
 
 or-true : (a b : Bool) → b ≡ true → (a || b) ≡ true
 or-true true b h = refl
@@ -32,7 +31,7 @@ any-get {L = L} p (x ∷ xs) h =
 pub get-any : {L : Type 0} (p : L → Bool) (xs : List L) (k : ℕ) (a : L) → slice_get xs k ≡ Some a → p a ≡ true → list_any p xs ≡ true
 get-any p [] k a h is = absurd (cc)
 get-any {L = L} p (x ∷ xs) zero a h is =
-    let same = some-same x a h in
+    let same = same_Some x a h in
     let P : L → Type 0 = λ y. p y ≡ true in
     let head : p x ≡ true = subst P (sym same) is in rw head refl
 get-any p (x ∷ xs) (suc k) a h is = let rest = get-any p xs k a h is in or-true (p x) (list_any p xs) rest
@@ -46,14 +45,6 @@ met-from m marks b h = let (k, a, at, good) = any-get (λ x. m.good x b) marks h
 met-onto : {L : Type 0} (m : Marking L) (marks : List L) (b : L) → IsMet m marks b → is_met m marks b ≡ true
 met-onto m marks b h = get-any (λ x. m.good x b) marks h.1.0 h.0 h.1.1 h.2
 
-not-true : (t : Bool) → not t ≡ true → t ≡ false
-not-true true h = absurd (cc)
-not-true false h = refl
-
-not-false : (t : Bool) → not t ≡ false → t ≡ true
-not-false true h = refl
-not-false false h = absurd (cc)
-
 unmet-some : {L : Type 0} (m : Marking L) (marks : List L) (o : Option L) → is_unmet m marks o ≡ true →
     (b : L) × (o ≡ Some b) × (IsMet m marks b → ⊥)
 unmet-some m marks None h = absurd (cc)
@@ -63,7 +54,7 @@ unmet-none : {L : Type 0} (m : Marking L) (marks : List L) (o : Option L) (b : L
     o ≡ Some b → IsMet m marks b
 unmet-none m marks None b h e = absurd (cc)
 unmet-none {L = L} m marks (Some a) b h e =
-    let same = some-same a b e in
+    let same = same_Some a b e in
     let P : L → Type 0 = λ x. IsMet m marks x in
     subst P same (met-from m marks a (not-false (is_met m marks a) h))
 
@@ -85,7 +76,7 @@ below-some price (Some v) h = (v, refl, less-from v (neg_ℤ price) h)
 below-none : (price : ℤ) (o : Option ℤ) (v : ℤ) → is_below price o ≡ false → o ≡ Some v → (v <ℤ neg_ℤ price) → ⊥
 below-none price None v h e k = absurd (cc)
 below-none price (Some u) v h e k =
-    let same = some-same u v e in
+    let same = same_Some u v e in
     let P : ℤ → Type 0 = λ x. x <ℤ neg_ℤ price in
     less-not u (neg_ℤ price) h (subst P (sym same) k)
 

@@ -1,9 +1,10 @@
 -- What an insertion keeps.
 use Rattle.std.proofs.Common.{◌≡◌, ℕ, ◌<◌, ◌≤◌, ◌⊎◌, length, arith, inl, inr, Bool, true, false, cond, not, List, [], ◌∷◌, ◌++◌, filter, zero, suc, refl, sym, ap, ◌∙◌, subst, Result, Ok, Err, OnOk}
-use Rattle.std.specs.Prelude.{Option, Some, None, slice_get, unwrap_or}
+use Rattle.std.specs.Prelude.{Option, Some, None, slice_get}
 use Rattle.mark_cover.specs.Marking.{Marking, IsOrdered}
 use Rattle.mark_cover.specs.Covers.{StandsIn, IsMet}
-use Rattle.std.proofs.lemmas.Option.{slice_get_within}
+use Rattle.std.proofs.lemmas.Option.{slice_get_within, same_Some}
+use Rattle.std.proofs.lemmas.Bool.{not-true}
 use Rattle.mark_cover.specs.Levels.{AreInserted, listed, nexts}
 use Rattle.mark_cover.specs.Searches.{AreUnmetBetween, is_met}
 use Rattle.mark_cover.proofs.Firsts.{any-get, get-any}
@@ -11,9 +12,6 @@ use Rattle.mark_cover.proofs.Firsts.{any-get, get-any}
 -- a mark is put last, unless another one is at least as good; those that it is at least as good as are taken out
 abbrev stays : {L : Type 0} → Marking L → L → L → Bool
 stays m a b = not (m.good a b)
-
-some-same : {A : Type 0} (x y : A) → Some x ≡ Some y → x ≡ y
-some-same {A = A} x y e = let f : Option A → A = λ o. unwrap_or o x in ap f e
 
 get-left : {L : Type 0} (xs ys : List L) (a : L) (k : ℕ) → slice_get xs k ≡ Some a → StandsIn (xs ++ ys) a
 get-left [] ys a k h = absurd (cc)
@@ -36,7 +34,7 @@ pub stands-either : {L : Type 0} (xs ys : List L) (a : L) → StandsIn (xs ++ ys
 stands-either xs ys a h = get-either xs ys a h.0 h.1
 
 get-one : {L : Type 0} (a b : L) (k : ℕ) → slice_get (a ∷ []) k ≡ Some b → a ≡ b
-get-one a b zero h = some-same a b h
+get-one a b zero h = same_Some a b h
 get-one a b (suc k) h = absurd (cc)
 
 pub stands-one : {L : Type 0} (a b : L) → StandsIn (a ∷ []) b → a ≡ b
@@ -54,7 +52,7 @@ filtered p [] a k h = absurd (get-none a k h)
 filtered {L = L} p (x ∷ xs) a k h =
     elim (p x) as (λ t. p x ≡ t → slice_get (cond t (x ∷ filter p xs) (filter p xs)) k ≡ Some a → StandsIn (x ∷ xs) a × (p a ≡ true)) [
       | true ↦ λ is e. elim k as (λ j. slice_get (x ∷ filter p xs) j ≡ Some a → StandsIn (x ∷ xs) a × (p a ≡ true)) [
-        | zero ↦ λ f. let same = some-same x a f in let P : L → Type 0 = λ y. p y ≡ true in ((0, f), subst P same is)
+        | zero ↦ λ f. let same = same_Some x a f in let P : L → Type 0 = λ y. p y ≡ true in ((0, f), subst P same is)
         | suc j ↦ λ f. let (stands, passes) = filtered p xs a j f in ((suc stands.0, stands.1), passes)
       ] e
       | false ↦ λ is e. let (stands, passes) = filtered p xs a k e in ((suc stands.0, stands.1), passes)
@@ -63,7 +61,7 @@ filtered {L = L} p (x ∷ xs) a k h =
 kept : {L : Type 0} (p : L → Bool) (xs : List L) (a : L) (k : ℕ) → slice_get xs k ≡ Some a → p a ≡ true → StandsIn (filter p xs) a
 kept p [] a k h is = absurd (get-none a k h)
 kept {L = L} p (x ∷ xs) a zero h is =
-    let same = some-same x a h in
+    let same = same_Some x a h in
     let P : L → Type 0 = λ y. p y ≡ true in
     let head : p x ≡ true = subst P (sym same) is in
     let Q : Bool → Type 0 = λ t. StandsIn (cond t (x ∷ filter p xs) (filter p xs)) a in
@@ -71,10 +69,6 @@ kept {L = L} p (x ∷ xs) a zero h is =
 kept {L = L} p (x ∷ xs) a (suc k) h is =
     let (j, at) = kept p xs a k h is in
     elim (p x) as (λ t. StandsIn (cond t (x ∷ filter p xs) (filter p xs)) a) [ true ↦ (suc j, at) | false ↦ (j, at) ]
-
-not-true : (t : Bool) → not t ≡ true → t ≡ false
-not-true true h = absurd (cc)
-not-true false h = refl
 
 not-onto : (t : Bool) → t ≡ false → not t ≡ true
 not-onto true h = absurd (cc)
@@ -218,7 +212,7 @@ pub nexts-onto : {L : Type 0} (m : Marking L) (marks : List L) (item : ℕ) (a b
     m.extend a item ≡ Some b → StandsIn (nexts m marks item) b
 nexts-onto m [] item a b k h is = absurd (get-none a k h)
 nexts-onto {L = L} m (x ∷ rest) item a b zero h is =
-    let same = some-same x a h in
+    let same = same_Some x a h in
     let P : L → Type 0 = λ y. m.extend y item ≡ Some b in
     stands-left (listed (m.extend x item)) (nexts m rest item) b (listed-onto (m.extend x item) b (subst P (sym same) is))
 nexts-onto m (x ∷ rest) item a b (suc k) h is =

@@ -1,9 +1,5 @@
 -- Numbers of lists in range, one at a time.
-use Rattle.std.proofs.Common.{◌≡◌, ℕ, ℤ, pos, neg_ℤ, ◌≤ℤ◌, ◌≤◌, ◌<◌, zero, suc, List, [], ◌∷◌, ◌++◌, length, get_or, refl, arith}
-use Rattle.plan_core.specs.declared.Price.{Price}
-use Rattle.cover_core.specs.FirstLeast.{AllWithin}
-use Rattle.cover_core.proofs.Values.{IsWithin}
-use Rattle.cover_core.specs.Plans.{number_at}
+use Rattle.std.proofs.Common.{ℕ, ℤ, pos, neg_ℤ, ◌≤ℤ◌, ◌≤◌, ◌<◌, zero, suc, List, [], ◌∷◌, length, get_or, arith}
 use Rattle.offer_estimate.specs.Scales.{AreLeasts, AreWorths, AreCaps}
 
 pub record IsLeast (z : ℤ) : Type 0 where
@@ -28,12 +24,3 @@ pub cap-get : (cs : List ℕ) (i : ℕ) → i < length cs → AreCaps cs → get
 cap-get [] i h are = absurd (omega arith)
 cap-get (c ∷ cs) zero h are = are.0
 cap-get (c ∷ cs) (suc i) h are = cap-get cs i (omega arith) are.1
-
-pub within-push : (n : ℕ) (xs : List Price) (x : Price) → AllWithin n xs → IsWithin n x.0 → AllWithin n (xs ++ x ∷ [])
-within-push n [] x h w = (w.low, w.high, tt)
-within-push n (y ∷ ys) x h w = (h.0, h.1, within-push n ys x h.2 w)
-
-pub number-get : (zs : List ℤ) (i : ℕ) (d : ℤ) → i < length zs → get_or zs i d ≡ number_at zs i
-number-get [] i d h = absurd (omega arith)
-number-get (z ∷ zs) zero d h = refl
-number-get (z ∷ zs) (suc i) d h = number-get zs i d (omega arith)

@@ -1,8 +1,8 @@
 -- A path is not empty, rises, and has trips of the day alone; and a block is a path that costs the same.
-use Rattle.std.proofs.Common.{◌≡◌, ◌≢◌, ℕ, ◌<◌, ◌&&◌, Bool, true, false, cond, nat_lt, List, [], ◌∷◌, length, Option, Some, None, refl, sym, ap, subst, ◌∙◌, arith, slice_get}
+use Rattle.std.proofs.Common.{◌≡◌, ◌≢◌, ℕ, Bool, true, false, cond, List, [], ◌∷◌, length, Option, Some, None, refl, sym, ◌∙◌, slice_get}
 use Rattle.std.specs.Prelude.{is_some, option_and_then, unwrap_or}
-use Rattle.std.proofs.lemmas.Bool.Decides.{nat_tests}
-use Rattle.std.proofs.lemmas.Option.{slice_get_within}
+use Rattle.std.proofs.lemmas.Bool.{and_parts}
+use Rattle.plan_core.proofs.Options.{and_then_some, given_some}
 use Rattle.trip_times.specs.declared.trip.Trip.{Trip}
 use Rattle.plan_params.specs.declared.rows.pool.Pool.{Pool}
 use Rattle.cover_core.specs.Cover.{AllBelow, Rises}
@@ -12,50 +12,9 @@ use Rattle.day_model.specs.Links.{given}
 use Rattle.day_model.specs.Blocks.{block_cost, block_worth, rises, trips_at}
 use Rattle.day_model.specs.Pieces.{can_be_driven}
 use Rattle.depot_network.specs.Network.{blocks_of}
+use Rattle.depot_network.specs.Listed.{none_of_none, rises_rise, trips_below}
 use Rattle.one_pool_flow.specs.Flows.{PathsAreBlocks, all_blocks}
 use Rattle.one_pool_flow.specs.Paths.{columns_of, path_cost, paths_of}
-
-some_same : {A : Type 0} (x y : A) → Some x ≡ Some y → x ≡ y
-some_same {A = A} x y e = let f : Option A → A = λ o. unwrap_or o x in ap f e
-
-and_then_some : {A B : Type 0} (f : A → Option B) (o : Option A) (y : B) → option_and_then f o ≡ Some y →
-    (x : A) × (o ≡ Some x) × (f x ≡ Some y)
-and_then_some f None y e = absurd (cc)
-and_then_some f (Some x) y e = (x, refl, e)
-
-given_some : {A : Type 0} (b : Bool) (o : Option A) (y : A) → given b o ≡ Some y → (b ≡ true) × (o ≡ Some y)
-given_some true o y e = (refl, e)
-given_some false o y e = absurd (cc)
-
-both_true : (a b : Bool) → (a && b) ≡ true → (a ≡ true) × (b ≡ true)
-both_true true b e = (refl, e)
-both_true false b e = absurd (cc)
-
-rises_rise : (list : List ℕ) → rises list ≡ true → Rises list
-rises_rise [] e = tt
-rises_rise (x ∷ []) e = tt
-rises_rise (x ∷ y ∷ rest) e =
-    let parts = both_true (nat_lt x y) (rises (y ∷ rest)) e in
-    let test : nat_lt x y ≡ true = parts.0 in
-    let below : x < y = grind (arith, nat_tests) in
-    (below, rises_rise (y ∷ rest) parts.1)
-
-trips_below : (trips : List Trip) (list : List ℕ) (found : List Trip) → trips_at trips list ≡ Some found → AllBelow (length trips) list
-trips_below trips [] found e = tt
-trips_below trips (k ∷ ks) found e =
-    let first = and_then_some (λ (t : Trip). option_and_then (λ (ts : List Trip). Some (t ∷ ts)) (trips_at trips ks))
-    (slice_get trips k) found e in
-    let rest = and_then_some (λ (ts : List Trip). Some (first.0 ∷ ts)) (trips_at trips ks) found first.2 in
-    (slice_get_within trips k first.0 first.1, trips_below trips ks rest.0 rest.1)
-
-none_of_none : (day : DayFacts) (pool : Pool) (list : List ℕ) (found : List Trip) (cost : ℕ) → trips_at day.trips list ≡ Some found →
-    block_cost day pool found ≡ Some cost → list ≢ []
-none_of_none day pool list found cost at is = λ e.
-    let P : List ℕ → Type 0 = λ ks. trips_at day.trips ks ≡ Some found in
-    let none : found ≡ [] = sym (some_same [] found (subst P e at)) in
-    let Q : List Trip → Type 0 = λ ts. block_cost day pool ts ≡ Some cost in
-    let bad : None ≡ Some cost = subst Q none is in
-    cc
 
 -- a list with a cost
 pub path_listed : (day : DayFacts) (class : ℕ) (list : List ℕ) (worth : ℕ) → path_cost day class list ≡ Some worth →
@@ -108,7 +67,7 @@ block_columns : (day : DayFacts) (lists : List (List ℕ)) → all_blocks day li
     AreColumns (blocks_of day false) (columns_of day lists)
 block_columns day [] blocks are = tt
 block_columns day (list ∷ lists) blocks are =
-    let parts = both_true (is_some (block_worth day false 0 list)) (all_blocks day lists) blocks in
+    let parts = and_parts (is_some (block_worth day false 0 list)) (all_blocks day lists) blocks in
     let there = is_there (block_worth day false 0 list) parts.0 in
     let same : path_cost day 0 list ≡ block_worth day false 0 list =
     block_is_path day 0 list (unwrap_or (block_worth day false 0 list) 0) there ∙ sym there in

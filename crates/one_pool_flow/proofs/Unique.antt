@@ -4,10 +4,12 @@ use Rattle.std.specs.Prelude.{unwrap_or}
 use Rattle.std.proofs.lemmas.Int.{ints}
 use Rattle.std.proofs.lemmas.Bool.{cases_lt}
 use Rattle.std.proofs.lemmas.Bool.Decides.{nat_tests}
+use Rattle.std.proofs.lemmas.Option.{same_Some}
 use Rattle.plan_core.specs.declared.Price.{Price}
 use Rattle.plan_params.specs.declared.rows.pool.Pool.{Pool}
 use Rattle.cover_core.specs.Cover.{AllBelow, Rises}
 use Rattle.cover_core.specs.Plans.{AreColumns, all_items, price_at, times}
+use Rattle.cover_core.proofs.Parts.{Rises-tail}
 use Rattle.day_model.specs.Facts.{DayFacts}
 use Rattle.path_cover.specs.Greatest.{AreGreatest}
 use Rattle.path_cover.specs.Nets.{IsNotAfter, behind, first_nodes, successor}
@@ -17,9 +19,6 @@ use Rattle.one_pool_flow.specs.DayNets.{net_of}
 use Rattle.one_pool_flow.specs.Flows.{FlowPlanIsOne, FlowPricesAreOne}
 use Rattle.one_pool_flow.specs.Paths.{IsPathPlan, columns_of, path_column, paths_of, plan_cost}
 use Rattle.one_pool_flow.proofs.Listed.{path_listed}
-
-some_same : (x y : ℕ) → Some x ≡ Some y → x ≡ y
-some_same x y e = ap (λ (o : Option ℕ). unwrap_or o x) e
 
 -- the numbers of all lists, one list after another
 abbrev joined : List (List ℕ) → List ℕ
@@ -72,7 +71,7 @@ next_same n x y xs ys same equal =
     let there : 1 ≤ times x (y ∷ ys) = rw test (omega arith) in
     let P : ℕ → Type 0 = λ k. behind n k (y ∷ ys) ≡ Some (next_of n ys) in
     let last : behind n x (y ∷ ys) ≡ Some (next_of n ys) = subst P (sym same) (behind_first n y ys) in
-    some_same (next_of n xs) (next_of n ys) (sym (behind_first n x xs) ∙ (equal x here there ∙ last))
+    same_Some (next_of n xs) (next_of n ys) (sym (behind_first n x xs) ∙ (equal x here there ∙ last))
 
 -- Two rising lists with the same first number, and the same behind each number that stands in both, are the same. Their second
 -- numbers are what is behind the first, so they are equal or both lists end, as the end n is no number of a list; and the claim goes
@@ -160,8 +159,8 @@ same_lists n ((x ∷ xs) ∷ ones) ((y ∷ ys) ∷ others) one_listed other_list
     let list : (x ∷ xs) ≡ (y ∷ ys) = cc in
     let counts : (s : ℕ) → times s (x ∷ xs) ≡ times s (y ∷ ys) = λ s. ap (times s) list in
     let lists : ones ≡ others =
-    same_lists n ones others one_listed.1 other_listed.1 (tail_rises x (first_nodes ones) one_rise)
-    (tail_rises y (first_nodes others) other_rise)
+    same_lists n ones others one_listed.1 other_listed.1 (Rises-tail x (first_nodes ones) one_rise)
+    (Rises-tail y (first_nodes others) other_rise)
     (λ s. omega (arith, once s, times-append s (x ∷ xs) (joined ones)))
     (λ s. omega (arith, same s, counts s, times-append s (x ∷ xs) (joined ones), times-append s (y ∷ ys) (joined others)))
     (λ s member.
@@ -171,10 +170,6 @@ same_lists n ((x ∷ xs) ∷ ones) ((y ∷ ys) ∷ others) one_listed other_list
     ∙ (after s (omega (arith, times-append s (x ∷ xs) (joined ones))) ∙ successor_later n s (y ∷ ys) others gone')) in
     cc
   where
-    tail_rises : (x : ℕ) (rest : List ℕ) → Rises (x ∷ rest) → Rises rest
-    tail_rises x [] rise = tt
-    tail_rises x (y ∷ rest) rise = rise.1
-
     firsts : x ≡ y
     firsts =
         let mine = member_first x xs ones in

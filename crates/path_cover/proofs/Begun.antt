@@ -1,11 +1,11 @@
 -- The tree of the root alone.
 use Rattle.std.proofs.Common.{Option, ap, ◌≡◌, ◌==◌, ℕ, ℤ, pos, ◌+ℤ◌, ◌-ℤ◌, ◌≤ℤ◌, ◌+◌, ◌-◌, ◌<◌, ◌≤◌, Bool, true, false, cond, Some, None, List, length, get_or, inl, inr, refl, sym, subst, ◌∙◌, arith}
-use Rattle.std.specs.Prelude.{unwrap_or}
 use Rattle.std.specs.Option.{option_map}
 use Rattle.std.proofs.lemmas.Int.{ints}
 use Rattle.std.proofs.lemmas.Bool.{cases_lt}
 use Rattle.std.proofs.lemmas.Bool.Decides.{nat_tests}
 use Rattle.std.proofs.lemmas.List.{get_or_past}
+use Rattle.std.proofs.lemmas.Option.{same_Some}
 use Rattle.path_cover.specs.declared.growth.Falls.{Falls}
 use Rattle.path_cover.specs.declared.growth.Growth.{Growth}
 use Rattle.path_cover.specs.declared.growth.Target.{Target}
@@ -115,9 +115,6 @@ root_treed net falls placing target columns least via growth seated root_in fixe
           cc)
     ]
 
-    some_nat : (a b : ℕ) → Some a ≡ Some b → a ≡ b
-    some_nat a b e = let f : Option ℕ → ℕ = λ o. unwrap_or o a in ap f e
-
     kept : (v : ℕ) (d : ℤ) → v ≤ net.nodes → v < target.limit → (o : Option ℕ) → net.arc target.root v ≡ o →
         get_or columns v false ≡ false → (k : ℕ) × (get_or growth.least.items v None ≡ Some k) × (pos k ≡ d) →
         IsKept net (potentials_of falls) (aim_of target) (tree_of growth) v d
@@ -135,7 +132,7 @@ root_treed net falls placing target columns least via growth seated root_in fixe
         is.scanned.via_below v below
         ∙ (ap (λ (o : Option ℕ). via_of o (offer_at v) target.root (get_or via v 0)) (is.least_none v)
         ∙ ap (λ (o : Option ℕ). via_of None o target.root (get_or via v 0)) offer) in
-        let same : (c + head v) - tail ≡ number.0 = some_nat ((c + head v) - tail) number.0 (sym least_is ∙ number.1) in
+        let same : (c + head v) - tail ≡ number.0 = same_Some ((c + head v) - tail) number.0 (sym least_is ∙ number.1) in
         let whole = offer_is c (head v) tail (fits_of c (head v) tail (seat.feasible target.root v c (omega arith) v_in arc)) in
         let d_is : d ≡ pos c +ℤ ((pos 0 -ℤ pos tail) -ℤ (pos 0 -ℤ pos (head v))) =
         sym number.2 ∙ (ap (λ (k : ℕ). pos k) (sym same) ∙ whole) in

@@ -6,11 +6,12 @@ use Rattle.std.proofs.lemmas.Bool.{cases_lt}
 use Rattle.std.proofs.lemmas.Bool.Decides.{nat_tests}
 use Rattle.cover_core.specs.Cover.{AllBelow, Rises}
 use Rattle.cover_core.specs.Plans.{AreColumns, all_items, times}
+use Rattle.cover_core.proofs.Parts.{times-append}
 use Rattle.path_cover.specs.Nets.{Net, IsRising, IsCover, behind, columns_of, first_nodes, path_column, path_cost, paths, rest_cost, successor}
 use Rattle.path_cover.specs.Potentials.{Potentials, AreFeasible, AreTightPaths, IsSlack, IsTight, IsTightFrom, IsTightPath}
 use Rattle.path_cover.proofs.Blocked.{IsClosed, blocked}
 use Rattle.path_cover.proofs.Slack.{few_paths}
-use Rattle.path_cover.proofs.Successors.{above_first, behind-none, successors_sum, times-append}
+use Rattle.path_cover.proofs.Successors.{above_first, behind-none, successors_sum}
 use Rattle.path_cover.proofs.Telescope.{both_some, path_is, paths_listed}
 use Rattle.path_cover.specs.Matchings.{IsHeld, IsTightArc}
 

@@ -7,12 +7,12 @@ use Rattle.std.proofs.lemmas.Bool.Decides.{nat_tests}
 use Rattle.cover_core.specs.Cover.{AllBelow, Rises}
 use Rattle.cover_core.specs.Plans.{AreColumns, all_classes, all_items, times}
 use Rattle.cover_core.proofs.Sums.{sum_first}
+use Rattle.cover_core.proofs.Parts.{times-append}
 use Rattle.path_cover.specs.Nets.{Net, IsRising, IsCover, all_below, both, columns_of, first_nodes, path_column, path_cost, paths, rest_cost}
 use Rattle.path_cover.specs.Potentials.{Potentials, AreTightPaths, IsTightFrom}
 use Rattle.path_cover.specs.Walks.{AllFollow, FollowsFrom, starts}
 use Rattle.path_cover.proofs.CoverArcs.{HoldsFrom, HoldsOnAll, cover_member, members_hold}
 use Rattle.path_cover.proofs.Slack.{in_class}
-use Rattle.path_cover.proofs.Successors.{times-append}
 use Rattle.path_cover.specs.Matchings.{AreCoverOf, one, AreMatched, IsHeld, IsTightArc, IsTightMatching}
 
 -- how often a node stands in a list of one

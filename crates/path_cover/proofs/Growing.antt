@@ -1,8 +1,8 @@
 -- How the tree grows: a column is seen, and then the rows that hold it.
-use Rattle.std.proofs.Common.{Option, ap, ◌≡◌, ◌≢◌, ◌⊎◌, ◌==◌, ℕ, ℤ, pos, ◌+ℤ◌, ◌-ℤ◌, ◌≤ℤ◌, ◌<◌, ◌≤◌, Bool, true, false, cond, suc, Some, inl, inr, refl, sym, subst, ◌∙◌, arith}
-use Rattle.std.specs.Prelude.{unwrap_or}
+use Rattle.std.proofs.Common.{ap, ◌≡◌, ◌≢◌, ◌⊎◌, ◌==◌, ℕ, ℤ, pos, ◌+ℤ◌, ◌-ℤ◌, ◌≤ℤ◌, ◌<◌, ◌≤◌, Bool, true, false, cond, suc, Some, inl, inr, refl, sym, subst, ◌∙◌, arith}
 use Rattle.std.proofs.lemmas.Int.{ints}
 use Rattle.std.proofs.lemmas.Bool.Decides.{nat_tests}
+use Rattle.std.proofs.lemmas.Option.{same_Some}
 use Rattle.path_cover.specs.Augmenting.{HasPlace, IsStep, IsWalk}
 use Rattle.path_cover.specs.Matchings.{IsHeld, IsTightArc, IsTightMatching}
 use Rattle.path_cover.specs.Nets.{Net}
@@ -53,9 +53,6 @@ opened_at v tree = record {
       tree.least;
   depth = tree.depth;
 }
-
-some_nat : (a b : ℕ) → Some a ≡ Some b → a ≡ b
-some_nat a b e = let f : Option ℕ → ℕ = λ o. unwrap_or o a in ap f e
 
 -- A column whose offer is 0 is seen. Seeing a column takes three steps, for it becomes part of the tree before the rows that hold
 -- it do. Between them stands an opening: a tree but for one column whose holders may not be seen yet. Here it begins: the column's
@@ -111,7 +108,7 @@ open_column net p m a tree v is v_in unseen none held no_room = record {
 }
   where
     tight : (cost : ℕ) → net.arc (tree.via v) v ≡ Some cost → p.head v -ℤ p.tail (tree.via v) ≡ pos cost → IsTight net p (tree.via v) v
-    tight cost arc equal c e = let same : cost ≡ c = some_nat cost c (sym arc ∙ e) in equal ∙ ap pos same
+    tight cost arc equal c e = let same : cost ≡ c = same_Some cost c (sym arc ∙ e) in equal ∙ ap pos same
 
 -- what a new row offers and what was offered before, put together
 pub record IsOfferedToo (net : Net) (p : Potentials) (a : Aim) (x : ℕ) (old new : Tree) : Type 0 where
@@ -327,4 +324,4 @@ begin_walk net p m a tree v is v_in unseen none held tight place = record {
 }
   where
     tight_here : (cost : ℕ) → net.arc (tree.via v) v ≡ Some cost → p.head v -ℤ p.tail (tree.via v) ≡ pos cost → IsTight net p (tree.via v) v
-    tight_here cost arc equal c e = let same : cost ≡ c = some_nat cost c (sym arc ∙ e) in equal ∙ ap pos same
+    tight_here cost arc equal c e = let same : cost ≡ c = same_Some cost c (sym arc ∙ e) in equal ∙ ap pos same

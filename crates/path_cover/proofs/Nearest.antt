@@ -1,7 +1,8 @@
 -- One more column for the nearest.
-use Rattle.std.proofs.Common.{◌≡◌, ℕ, ◌+◌, ◌<◌, ◌≤◌, Bool, true, false, List, Option, Some, None, get_or, inl, inr, sym, ap, subst, ◌∙◌, arith}
+use Rattle.std.proofs.Common.{◌≡◌, ℕ, ◌+◌, ◌<◌, ◌≤◌, Bool, true, false, List, Option, Some, None, get_or, inl, inr, sym, subst, ◌∙◌, arith}
 use Rattle.std.proofs.lemmas.Bool.{cases_lt}
-use Rattle.std.specs.Prelude.{IfNone, IfSome, unwrap_or}
+use Rattle.std.specs.Prelude.{IfNone, IfSome}
+use Rattle.std.proofs.lemmas.Option.{same_Some}
 use Rattle.path_cover.specs.Scans.{IsBest, IsNearer, IsNearest}
 
 -- a column that is seen changes nothing
@@ -45,9 +46,6 @@ best_nothing columns least k (Some best) nothing is =
       ];
     }
 
-same_cost : (a b : ℕ) → Some a ≡ Some b → a ≡ b
-same_cost a b e = let f : Option ℕ → ℕ = λ o. unwrap_or o a in ap f e
-
 -- the new one
 best_new : (columns : List Bool) (least : List (Option ℕ)) (k cost : ℕ) → get_or columns k false ≡ false → get_or least k None ≡ Some cost →
     ((w d : ℕ) → w < k → get_or columns w false ≡ false → get_or least w None ≡ Some d → cost ≤ d) → IsNearest columns least (k + 1) k cost
@@ -58,7 +56,7 @@ best_new columns least k cost unseen is before = record {
   nearest = λ w d below unseen' keeps. elim (cases_lt w k) [
     | inl less ↦ before w d less unseen' keeps
     | inr past ↦ let same : w ≡ k = omega arith in let P : ℕ → Type 0 = λ j. get_or least j None ≡ Some d in
-        let e : cost ≡ d = same_cost cost d (sym is ∙ subst P same keeps) in omega arith
+        let e : cost ≡ d = same_Some cost d (sym is ∙ subst P same keeps) in omega arith
   ];
 }
 
@@ -86,7 +84,7 @@ best_more columns least k cost (Some old) result unseen is best near =
             nearest = λ w d below unseen' keeps. elim (cases_lt w k) [
               | inl before ↦ best.nearest w d before unseen' keeps
               | inr past ↦ let same : w ≡ k = omega arith in let Q : ℕ → Type 0 = λ j. get_or least j None ≡ Some d in
-                  let e : cost ≡ d = same_cost cost d (sym is ∙ subst Q same keeps) in omega arith
+                  let e : cost ≡ d = same_Some cost d (sym is ∙ subst Q same keeps) in omega arith
             ];
           })
     ]

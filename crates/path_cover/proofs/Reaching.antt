@@ -6,6 +6,7 @@ use Rattle.std.proofs.lemmas.Int.{ints}
 use Rattle.std.proofs.lemmas.Bool.{cases_lt}
 use Rattle.std.proofs.lemmas.Bool.Decides.{nat_tests}
 use Rattle.std.proofs.lemmas.List.{get_or-set_same, get_or-set_other}
+use Rattle.std.proofs.lemmas.Option.{same_Some}
 use Rattle.path_cover.specs.declared.growth.Falls.{Falls}
 use Rattle.path_cover.specs.declared.growth.Growth.{Growth}
 use Rattle.path_cover.specs.declared.growth.Target.{Target}
@@ -55,9 +56,6 @@ unmap (Some k) d e = (k, refl, some_int (pos k) d e)
   where
     some_int : (a b : ℤ) → Some a ≡ Some b → a ≡ b
     some_int a b e = let f : Option ℤ → ℤ = λ o. unwrap_or o a in ap f e
-
-some_nat : (a b : ℕ) → Some a ≡ Some b → a ≡ b
-some_nat a b e = let f : Option ℕ → ℕ = λ o. unwrap_or o a in ap f e
 
 -- an arc's offer is its reduced cost
 pub offer_is : (c h t : ℕ) → t ≤ c + h → pos ((c + h) - t) ≡ pos c +ℤ ((pos 0 -ℤ pos t) -ℤ (pos 0 -ℤ pos h))
@@ -114,7 +112,7 @@ scan_offers net falls a old new x feasible x_in columns scanned = record {
         absurd (let none : row_offer net falls old x w ≡ None = rw (unseen, arc) refl in let bad : None ≡ Some k = sym none ∙ is in cc)
     offered w (Some c) arc unseen k is w_in =
         let at : row_offer net falls old x w ≡ Some ((c + head w) - tail) = rw (unseen, arc) refl in
-        let same : (c + head w) - tail ≡ k = some_nat ((c + head w) - tail) k (sym at ∙ is) in
+        let same : (c + head w) - tail ≡ k = same_Some ((c + head w) - tail) k (sym at ∙ is) in
         let fits = fits_of c (head w) tail (feasible x w c x_in w_in arc) in
         (c, arc, ap (λ (j : ℕ). pos j) (sym same) ∙ offer_is c (head w) tail fits)
 

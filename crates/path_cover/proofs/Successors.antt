@@ -8,6 +8,7 @@ use Rattle.cover_core.specs.Cover.{AllBelow, Rises}
 use Rattle.cover_core.specs.Plans.{AreColumns, all_items, times}
 use Rattle.cover_core.proofs.Duality.{all_items-below}
 use Rattle.cover_core.proofs.Sums.{sum_each, sum_each-append, sum_each-times, sum_first, sum_first-same}
+pub use Rattle.cover_core.proofs.Parts.{times-append}
 use Rattle.path_cover.specs.Nets.{Net, IsRising, IsCover, behind, columns_of, first_nodes, path_column, paths, successor}
 use Rattle.path_cover.proofs.Telescope.{paths_listed}
 
@@ -17,10 +18,6 @@ times-here x xs = let test : (x == x) ≡ true = grind (arith, nat_tests) in rw 
 
 pub times-there : (s x : ℕ) (xs : List ℕ) → times s xs ≤ times s (x ∷ xs)
 times-there s x xs = omega arith
-
-pub times-append : (s : ℕ) (xs ys : List ℕ) → times s (xs ++ ys) ≡ times s xs + times s ys
-times-append s [] ys = omega arith
-times-append s (x ∷ xs) ys = omega (arith, times-append s xs ys)
 
 pub times-above : (n s : ℕ) (xs : List ℕ) → AllBelow n xs → n ≤ s → times s xs ≡ 0
 times-above n s [] below above = refl

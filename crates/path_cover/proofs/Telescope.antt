@@ -1,16 +1,14 @@
 -- Along a path the potentials' differences telescope: the gains of its nodes are at most its cost and what a path pays.
-use Rattle.std.proofs.Common.{◌≡◌, ℕ, ℤ, pos, ◌+ℤ◌, ◌-ℤ◌, ◌≤ℤ◌, ◌+◌, ◌<◌, ◌&&◌, Bool, true, false, cond, nat_lt, List, [], ◌∷◌, Option, Some, None, refl, sym, ap, ◌∙◌, arith}
-use Rattle.std.specs.Prelude.{unwrap_or}
+use Rattle.std.proofs.Common.{◌≡◌, ℕ, ℤ, pos, ◌+ℤ◌, ◌-ℤ◌, ◌≤ℤ◌, ◌+◌, ◌<◌, Bool, true, false, cond, nat_lt, List, [], ◌∷◌, Option, Some, None, refl, sym, ap, ◌∙◌, arith}
 use Rattle.std.proofs.lemmas.Int.{ints}
 use Rattle.std.proofs.lemmas.Bool.Decides.{nat_tests}
+use Rattle.std.proofs.lemmas.Bool.{and_parts}
+use Rattle.std.proofs.lemmas.Option.{same_Some}
 use Rattle.cover_core.specs.Cover.{AllBelow, Rises}
 use Rattle.cover_core.specs.Plans.{HasListedColumns}
 use Rattle.cover_core.proofs.Sums.{sum_each}
 use Rattle.path_cover.specs.Nets.{Net, IsRising, all_below, both, path_cost, paths, rest_cost}
 use Rattle.path_cover.specs.Potentials.{Potentials, AreFeasible, IsTight, IsTightFrom, IsTightPath}
-
-some_same : {A : Type 0} (x y : A) → Some x ≡ Some y → x ≡ y
-some_same {A = A} x y e = let f : Option A → A = λ o. unwrap_or o x in ap f e
 
 -- two costs that are there together are there each
 pub record BothAre (a b : Option ℕ) (y : ℕ) : Type 0 where
@@ -23,11 +21,7 @@ pub record BothAre (a b : Option ℕ) (y : ℕ) : Type 0 where
 pub both_some : (a b : Option ℕ) (y : ℕ) → both a b ≡ Some y → BothAre a b y
 both_some None b y e = absurd (cc)
 both_some (Some c) None y e = absurd (cc)
-both_some (Some c) (Some d) y e = record { first = c; second = d; first_is = refl; second_is = refl; sum = some_same (c + d) y e }
-
-pub both_true : (a b : Bool) → (a && b) ≡ true → (a ≡ true) × (b ≡ true)
-both_true true b e = (refl, e)
-both_true false b e = absurd (cc)
+both_some (Some c) (Some d) y e = record { first = c; second = d; first_is = refl; second_is = refl; sum = same_Some (c + d) y e }
 
 cond_some : (b : Bool) (o : Option ℕ) (y : ℕ) → cond b o None ≡ Some y → (b ≡ true) × (o ≡ Some y)
 cond_some true o y e = (refl, e)
@@ -36,7 +30,7 @@ cond_some false o y e = absurd (cc)
 pub all_below_is : (n : ℕ) (ts : List ℕ) → all_below n ts ≡ true → AllBelow n ts
 all_below_is n [] e = tt
 all_below_is n (t ∷ ts) e =
-    let parts = both_true (nat_lt t n) (all_below n ts) e in
+    let parts = and_parts (nat_lt t n) (all_below n ts) e in
     let test : nat_lt t n ≡ true = parts.0 in
     let below : t < n = grind (arith, nat_tests) in
     (below, all_below_is n ts parts.1)
@@ -118,7 +112,7 @@ path_tight net p (t ∷ ts) y e tight =
 
 -- an arc with a known cost is tight where its reduced cost is 0
 tight_is : (net : Net) (p : Potentials) (x v y : ℕ) → net.arc x v ≡ Some y → p.head v -ℤ p.tail x ≡ pos y → IsTight net p x v
-tight_is net p x v y e equal c e' = let same : y ≡ c = some_same y c (sym e ∙ e') in equal ∙ ap pos same
+tight_is net p x v y e equal c e' = let same : y ≡ c = same_Some y c (sym e ∙ e') in equal ∙ ap pos same
 
 -- only there
 pub tight_rest : (net : Net) (p : Potentials) → AreFeasible net p → (t : ℕ) (ts : List ℕ) (y : ℕ) → t < net.nodes → AllBelow net.nodes ts →

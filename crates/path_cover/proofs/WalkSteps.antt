@@ -1,5 +1,5 @@
 -- The walk back over matchings as they are kept.
-use Rattle.std.proofs.Common.{◌≡◌, ◌≢◌, ◌⊎◌, ◌==◌, inl, inr, length-set, ℕ, pos, ◌≤ℤ◌, ◌+◌, ◌<◌, ◌≤◌, Bool, true, false, cond, nat_lt, zero, suc, List, [], ◌∷◌, length, get_or, set, refl, sym, ap, subst, ◌∙◌, arith}
+use Rattle.std.proofs.Common.{◌≡◌, ◌≢◌, ◌⊎◌, ◌==◌, inl, inr, length-set, ℕ, pos, ◌≤ℤ◌, ◌+◌, ◌<◌, ◌≤◌, Bool, true, false, cond, nat_lt, zero, suc, List, length, get_or, set, refl, sym, ap, subst, ◌∙◌, arith}
 use Rattle.std.proofs.lemmas.Int.{ints}
 use Rattle.std.proofs.lemmas.Bool.Decides.{nat_tests}
 use Rattle.std.proofs.lemmas.List.{get_or-set_same, get_or-set_other}
@@ -16,12 +16,6 @@ use Rattle.path_cover.proofs.AugmentingPaths.{placed_tight, walk_back}
 use Rattle.path_cover.proofs.Keeping.{placed_kept, taken_kept}
 use Rattle.path_cover.proofs.Moves.{same_or_not}
 use Rattle.path_cover.proofs.Walking.{moved, placed, rooted_held, taken}
-
--- what stands at a place, whatever stands past the end
-pub default_same : (xs : List ℕ) (i d e : ℕ) → i < length xs → get_or xs i d ≡ get_or xs i e
-default_same [] i d e within = absurd (omega arith)
-default_same (x ∷ xs) zero d e within = refl
-default_same (x ∷ xs) (suc i) d e within = default_same xs i d e (omega arith)
 
 -- the rows and columns of a walk are there
 pub walk_in : (net : Net) (falls : Falls) (target : Target) (growth : Growth) (placing : Placing) (hole : ℕ) →

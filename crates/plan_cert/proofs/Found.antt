@@ -1,10 +1,11 @@
 -- What is found where reading succeeds: prices of their numbers, and numbers within their ranges.
-use Rattle.std.proofs.Common.{◌≡◌, ℕ, ℤ, pos, negsuc, neg_ℤ, zero, suc, ◌+◌, ◌-◌, ◌<◌, ◌≤◌, ◌≤ℤ◌, ◌&&◌, ◌==◌, Bool, true, false, nat_eq, nat_le, List, [], ◌∷◌, length, map, refl, sym, ap, ◌∙◌, subst, arith}
+use Rattle.std.proofs.Common.{◌≡◌, ℕ, ℤ, pos, negsuc, neg_ℤ, zero, suc, ◌+◌, ◌-◌, ◌<◌, ◌≤◌, ◌≤ℤ◌, ◌&&◌, ◌==◌, Bool, true, false, nat_eq, nat_le, List, [], ◌∷◌, length, map, refl, sym, ◌∙◌, subst, arith}
 use Rattle.std.proofs.lemmas.Bool.Decides.{nat_tests}
 use Rattle.std.proofs.lemmas.Int.{ints}
 use Rattle.std.proofs.lemmas.Iterator.Adapters.{position_from-zero}
 use Rattle.std.specs.List.{cons_option, filter_map, list_all, position_from, range_with_len}
-use Rattle.std.specs.Prelude.{Option, Some, None, is_some, int_le, unwrap_or, if◌then◌else◌}
+use Rattle.std.specs.Prelude.{Option, Some, None, is_some, int_le, if◌then◌else◌}
+use Rattle.std.proofs.lemmas.Option.{same_Some}
 use Rattle.vdv451_text.specs.declared.table.Field.{Field}
 use Rattle.number_tables.specs.Outlines.{up_to}
 use Rattle.plan_cert.specs.declared.cert.Pass.{Pass}
@@ -14,9 +15,6 @@ use Rattle.plan_cert.specs.declared.slots.Entry.{Entry}
 use Rattle.plan_cert.specs.Numbers.{◌>>=◌, any_pass, class_among, counted, from_one, moderate, natural, number_at, place_in}
 use Rattle.plan_cert.specs.Prices.{all_there, found_price, is_of, item_entry}
 use Rattle.plan_cert.specs.Shapes.{items_of}
-
-pub some-same : {A : Type 0} (x y : A) → Some x ≡ Some y → x ≡ y
-some-same {A = A} x y e = let f : Option A → A = λ o. unwrap_or o x in ap f e
 
 -- what was made of a value that is there
 pub record IsBound {A B : Type 0} (o : Option A) (f : A → Option B) (y : B) : Type 0 where
@@ -32,7 +30,7 @@ bound (Some x) f y e = record { value = x; is = refl; made = e }
 pub up_to-most : (most n : ℕ) (number : Option ℤ) → up_to most number ≡ Some n → n ≤ most
 up_to-most most n None e = absurd (cc)
 up_to-most most n (Some (pos m)) e = elim (nat_le m most) as (λ t. nat_le m most ≡ t → (if t then Some m else None) ≡ Some n → n ≤ most) [
-  | true ↦ λ is f. let same : m ≡ n = some-same m n f in grind (arith, nat_tests)
+  | true ↦ λ is f. let same : m ≡ n = same_Some m n f in grind (arith, nat_tests)
   | false ↦ λ is f. absurd (cc)
 ] refl e
 up_to-most most n (Some (negsuc m)) e = absurd (cc)
@@ -45,14 +43,14 @@ counted-below most n number e =
     one : (m : ℕ) → m ≤ most → from_one m ≡ Some n → n < most
     one m low f = elim (nat_eq m 0) as (λ t. nat_eq m 0 ≡ t → (if t then None else Some (m - 1)) ≡ Some n → n < most) [
       | true ↦ λ is g. absurd (cc)
-      | false ↦ λ is g. let same : m - 1 ≡ n = some-same (m - 1) n g in let some : 0 < m = grind (arith, nat_tests) in omega arith
+      | false ↦ λ is g. let same : m - 1 ≡ n = same_Some (m - 1) n g in let some : 0 < m = grind (arith, nat_tests) in omega arith
     ] refl f
 
 position-below : {A : Type 0} (test : A → Bool) (from k : ℕ) (xs : List A) → position_from test from xs ≡ Some k → k < from + length xs
 position-below test from k [] e = absurd (cc)
 position-below test from k (x ∷ xs) e =
     elim (test x) as (λ t. (if t then Some from else position_from test (from + 1) xs) ≡ Some k → k < from + length (x ∷ xs)) [
-      | true ↦ λ f. let same : from ≡ k = some-same from k f in omega arith
+      | true ↦ λ f. let same : from ≡ k = same_Some from k f in omega arith
       | false ↦ λ f. let later = position-below test (from + 1) k xs f in omega arith
     ] e
 
@@ -75,7 +73,7 @@ moderate-is (Some y) z e =
       | true ↦ λ low. elim (int_le y (pos 3000000000000000)) as (λ t. int_le y (pos 3000000000000000) ≡ t →
           (if true && t then Some y else None) ≡ Some z → IsModerateNumber z) [
             | true ↦ λ high f. let P : ℤ → Type 0 = IsModerateNumber in
-                subst P (some-same y z f) (record { least = grind (arith, ints); most = grind (arith, ints) })
+                subst P (same_Some y z f) (record { least = grind (arith, ints); most = grind (arith, ints) })
             | false ↦ λ high f. absurd (cc)
           ] refl
       | false ↦ λ low f. absurd (cc)
@@ -112,7 +110,7 @@ there-all {A} P os xs e each =
     elim (list_all is_some os) as (λ t. list_all is_some os ≡ t → (if t then Some (filter_map (λ (o : Option A). o) os) else None)
     ≡ Some xs → AreThere P os xs) [
       | true ↦ λ all f. let Q : List A → Type 0 = λ l. AreThere P os l in
-          subst Q (some-same (filter_map (λ (o : Option A). o) os) xs f) (kept-there P os all each)
+          subst Q (same_Some (filter_map (λ (o : Option A). o) os) xs f) (kept-there P os all each)
       | false ↦ λ all f. absurd (cc)
     ] refl e
 
@@ -131,7 +129,7 @@ found-each : (P : ℤ → Type 0) (pass : Pass) (n : ℕ) (es : List Entry) → 
     found_price pass n es ≡ Some z → P z
 found-each P pass n [] each z e = absurd (cc)
 found-each P pass n (x ∷ xs) each z e = elim (is_of pass n x) as (λ t. (if t then Some x.price else found_price pass n xs) ≡ Some z → P z) [
-  | true ↦ λ f. subst P (some-same x.price z f) each.0
+  | true ↦ λ f. subst P (same_Some x.price z f) each.0
   | false ↦ λ f. found-each P pass n xs each.1 z f
 ] e
 
@@ -155,4 +153,4 @@ item-moderate s columns row e is =
     let y = bound (counted (items_of s x.value) (number_at row columns.number)) _ e x.made in
     let z = bound (moderate (number_at row columns.price)) _ e y.made in
     let P : Entry → Type 0 = λ (e : Entry). IsModerateNumber e.price in
-    subst P (some-same _ e z.made) (moderate-is (number_at row columns.price) z.value z.is)
+    subst P (same_Some _ e z.made) (moderate-is (number_at row columns.price) z.value z.is)

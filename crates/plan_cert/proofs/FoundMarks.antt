@@ -2,6 +2,7 @@
 use Rattle.std.proofs.Common.{◌≡◌, ◌<◌, ◌≤◌, Bool, true, false, List, [], ◌∷◌, length, refl, subst}
 use Rattle.std.specs.List.{cons_option, filter_map}
 use Rattle.std.specs.Prelude.{Some, None, if◌then◌else◌}
+use Rattle.std.proofs.lemmas.Option.{same_Some}
 use Rattle.vdv451_text.specs.declared.table.Field.{Field}
 use Rattle.number_tables.specs.Outlines.{word}
 use Rattle.plan_cert.specs.declared.cert.Pass.{Pass}
@@ -18,7 +19,7 @@ use Rattle.plan_cert.specs.Laws.{IsBlockMarkOf, IsMarkOf}
 use Rattle.plan_cert.specs.Marks.{marks_in_pass}
 use Rattle.plan_cert.specs.Numbers.{class_among, counted, number_at, same_pass, truth}
 use Rattle.plan_cert.specs.Shapes.{items_of, numbers_in}
-use Rattle.plan_cert.proofs.Found.{Each, bound, class-below, counted-below, said-each, some-same, up_to-most}
+use Rattle.plan_cert.proofs.Found.{Each, bound, class-below, counted-below, said-each, up_to-most}
 
 -- the class and the item of a mark are there
 record IsPlace (s : Shape) (place : MarkPlace) : Type 0 where
@@ -30,7 +31,7 @@ placed : (s : Shape) (columns : PlaceColumns) (pass : Pass) (row : List Field) (
 placed s columns pass row place e =
     let x = bound (class_among (numbers_in s.classes pass) (number_at row columns.class)) _ place e in
     let y = bound (counted (items_of s pass) (number_at row columns.item)) _ place x.made in
-    subst (IsPlace s) (some-same _ place y.made)
+    subst (IsPlace s) (same_Some _ place y.made)
     (record {
       class = class-below (numbers_in s.classes pass) x.value (number_at row columns.class) x.is;
       item =
@@ -57,7 +58,7 @@ driven-is columns row d e =
     let y = bound (truth (number_at row columns.quarter)) _ d x.made in
     let z = bound (word (number_at row columns.total)) _ d y.made in
     let w = bound (truth (number_at row columns.three)) _ d z.made in
-    subst IsDriven (some-same _ d w.made)
+    subst IsDriven (same_Some _ d w.made)
     (record {
       driving = up_to-most 4294967295 x.value (number_at row columns.driving) x.is;
       total =
@@ -78,7 +79,7 @@ duty-is s columns row e is =
     let w = bound (number_at row columns.value) _ e z.made in
     let place = duty-placed s columns.place row x.value x.is in
     let driven = driven-is columns.driven row z.value z.is in
-    subst (IsDutyEntry s) (some-same _ e w.made)
+    subst (IsDutyEntry s) (same_Some _ e w.made)
     (record { class = place.class; item = place.item; driving = driven.driving; total = driven.total })
 
 block-is : (s : Shape) (columns : BlockColumns) (row : List Field) (e : BlockEntry) → block_entry s columns row ≡ Some e → IsBlockEntry s e
@@ -87,7 +88,7 @@ block-is s columns row e is =
     let y = bound (word (number_at row columns.driving)) _ e x.made in
     let z = bound (number_at row columns.value) _ e y.made in
     let place = block-placed s columns.place row x.value x.is in
-    subst (IsBlockEntry s) (some-same _ e z.made)
+    subst (IsBlockEntry s) (same_Some _ e z.made)
     (record { class = place.class; item = place.item; driving = up_to-most 4294967295 y.value (number_at row columns.driving) y.is })
 
 -- the marks of a pass over duties

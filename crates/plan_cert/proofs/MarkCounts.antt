@@ -3,6 +3,7 @@ use Rattle.std.proofs.Common.{◌≡◌, ℕ, ◌<◌, ◌≤◌, Bool, true, fa
 use Rattle.std.proofs.lemmas.List.Elements.{All-head, All-tail}
 use Rattle.std.specs.List.{cons_option, filter_map}
 use Rattle.std.specs.Prelude.{Option, Some, None, Result, Ok, Err, IfOk, count_by, find, ◌==◌, if◌then◌else◌}
+use Rattle.std.proofs.lemmas.Option.{same_Some}
 use Rattle.vdv451_text.specs.declared.table.Table.{Table}
 use Rattle.vdv452_rows.specs.Rows.{has_name}
 use Rattle.plan_cert.specs.declared.cert.Cert.{Cert}
@@ -20,7 +21,6 @@ use Rattle.plan_cert.specs.Marks.{BlockMarks, block_marks_of, DutyMarks, duty_ma
 use Rattle.plan_cert.specs.Names.{name_of}
 use Rattle.plan_cert.specs.Places.{Gives, first_wrong, needed, no_wrong, table_in, table_of}
 use Rattle.plan_cert.specs.PriceTables.{prices_of}
-use Rattle.plan_cert.proofs.Found.{some-same}
 use Rattle.plan_cert.proofs.ReadParts.{next, ok-same, there}
 
 few-with : {Y : Type 0} (o : Option Y) (ys : List Y) (n : ℕ) → length ys ≤ n → length (cons_option o ys) ≤ suc n
@@ -43,7 +43,7 @@ found-rows bound test [] table all e = absurd (cc)
 found-rows bound test (t ∷ tables) table all e =
     elim (test t) as (λ b. test t ≡ b → length table.rows < bound) [
       | true ↦ λ h. let same : Some t ≡ Some table = sym (ap (λ (b : Bool). if b then Some t else find test tables) h) ∙ e in
-          subst (λ (x : Table). length x.rows < bound) (some-same t table same)
+          subst (λ (x : Table). length x.rows < bound) (same_Some t table same)
           (All-head (λ (x : Table). length x.rows < bound) t tables all)
       | false ↦ λ h. found-rows bound test tables table (All-tail (λ (x : Table). length x.rows < bound) t tables all)
           (sym (ap (λ (b : Bool). if b then Some t else find test tables) h) ∙ e)

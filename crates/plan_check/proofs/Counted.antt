@@ -1,24 +1,15 @@
 -- Counts of items and classes, and the first of them that is off.
-use Rattle.std.proofs.Common.{◌≡◌, ℕ, ◌+◌, ◌<◌, ◌≤◌, ◌^◌, ◌==◌, Bool, true, false, not, nat_eq, nat_lt, cond, List, [], ◌∷◌, ◌++◌, length, map, drop, get_or, refl, sym, ap, ◌∙◌, arith, add-one, drop-cons}
+use Rattle.std.proofs.Common.{◌≡◌, ℕ, ◌+◌, ◌<◌, ◌^◌, Bool, not, nat_eq, nat_lt, List, [], ◌∷◌, ◌++◌, length, map, drop, get_or, refl, sym, ap, ◌∙◌, arith, add-one, drop-cons}
 use Rattle.std.proofs.lemmas.List.{length-map}
 use Rattle.std.specs.Prelude.{Option, Some, None, slice_index}
 use Rattle.cover_core.specs.declared.Column.{Column}
 use Rattle.cover_core.specs.Cover.{Problem}
 use Rattle.cover_core.specs.Plans.{times, all_items, all_classes}
+use Rattle.cover_core.proofs.Times.{times-length}
+pub use Rattle.cover_core.proofs.Times.{times-length as times-few}
 use Rattle.plan_check.specs.Counts.{AreCounts, HaveRisen, HaveRoom, IsFirstOf}
 use Rattle.plan_check.specs.Judged.{first_of, is_off, is_over}
 use Rattle.plan_check.proofs.Decided.{first-is}
-
--- a number stands in a list at most as often as the list is long
-pub times-few : (n : ℕ) (xs : List ℕ) → times n xs ≤ length xs
-times-few n [] = omega arith
-times-few n (x ∷ xs) =
-    let rest = times-few n xs in
-    elim (n == x) as (λ t. cond t 1 0 + times n xs ≤ length (x ∷ xs)) [ true ↦ omega arith | false ↦ omega arith ]
-
-pub times-both : (n : ℕ) (xs ys : List ℕ) → times n (xs ++ ys) ≡ times n xs + times n ys
-times-both n [] ys = omega arith
-times-both n (x ∷ xs) ys = let rest = times-both n xs ys in omega arith
 
 pub classes-map : (lists : List Column) → all_classes lists ≡ map (λ (list : Column). list.class) lists
 classes-map [] = refl
@@ -34,7 +25,7 @@ items-step lists i list below is =
 -- counts of 0 have room for a list of fewer than 2^32 numbers
 pub room : (counts numbers : List ℕ) → ((n : ℕ) → n < length counts → slice_index counts n ≡ 0) →
     length numbers < 2 ^ 32 → HaveRoom counts numbers
-room counts numbers zeros few = λ n below. let zero = zeros n below in let times = times-few n numbers in omega arith
+room counts numbers zeros few = λ n below. let zero = zeros n below in let times = times-length n numbers in omega arith
 
 -- counts that have risen from 0 are those of the numbers
 pub counted : (before now numbers : List ℕ) → length now ≡ length before → ((n : ℕ) → n < length before → slice_index before n ≡ 0) →

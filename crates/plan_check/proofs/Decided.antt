@@ -1,7 +1,9 @@
 -- There is a verdict on all lists.
-use Rattle.std.proofs.Common.{◌≡◌, ◌≢◌, ℕ, ◌+◌, ◌<◌, ◌≤◌, Bool, true, false, cond, not, nat_eq, nat_lt, List, [], ◌∷◌, length, map, zero, suc, refl, sym, ap, ◌∙◌, subst, arith}
+use Rattle.std.proofs.Common.{◌≡◌, ◌≢◌, ℕ, ◌+◌, ◌<◌, ◌≤◌, Bool, true, false, cond, nat_eq, nat_lt, List, [], ◌∷◌, length, map, zero, suc, refl, sym, ap, ◌∙◌, subst, arith}
 use Rattle.std.proofs.lemmas.Bool.Decides.{nat_tests}
 use Rattle.std.specs.Prelude.{Option, Some, None, slice_get, slice_index, unwrap_or}
+use Rattle.std.proofs.lemmas.Option.{same_Some}
+use Rattle.std.proofs.lemmas.Bool.{not-false, not-true}
 use Rattle.cover_core.specs.declared.Column.{Column}
 use Rattle.cover_core.specs.Cover.{Problem}
 use Rattle.cover_core.specs.Plans.{AreColumns, times, all_items, all_classes}
@@ -84,14 +86,6 @@ first-is count test o h = elim (first_of count 0 test) as (λ r. first_of count 
   | Some k ↦ λ e. first-one count k test o (first-some count 0 k test e) h
 ] refl
 
-not-false : (t : Bool) → not t ≡ false → t ≡ true
-not-false true h = refl
-not-false false h = absurd (cc)
-
-not-true : (t : Bool) → not t ≡ true → t ≡ false
-not-true true h = absurd (cc)
-not-true false h = refl
-
 once : (lists : List Column) (item : ℕ) → is_off lists item ≡ false → times item (all_items lists) ≡ 1
 once lists item h = let equal = not-false (nat_eq (times item (all_items lists)) 1) h in grind (arith, nat_tests)
 
@@ -117,9 +111,6 @@ worth-none p c e has =
     let bad : None ≡ Some has.1 = sym none ∙ has.2 in
     cc
 
-some-same : {A : Type 0} (x y : A) → Some x ≡ Some y → x ≡ y
-some-same {A = A} x y e = let f : Option A → A = λ o. unwrap_or o x in ap f e
-
 -- the lists with their worths
 record AreFound (p : Problem) (lists : List Column) : Type 0 where
   pub columns : AreColumns p (map (with_worth p) lists)
@@ -139,7 +130,7 @@ worthy p from (c ∷ cs) e =
           record {
             columns = ((below, found ∙ ap (λ n. Some n) (sym value)), rest.columns);
             worths = λ spot list at. elim spot as (λ k. slice_get (c ∷ cs) k ≡ Some list → HasWorth p list) [
-              | zero ↦ λ here. let P : Column → Type 0 = λ x. HasWorth p x in subst P (some-same c list here) (below, worth, found)
+              | zero ↦ λ here. let P : Column → Type 0 = λ x. HasWorth p x in subst P (same_Some c list here) (below, worth, found)
               | suc k ↦ λ later. rest.worths k list later
             ] at;
           }
@@ -163,7 +154,7 @@ worthless p from spot (c ∷ cs) e =
     (elim o as (λ x. Option ℕ) [ None ↦ Some from | Some worth ↦ first_worthless p (from + 1) cs ]) ≡ Some spot →
     IsWorthless p from spot (c ∷ cs)) [
       | None ↦ λ is f.
-          let same : from ≡ spot = some-same from spot f in
+          let same : from ≡ spot = same_Some from spot f in
           record {
             gap = 0;
             spot_is = omega arith;
@@ -184,7 +175,7 @@ worthless p from spot (c ∷ cs) e =
             at = x.at;
             none = x.none;
             before = λ k l less at. elim k as (λ j. j < suc x.gap → slice_get (c ∷ cs) j ≡ Some l → HasWorth p l) [
-              | zero ↦ λ low here. let P : Column → Type 0 = λ y. HasWorth p y in subst P (some-same c l here) (below, worth, found)
+              | zero ↦ λ low here. let P : Column → Type 0 = λ y. HasWorth p y in subst P (same_Some c l here) (below, worth, found)
               | suc j ↦ λ low later. x.before j l (omega arith) later
             ] less at;
           }

@@ -1,6 +1,7 @@
 -- Lists that are the same but for their worths.
 use Rattle.std.proofs.Common.{◌≡◌, ℕ, ◌<◌, List, [], ◌∷◌, length, zero, suc, refl, sym, ap, ◌∙◌, subst, arith}
-use Rattle.std.specs.Prelude.{Option, Some, slice_get, unwrap_or}
+use Rattle.std.specs.Prelude.{Some, slice_get}
+use Rattle.std.proofs.lemmas.Option.{same_Some}
 use Rattle.cover_core.specs.declared.Column.{Column}
 use Rattle.cover_core.specs.Cover.{Problem}
 use Rattle.cover_core.specs.Plans.{AreColumns, IsColumn, times, all_items, all_classes}
@@ -29,9 +30,6 @@ column-worth p a b class items column =
     let there : a.class < length p.caps = (let below = column.0 in omega arith) in
     (there, b.worth, ap (λ k. p.worth k a.items) class ∙ (ap (λ xs. p.worth b.class xs) items ∙ column.1))
 
-some-same : {A : Type 0} (x y : A) → Some x ≡ Some y → x ≡ y
-some-same {A = A} x y e = let f : Option A → A = λ o. unwrap_or o x in ap f e
-
 -- so a list at a place has a worth where the lists are the same as columns
 pub worth-at : (p : Problem) (as' bs : List Column) (place : ℕ) (list : Column) → HaveSameLists as' bs → AreColumns p bs →
     slice_get as' place ≡ Some list → HasWorth p list
@@ -40,7 +38,7 @@ worth-at p [] (b ∷ bs) place list h columns at = absurd h
 worth-at p (a ∷ as') [] place list h columns at = absurd h
 worth-at p (a ∷ as') (b ∷ bs) zero list h columns at =
     let P : Column → Type 0 = λ c. HasWorth p c in
-    subst P (some-same a list at) (column-worth p a b h.0 h.1 columns.0)
+    subst P (same_Some a list at) (column-worth p a b h.0 h.1 columns.0)
 worth-at p (a ∷ as') (b ∷ bs) (suc place) list h columns at = worth-at p as' bs place list h.2 columns.1 at
 
 -- lists that are the same as the columns of two plans: their classes and items are the same, and so the problem gives them the same worths
@@ -50,7 +48,7 @@ one-column p l a b ca ia cb ib wa wb =
     let class : a.class ≡ b.class = sym ca ∙ cb in
     let items : a.items ≡ b.items = sym ia ∙ ib in
     let worth : a.worth ≡ b.worth =
-    some-same a.worth b.worth (sym wa ∙ (ap (λ k. p.worth k a.items) class ∙ (ap (λ xs. p.worth b.class xs) items ∙ wb))) in
+    same_Some a.worth b.worth (sym wa ∙ (ap (λ k. p.worth k a.items) class ∙ (ap (λ xs. p.worth b.class xs) items ∙ wb))) in
     let make : ℕ → ℕ → List ℕ → Column = λ c w is. record { class = c; worth = w; items = is } in
     ap (λ c. make c a.worth a.items) class ∙ (ap (λ w. make b.class w a.items) worth ∙ ap (λ is. make b.class b.worth is) items)
 

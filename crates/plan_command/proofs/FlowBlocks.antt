@@ -3,6 +3,7 @@ use Rattle.std.proofs.Common.{◌≡◌, ℕ, suc, ℤ, ◌+◌, ◌<◌, ◌≤
 use Rattle.std.specs.Prelude.{is_some, unwrap_or}
 use Rattle.std.proofs.lemmas.List.Elements.{All-cons, All-nil}
 use Rattle.std.proofs.lemmas.List.{append_assoc}
+use Rattle.std.proofs.lemmas.Bool.{and_parts}
 use Rattle.vdv452_rows.proofs.RowSteps.{drop_item}
 use Rattle.plan_core.specs.declared.Price.{Price}
 use Rattle.plan_params.specs.declared.rows.pool.Pool.{Pool}
@@ -43,11 +44,6 @@ same_column facts path (Some worth) is some =
     ap (λ (o : Option ℕ). column (unwrap_or o 0)) is
     ∙ sym (ap (λ (o : Option ℕ). column (unwrap_or o 0)) (block_is_path facts 0 path worth is))
 
-both_true : (a b : Bool) → (a && b) ≡ true → (a ≡ true) × (b ≡ true)
-both_true true true h = (refl, refl)
-both_true true false h = absurd (let bad : false ≡ true = h in cc)
-both_true false b h = absurd (let bad : false ≡ true = h in cc)
-
 -- A list of trips costs as a path of the network what it is worth as a block, where it is a block (`block_is_path`). So if each path
 -- of a flow plan is a block, blocks and paths are one list of columns, and what the flow says of paths (a plan, its cost, its prices)
 -- is said of blocks.
@@ -55,7 +51,7 @@ pub same_columns : (facts : DayFacts) (paths : List (List ℕ)) → all_blocks f
     map (block_column facts) paths ≡ columns_of facts paths
 same_columns facts [] all = refl
 same_columns facts (path ∷ paths) all =
-    let both = both_true (is_some (block_worth facts false 0 path)) (all_blocks facts paths) all in
+    let both = and_parts (is_some (block_worth facts false 0 path)) (all_blocks facts paths) all in
     ap (λ (c : Column). c ∷ map (block_column facts) paths) (same_column facts path (block_worth facts false 0 path) refl both.0)
     ∙ ap (λ (cs : List Column). path_column facts path ∷ cs) (same_columns facts paths both.1)
 

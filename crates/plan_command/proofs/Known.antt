@@ -1,5 +1,6 @@
 -- A day has one plan of blocks that is known, or none; and where one is, it is what is planned.
 use Rattle.std.proofs.Common.{◌≡◌, inl, inr, ℕ, ℤ, ◌+◌, Bool, true, false, nat_lt, List, [], ◌∷◌, Option, Some, None, refl, sym, ap, ◌∙◌, subst, if◌then◌else◌, arith}
+use Rattle.std.proofs.lemmas.Bool.{true≢false}
 use Rattle.plan_core.specs.declared.Price.{Price}
 use Rattle.cover_core.specs.declared.Column.{Column}
 use Rattle.cover_core.specs.Plans.{cost}
@@ -23,9 +24,6 @@ known_of columns prices class_prices bound = record {
   cost = record { prices = record { items = prices }; class_prices = class_prices; bound = bound };
 }
 
-not_true : (b : Bool) → b ≡ true → b ≡ false → ⊥
-not_true b is not = let bad : true ≡ false = sym is ∙ not in cc
-
 module _ (facts : DayFacts) (one_plan : FlowPlanIsOne facts) (one_prices : FlowPricesAreOne facts) where
   -- The flow plan of least cost that comes first is one (`FlowPlanIsOne`), and its greatest potentials give one list of prices
   -- (`FlowPricesAreOne`). The fields of a known plan are functions of these, so two known plans of a day are equal field by field.
@@ -45,11 +43,11 @@ module _ (facts : DayFacts) (one_plan : FlowPlanIsOne facts) (one_prices : FlowP
   -- where the flow has blocks it does not lack them
   not_without : (paths : List (List ℕ)) → is_flow_day facts ≡ true → IsFlowPlan facts paths →
       all_blocks facts paths ≡ true → HasNoFlow facts → ⊥
-  not_without paths day plan blocks (inl other) = not_true (is_flow_day facts) day other
+  not_without paths day plan blocks (inl other) = true≢false (sym day ∙ other)
   not_without paths day plan blocks (inr (inl none)) = none paths plan.plan
   not_without paths day plan blocks (inr (inr (others, flow, some))) =
       let P : List (List ℕ) → Type 0 = λ l. all_blocks facts l ≡ true in
-      not_true (all_blocks facts others) (subst P (one_plan paths others plan flow) blocks) some
+      true≢false (sym (subst P (one_plan paths others plan flow) blocks) ∙ some)
 
   -- A plan of blocks is known or none is, and not both: a flow plan whose paths are blocks is at odds with each of the three reasons
   -- for having none (`not_without`). So whether the passes are made, and with which plan, is fixed by the day and the words alone.

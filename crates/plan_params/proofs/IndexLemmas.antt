@@ -1,11 +1,8 @@
 -- What an index gives is what the rows give.
-use Rattle.std.proofs.Common.{◌≡◌, ℕ, ◌+◌, ◌-◌, ◌<◌, ◌||◌, Bool, true, false, cond, if◌then◌else◌, List, [], ◌∷◌, drop, get_or, length, All, Option, Some, None, IfSome, is_some, refl, sym, ap, ◌∙◌, arith, suc}
+use Rattle.std.proofs.Common.{◌≡◌, ◌||◌, Bool, true, false, if◌then◌else◌, List, [], ◌∷◌, All, Option, Some, None, IfSome, is_some, refl, ap, ◌∙◌, arith, suc}
 use Rattle.std.specs.List.{find, list_any}
 use Rattle.std.specs.Option.{option_copied, option_map}
 use denote.Bor.{Bor}
-use Rattle.indexmap.specs.IndexMap.{IndexMap, get}
-use Rattle.vdv452_tables.specs.Keys.{value_at}
-use Rattle.plan_params.proofs.ListSteps.{drop_item}
 
 -- a row is found exactly where one passes
 pub found_any : {R V : Type 0} (value_of : R → V) (test : R → Bool) (rows : List R) →

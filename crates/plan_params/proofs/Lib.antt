@@ -1,5 +1,4 @@
 pub mod FaultLemmas
 pub mod IndexLemmas
-pub mod ListSteps
 pub mod OrderLemmas
 pub mod RangeLemmas

@@ -4,13 +4,8 @@ use Rattle.std.proofs.lemmas.Bool.Decides.{nat_tests}
 use Rattle.std.proofs.lemmas.List.Elements.{All-cons, All-nil}
 use Rattle.std.specs.List.Sorted.{IsNonDecreasingBy, IsStableByKey, ties}
 use Rattle.std.specs.Ordering.{is_lt, nat_cmp}
+use Rattle.std.proofs.lemmas.Bool.{ltb-false, ltb-true}
 use Rattle.plan_params.specs.Settings.{in_order, put_in_order}
-
-lt_from : (m n : ℕ) → nat_lt m n ≡ true → m < n
-lt_from m n e = grind (arith, nat_tests)
-
-not_lt_from : (m n : ℕ) → nat_lt m n ≡ false → n ≤ m
-not_lt_from m n e = grind (arith, nat_tests)
 
 module _ {A : Type 0} (number : A → ℕ) where
   -- an item of the same number
@@ -76,10 +71,10 @@ module _ {A : Type 0} (number : A → ℕ) where
     where
       by : (b : Bool) → nat_lt (number next) (number item) ≡ b → Rises (put_in_order number item items) →
           Rises (if b then next ∷ put_in_order number item items else item ∷ next ∷ items)
-      by true e later = (put_all (IsAfter next) item items (omega (arith, lt_from (number next) (number item) e)) rises.0, later)
+      by true e later = (put_all (IsAfter next) item items (omega (arith, ltb-true (number next) (number item) e)) rises.0, later)
       by false e later = (
-        All-cons (IsAfter item) next items (not_lt_from (number next) (number item) e)
-            (λ k d within. omega (arith, rises.0 k d within, not_lt_from (number next) (number item) e)),
+        All-cons (IsAfter item) next items (ltb-false (number next) (number item) e)
+            (λ k d within. omega (arith, rises.0 k d within, ltb-false (number next) (number item) e)),
         rises,
       )
 
@@ -117,7 +112,7 @@ module _ {A : Type 0} (number : A → ℕ) where
           ≡ (if c then item ∷ (if b then next ∷ filter (level x) items else filter (level x) items) else
           (if b then next ∷ filter (level x) items else filter (level x) items))
       by_next true true e f below later =
-          absurd (omega (arith, lt_from (number next) (number item) below, level_number x next e, level_number x item f))
+          absurd (omega (arith, ltb-true (number next) (number item) below, level_number x next e, level_number x item f))
       by_next true false e f below later = ap (λ rs. next ∷ rs) later
       by_next false true e f below later = later
       by_next false false e f below later = later

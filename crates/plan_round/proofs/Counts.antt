@@ -1,5 +1,5 @@
 -- Counts of classes beside columns that change.
-use Rattle.std.proofs.Common.{◌≡◌, ◌==◌, ℕ, ◌+◌, ◌<◌, ◌≤◌, zero, suc, true, false, List, [], ◌∷◌, ◌++◌, length, get_or, ℤ, sym, ap, ◌∙◌, inl, inr, arith, get_or-set_same, get_or-set_other, length-set}
+use Rattle.std.proofs.Common.{◌≡◌, ◌==◌, ℕ, ◌+◌, ◌<◌, ◌≤◌, true, false, List, [], ◌∷◌, ◌++◌, length, get_or, ℤ, sym, ap, ◌∙◌, inl, inr, arith, get_or-set_same, get_or-set_other, length-set}
 use Rattle.std.proofs.Math.ListN.{set}
 use Rattle.std.proofs.lemmas.Bool.{cases_eq}
 use Rattle.std.proofs.lemmas.Bool.Decides.{nat_tests}
@@ -8,9 +8,9 @@ use Rattle.cover_core.specs.Plans.{times, all_classes}
 use Rattle.cover_core.proofs.Parts.{placed-push, placed-set}
 use Rattle.std.specs.Prelude.{nat_lt, slice_index}
 use Rattle.cover_core.specs.Cover.{Problem}
-use Rattle.cover_core.specs.FirstLeast.{AreCheap}
 use Rattle.cover_core.specs.Ranges.{HasFewPlaces}
 use Rattle.cover_core.proofs.Ranges.{few-at}
+pub use Rattle.cover_core.proofs.Values.{AreCheap-push}
 use Rattle.plan_round.specs.declared.choice.Spot.{Spot}
 use Rattle.plan_round.specs.declared.choice.Spot.TheVariants.{Into, New}
 use Rattle.plan_round.specs.Drafts.{IsCounted, IsSpotOf}
@@ -43,15 +43,6 @@ counted-push columns counts new n inside is counted class below =
           let sum = rw test at more in
           omega arith
     ]
-
-pub AreCheap-set : (cs : List Column) (k : ℕ) (c : Column) → AreCheap cs → c.worth ≤ 4000000000 → AreCheap (set cs k c)
-AreCheap-set [] k c h new = tt
-AreCheap-set (d ∷ ds) zero c h new = (new, h.1)
-AreCheap-set (d ∷ ds) (suc k) c h new = (h.0, AreCheap-set ds k c h.1 new)
-
-pub AreCheap-push : (cs : List Column) (c : Column) → AreCheap cs → c.worth ≤ 4000000000 → AreCheap (cs ++ c ∷ [])
-AreCheap-push [] c h new = (new, tt)
-AreCheap-push (d ∷ ds) c h new = (h.0, AreCheap-push ds c h.1 new)
 
 -- what a problem allows can be put there
 pub allowed-spot : (p : Problem) (item : ℕ) (columns : List Column) (counts : List ℕ) (rise : ℤ) (worth : ℕ) (spot : Spot) →

@@ -1,7 +1,7 @@
 -- Rounding gives a plan, or an item that has no place.
-use Rattle.std.proofs.Common.{◌≡◌, ◌≢◌, ◌==◌, ℕ, ◌<◌, ◌≤◌, Bool, true, false, cond, ◌&&◌, zero, suc, List, [], ◌∷◌, ◌++◌, length, get_or, Option, Some, None, refl, sym, ap, ◌∙◌, inl, inr, arith}
+use Rattle.std.proofs.Common.{◌≡◌, ◌≢◌, ◌==◌, ℕ, ◌<◌, ◌≤◌, true, false, cond, ◌&&◌, zero, suc, List, [], ◌∷◌, ◌++◌, length, get_or, Option, Some, None, refl, sym, ap, ◌∙◌, inl, inr, arith}
 use Rattle.std.specs.Prelude.{nat_lt, slice_index}
-use Rattle.std.proofs.lemmas.Bool.{cases_eq, cases_lt}
+use Rattle.std.proofs.lemmas.Bool.{cases_eq, cases_lt, and_parts}
 use Rattle.std.proofs.lemmas.Bool.Decides.{nat_tests}
 use Rattle.cover_core.specs.declared.Column.{Column}
 use Rattle.cover_core.specs.Cover.{Problem, Rises}
@@ -15,17 +15,12 @@ use Rattle.plan_round.specs.Rounding.{all_free, taken, put_in, choice_for, into_
 use Rattle.plan_round.specs.Laws.{IsStuck, IsRounding, RoundsToPlan}
 use Rattle.plan_round.proofs.Puts.{IsAllowed, IfChosen, choices-allowed, first_cheapest-each, first_cheapest-none, put_at-puts, put_at-part}
 
-pub and-both : (a b : Bool) → (a && b) ≡ true → (a ≡ true) × (b ≡ true)
-and-both true true e = (refl, refl)
-and-both true false e = absurd (let h : false ≡ true = e in cc)
-and-both false b e = absurd (let h : false ≡ true = e in cc)
-
 -- an item of a list of free items is free
 pub all_free-at : (columns : List Column) (xs : List ℕ) (j : ℕ) → all_free columns xs ≡ true → 0 < times j xs →
     times j (all_items columns) ≡ 0
 all_free-at columns [] j e h = absurd (omega arith)
 all_free-at columns (x ∷ xs) j e h =
-    let both = and-both (is_free columns x) (all_free columns xs) e in
+    let both = and_parts (is_free columns x) (all_free columns xs) e in
     elim (cases_eq j x) [
       | inl same ↦
           let free : (times x (all_items columns) == 0) ≡ true = both.0 in
@@ -43,7 +38,7 @@ all_free-at columns (x ∷ xs) j e h =
 pub part-push : (p : Problem) (columns : List Column) (c : Column) → HasListedColumns p → IsColumn p c →
     (all_free columns c.items && has_place p columns c.class) ≡ true → IsPart p columns → IsPart p (columns ++ c ∷ [])
 part-push p columns c listed is test part =
-    let both = and-both (all_free columns c.items) (has_place p columns c.class) test in
+    let both = and_parts (all_free columns c.items) (has_place p columns c.class) test in
     let rises : Rises c.items = (listed c.class c.items c.worth is.1).1 in
     record {
       worths = AreColumns-push p columns c part.worths is;

@@ -1,7 +1,6 @@
 -- Free items beside columns that are taken.
-use Rattle.std.proofs.Common.{◌≡◌, ◌==◌, ℕ, ◌+◌, ◌<◌, Bool, true, false, cond, ◌&&◌, zero, suc, List, [], ◌∷◌, ◌++◌, length, get_or, take, drop, sym, ap, ◌∙◌, inl, inr, arith, add-one, drop-cons, get_or-set_same, get_or-set_other}
+use Rattle.std.proofs.Common.{◌≡◌, ◌==◌, ℕ, ◌+◌, ◌<◌, Bool, true, false, ◌&&◌, List, [], ◌∷◌, ◌++◌, length, get_or, take, drop, sym, ap, ◌∙◌, inl, inr, arith, add-one, drop-cons, get_or-set_same, get_or-set_other}
 use Rattle.std.proofs.Math.ListN.{set}
-use Rattle.std.proofs.lemmas.List.{take_more}
 use Rattle.std.proofs.lemmas.Bool.{cases_eq}
 use Rattle.std.proofs.lemmas.Bool.Decides.{nat_tests}
 use Rattle.cover_core.specs.declared.Column.{Column}
@@ -11,15 +10,10 @@ use Rattle.cover_core.specs.Parts.{no_column, column_at}
 use Rattle.cover_core.specs.Cover.{AllBelow}
 use Rattle.cover_core.specs.Plans.{AreColumns}
 use Rattle.cover_core.proofs.Parts.{AreColumns-get}
-use Rattle.cover_core.proofs.Parts.{times-append, held-push}
+use Rattle.cover_core.proofs.Parts.{held-push}
+use Rattle.cover_core.proofs.Times.{times-take}
 use Rattle.plan_round.specs.Rounding.{taken, with_taken, picked}
 use Rattle.plan_round.specs.Drafts.{ShowsFree}
-
-times-take : (i k : ℕ) (xs : List ℕ) → k < length xs → times i (take (k + 1) xs) ≡ times i (take k xs) + cond (i == get_or xs k 0) 1 0
-times-take i k xs h =
-    let more : times i (take (k + 1) xs) ≡ times i (take k xs ++ get_or xs k 0 ∷ []) = ap (times i) (take_more xs k 0 h) in
-    let sum = times-append i (take k xs) (get_or xs k 0 ∷ []) in
-    omega arith
 
 suc-test : (n : ℕ) → (n + 1 == 0) ≡ false
 suc-test n = grind (arith, nat_tests)
@@ -62,12 +56,6 @@ pub taken-more : (p : Problem) (pool columns : List Column) (places : List ℕ) 
 taken-more p pool columns places t h =
     ap (λ (l : List ℕ). taken p columns (picked pool l)) (drop-cons places t 0 h) ∙
     ap (λ (n : ℕ). taken p (with_taken p columns (column_at pool (get_or places t 0))) (picked pool (drop n places))) (sym (add-one t))
-
--- the element of a pool is the column there
-pub column-there : (pool : List Column) (place : ℕ) (c : Column) → place < length pool → c ≡ get_or pool place c → c ≡ column_at pool place
-column-there [] place c h e = absurd (omega arith)
-column-there (x ∷ xs) zero c h e = e
-column-there (x ∷ xs) (suc place) c h e = column-there xs place c (omega arith) e
 
 pub picked-columns : (p : Problem) (pool : List Column) (places : List ℕ) → AreColumns p pool → AllBelow (length pool) places →
     AreColumns p (picked pool places)

@@ -6,6 +6,7 @@ use Rattle.std.specs.Str.{bytes_eq}
 use Rattle.std.proofs.lemmas.List.{length-map}
 use Rattle.std.proofs.lemmas.List.Elements.{All-head, All-tail}
 use Rattle.std.proofs.lemmas.Bool.{and_from, and_parts}
+use Rattle.std.proofs.lemmas.Option.{same_Some}
 use Rattle.vdv451_text.specs.declared.table.Field.{Field}
 use Rattle.vdv451_text.specs.Plain.{are_plain_columns, is_plain_name, is_plain_row, is_plain_table}
 use Rattle.vdv451_text.specs.declared.table.Table.{Table}
@@ -137,9 +138,6 @@ pub none_behind : (name : List ℕ) (tables : List Table) (i : ℕ) → length t
 none_behind name tables i past =
     let none : drop i tables ≡ [] = nothing (drop i tables) (omega (arith, past, length-drop i tables)) in rw none refl
 
-same_some : {A : Type 0} (x y : A) → Some x ≡ Some y → x ≡ y
-same_some x y e = cc
-
 -- what holds of all tables holds of one that is found
 pub found_holds : (P : Table → Type 0) (name : List ℕ) (tables : List Table) (table : Table) → find (has_name name) tables ≡ Some table →
     All P tables → P table
@@ -147,7 +145,7 @@ found_holds P name [] table found all = cc
 found_holds P name (first ∷ tables) table found all =
     let Goal : Bool → Type 0 = λ b. (if b then Some first else find (has_name name) tables) ≡ Some table → P table in
     let split : (b : Bool) → Goal b = λ b. elim b as Goal [
-      | true ↦ λ e. let is : first ≡ table = same_some first table e in subst P is (All-head P first tables all)
+      | true ↦ λ e. let is : first ≡ table = same_Some first table e in subst P is (All-head P first tables all)
       | false ↦ λ e. found_holds P name tables table e (All-tail P first tables all)
     ] in split (has_name name first) found
 

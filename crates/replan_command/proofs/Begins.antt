@@ -4,6 +4,7 @@ use Rattle.std.proofs.Common.{◌≡◌, ◌==◌, ℕ, ◌+◌, ◌<◌, ◌≤
 use Rattle.std.specs.Option.{option_map_or}
 use Rattle.std.proofs.lemmas.Bool.{cases_lt}
 use Rattle.std.proofs.lemmas.Bool.Decides.{nat_tests}
+use Rattle.std.proofs.lemmas.Option.{same_Some}
 use Rattle.cover_core.specs.declared.Column.{Column}
 use Rattle.cover_core.specs.Plans.{all_items, times}
 use Rattle.cover_core.proofs.Parts.{times-append}
@@ -11,7 +12,7 @@ use Rattle.day_model.specs.Facts.{DayFacts}
 use Rattle.block_rest.specs.declared.head.Head.{Head}
 use Rattle.block_rest.specs.Heads.{ends_before, head_at, head_from, heads_at, heads_from, kept_after, last_trip, leaves_before}
 use Rattle.duty_rest.specs.Heads.{begins_with, block_with}
-use Rattle.replan_command.proofs.Members.{Stands, some-same, stands-alone, stands-either, stands-left, stands-none, stands-right}
+use Rattle.replan_command.proofs.Members.{Stands, stands-alone, stands-either, stands-left, stands-none, stands-right}
 
 module _ (day : DayFacts) (moment : ℕ) where
   -- the head of a block that begins with a trip and leaves before the moment
@@ -34,7 +35,7 @@ module _ (day : DayFacts) (moment : ℕ) where
       Stands (heads_at day moment blocks first) (head-of c.class first rest)
   at-there [] place c first rest at is leaves = absurd (cc)
   at-there (d ∷ ds) zero c first rest at is leaves =
-      let same : d ≡ c = some-same d c at in
+      let same : d ≡ c = same_Some d c at in
       let here : head_at day moment first d.class d.items ≡ head-of c.class first rest ∷ [] =
       ap (λ (c : Column). head_at day moment first c.class c.items) same ∙ ap (head_at day moment first c.class) is
       ∙ head-is first c.class rest leaves in
@@ -149,7 +150,7 @@ times-at : (i : ℕ) (blocks : List Column) (place : ℕ) (c : Column) → slice
 times-at i [] place c at = absurd (cc)
 times-at i (d ∷ ds) zero c at =
     let both = times-append i d.items (all_items ds) in
-    let same : times i d.items ≡ times i c.items = ap (λ (c : Column). times i c.items) (some-same d c at) in
+    let same : times i d.items ≡ times i c.items = ap (λ (c : Column). times i c.items) (same_Some d c at) in
     omega (arith, both, same)
 times-at i (d ∷ ds) (suc place) c at =
     let both = times-append i d.items (all_items ds) in
@@ -183,7 +184,7 @@ pub block-found : (blocks : List Column) (number place : ℕ) (c : Column) (firs
     block_with blocks number first ≡ Some (number + place)
 block-found [] number place c first rest once at is = absurd (cc)
 block-found (d ∷ ds) number zero c first rest once at is =
-    let same : d ≡ c = some-same d c at in
+    let same : d ≡ c = same_Some d c at in
     let so : begins_with first d ≡ true = begins-so first d rest (ap (λ (c : Column). c.items) same ∙ is) in
     let n : number ≡ number + 0 = omega arith in
     ap (λ b. cond b (Some number) (block_with ds (suc number) first)) so ∙ ap (λ (n : ℕ). Some n) n

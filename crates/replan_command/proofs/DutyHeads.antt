@@ -1,6 +1,7 @@
 -- Where each begun piece has its one duty in an earlier plan, the heads of its duties are what duties may begin with, and a plan of duties
 -- that keeps them is one in which no other duty has a begun piece.
 use Rattle.std.proofs.Common.{◌≡◌, ℕ, Bool, true, false, ◌&&◌, not, List, [], ◌∷◌, refl, arith}
+use Rattle.std.proofs.lemmas.Bool.{and_parts}
 use Rattle.cover_core.specs.declared.Column.{Column}
 use Rattle.cover_core.specs.Plans.{IsPlan}
 use Rattle.cover_rest.specs.Keeping.{AreHeads, KeepsBegun}
@@ -32,7 +33,7 @@ list-free : (day : DayFacts) (earlier : PlanText) (moment : ℕ) (blocks : List 
 list-free day earlier moment blocks have [] free = refl
 list-free day earlier moment blocks have (k ∷ ks) free =
     let d = duty_facts day blocks false in
-    let (off, rest) = both-true (not (has_begun_in d blocks earlier moment k)) (none_begun_in d blocks earlier moment ks) free in
+    let (off, rest) = and_parts (not (has_begun_in d blocks earlier moment k)) (none_begun_in d blocks earlier moment ks) free in
     let after = list-free day earlier moment blocks have ks rest in
     elim (has_begun_at moment (pieces_of_plan day blocks) k) as (λ t. has_begun_at moment (pieces_of_plan day blocks) k ≡ t →
     (not t && none_begun moment (pieces_of_plan day blocks) ks) ≡ true) [
@@ -40,10 +41,6 @@ list-free day earlier moment blocks have (k ∷ ks) free =
       | true ↦ λ is. absurd (not-both (has_begun_in d blocks earlier moment k) (have.belongs k is) off)
     ] refl
   where
-    both-true : (a b : Bool) → (a && b) ≡ true → (a ≡ true) × (b ≡ true)
-    both-true true b e = (refl, e)
-    both-true false b e = absurd (cc)
-
     not-both : (a : Bool) → a ≡ true → not a ≡ true → ⊥
     not-both true e f = cc
     not-both false e f = cc

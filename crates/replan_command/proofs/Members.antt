@@ -1,21 +1,18 @@
 -- What stands in lists that are joined or put in order.
 use Rattle.std.proofs.Common.{◌≡◌, ◌⊎◌, ℕ, Bool, true, false, if◌then◌else◌, zero, suc, List, [], ◌∷◌, ◌++◌, Some, inl, inr, slice_get, nat_lt, ap}
-use Rattle.std.specs.Prelude.{Option, unwrap_or}
+use Rattle.std.proofs.lemmas.Option.{same_Some}
 use Rattle.plan_params.specs.Settings.{in_order, put_in_order}
 
 -- an item stands in a list
 abbrev pub Stands : {A : Type 0} → List A → A → Type 0
 Stands xs x = (k : ℕ) × (slice_get xs k ≡ Some x)
 
-pub some-same : {A : Type 0} (x y : A) → Some x ≡ Some y → x ≡ y
-some-same {A = A} x y e = let f : Option A → A = λ o. unwrap_or o x in ap f e
-
 -- the only item of a list
 pub stands-alone : {A : Type 0} (y x : A) → Stands (y ∷ []) x → y ≡ x
 stands-alone y x s = at s.0 s.1
   where
     at : (k : ℕ) → slice_get (y ∷ []) k ≡ Some x → y ≡ x
-    at zero e = some-same y x e
+    at zero e = same_Some y x e
     at (suc k) e = absurd (cc)
 
 pub stands-none : {A : Type 0} (x : A) → Stands [] x → ⊥
@@ -29,7 +26,7 @@ pub stands-first : {A : Type 0} (y : A) (xs : List A) (x : A) → Stands (y ∷ 
 stands-first y xs x s = at s.0 s.1
   where
     at : (k : ℕ) → slice_get (y ∷ xs) k ≡ Some x → (y ≡ x) ⊎ Stands xs x
-    at zero e = inl (some-same y x e)
+    at zero e = inl (same_Some y x e)
     at (suc k) e = inr (k, e)
 
 pub stands-left : {A : Type 0} (xs ys : List A) (x : A) (k : ℕ) → slice_get xs k ≡ Some x → Stands (xs ++ ys) x

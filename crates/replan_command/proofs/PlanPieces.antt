@@ -1,10 +1,12 @@
 -- The pieces of a plan, block by block, and the legs that they are cut from.
-use Rattle.std.proofs.Common.{◌≡◌, ℕ, ◌+◌, Bool, true, false, zero, suc, List, [], ◌∷◌, Option, Some, None, refl, sym, ap, subst, ◌∙◌, arith, inl, inr, slice_get, is_some}
+use Rattle.std.proofs.Common.{◌≡◌, ℕ, ◌+◌, true, false, zero, suc, List, [], ◌∷◌, Option, Some, None, refl, sym, ap, subst, ◌∙◌, arith, inl, inr, slice_get, is_some}
 use Rattle.std.specs.List.{list_all}
 use Rattle.std.specs.Option.{option_map_or}
 use Rattle.std.specs.Prelude.{option_and_then, unwrap_or}
+use Rattle.std.proofs.lemmas.Option.{same_Some}
 use Rattle.plan_core.specs.declared.types.Leg.{Leg}
 use Rattle.plan_core.specs.declared.types.Piece.{Piece}
+use Rattle.plan_core.proofs.Options.{given_some}
 use Rattle.cover_core.specs.declared.Column.{Column}
 use Rattle.trip_times.specs.declared.trip.Trip.{Trip}
 use Rattle.plan_params.specs.declared.rows.pool.Pool.{Pool}
@@ -15,7 +17,7 @@ use Rattle.day_model.specs.Pieces.{can_be_driven, legs_of, may_be_driven, parts,
 use Rattle.block_cut.specs.Cuts.{block_pieces, cut_on, pieces_by_block}
 use Rattle.block_cut.proofs.Pieces.{cut_whole}
 use Rattle.block_cut.proofs.Times.{and_then_some, some_same}
-use Rattle.replan_command.proofs.Members.{Stands, some-same, stands-either, stands-left, stands-none, stands-right}
+use Rattle.replan_command.proofs.Members.{Stands, stands-either, stands-left, stands-none, stands-right}
 
 module _ (day : DayFacts) where
   -- the block that a piece is of
@@ -48,7 +50,7 @@ module _ (day : DayFacts) where
       let P : Column → Type 0 = λ c. Stands (block_pieces day (number + 0) c) p in
       let Q : ℕ → Type 0 = λ n. Stands (block_pieces day n d) p in
       let n : number + 0 ≡ number = omega arith in
-      let here : Stands (block_pieces day number d) p = subst Q n (subst P (sym (some-same d c at)) s) in
+      let here : Stands (block_pieces day number d) p = subst Q n (subst P (sym (same_Some d c at)) s) in
       stands-left (block_pieces day number d) (pieces_by_block day (number + 1) ds) p here.0 here.1
   in-all number (d ∷ ds) (suc place) c p at s =
       let P : ℕ → Type 0 = λ n. Stands (block_pieces day n c) p in
@@ -97,9 +99,6 @@ module _ (day : DayFacts) where
       subst P (sym is) s
 
   -- a block with a worth has legs
-  given-true : {A : Type 0} (b : Bool) (o : Option A) (y : A) → given b o ≡ Some y → (b ≡ true) × (o ≡ Some y)
-  given-true true o y e = (refl, e)
-  given-true false o y e = absurd (cc)
 
   some-from : {A : Type 0} (o : Option A) → is_some o ≡ true → (x : A) × (o ≡ Some x)
   some-from None e = absurd (cc)
@@ -126,10 +125,10 @@ module _ (day : DayFacts) where
       slice_get day.params.pools class ≡ Some pool → (legs : List Leg) × (legs_of day pool list ≡ Some legs)
   worth-legs class list pool some there =
       let worth = some-from (block_worth day false class list) some in
-      let risen = given-true (rises list) (option_and_then (λ (pool : Pool). cost-if pool list) (slice_get day.params.pools class))
+      let risen = given_some (rises list) (option_and_then (λ (pool : Pool). cost-if pool list) (slice_get day.params.pools class))
       worth.0 worth.1 in
       let own = and_then_some (λ (pool : Pool). cost-if pool list) (slice_get day.params.pools class) worth.0 risen.1 in
-      let driven = given-true (can_be_driven day own.0 list)
+      let driven = given_some (can_be_driven day own.0 list)
       (option_and_then (λ (ts : List Trip). option_and_then (λ (c : ℕ). Some c) (block_cost day own.0 ts)) (trips_at day.trips list))
       worth.0 own.2 in
       let same : own.0 ≡ pool = some_same own.0 pool (sym own.1 ∙ there) in

@@ -1,6 +1,7 @@
 -- Inner: the problem of the pricer that tests use.
 use Rattle.std.proofs.Common.{◌≡◌, ℕ, ◌+◌, ◌%◌, ◌<◌, ◌==◌, ◌&&◌, nat_lt, Bool, true, false, cond, List, [], ◌∷◌, Option, Some, None, refl, arith}
 use Rattle.std.proofs.lemmas.Bool.Decides.{nat_tests}
+use Rattle.std.proofs.lemmas.Bool.{and_parts}
 use Rattle.cover_core.specs.Cover.{Problem}
 use Rattle.cover_core.specs.Plans.{HasListedColumns}
 
@@ -17,10 +18,6 @@ singles items = record { items = items; caps = 1 ∷ 1 ∷ []; worth = single_wo
 pub none_is : {X : Type 0} (P : Type 0) (x : X) → None ≡ Some x → P
 none_is P x h = absurd (cc)
 
-both_true : (a b : Bool) → (a && b) ≡ true → (a ≡ true) × (b ≡ true)
-both_true true b h = (refl, h)
-both_true false b h = absurd (cc)
-
 -- a worth of one item tells of the item
 pub worth_is : (items class x worth : ℕ) → single_worth items class (x ∷ []) ≡ Some worth → (x < items) × (x % 16 ≡ 0) × (worth ≡ class + 1)
 worth_is items class x worth h = go (nat_lt x items && (x % 16 == 0)) refl
@@ -31,7 +28,7 @@ worth_is items class x worth h = go (nat_lt x items && (x % 16 == 0)) refl
     go : (t : Bool) → (nat_lt x items && (x % 16 == 0)) ≡ t → (x < items) × (x % 16 ≡ 0) × (worth ≡ class + 1)
     go true e =
         let s : Some (class + 1) ≡ Some worth = rw e at h in
-        let b = both_true (nat_lt x items) (x % 16 == 0) e in
+        let b = and_parts (nat_lt x items) (x % 16 == 0) e in
         ((let l = b.0 in grind (arith, nat_tests)), (let l = b.1 in grind (arith, nat_tests)), some_same (class + 1) worth s)
     go false e = let s : None ≡ Some worth = rw e at h in absurd (cc)
 

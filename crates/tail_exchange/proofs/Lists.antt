@@ -12,12 +12,6 @@ use Rattle.cover_core.proofs.Values.{Rises-length}
 use Rattle.cover_core.proofs.Duality.{AllBelow-append}
 use Rattle.tail_exchange.specs.Exchange.{worth_of}
 
--- the element of a plan is the column there
-pub column-there : (plan : List Column) (place : ℕ) (c : Column) → place < length plan → c ≡ get_or plan place c → c ≡ column_at plan place
-column-there [] place c h e = absurd (omega arith)
-column-there (x ∷ xs) zero c h e = e
-column-there (x ∷ xs) (suc place) c h e = column-there xs place c (omega arith) e
-
 -- what a plan says of each of its columns
 pub record IsSound (p : Problem) (c : Column) : Type 0 where
   pub class : c.class < length p.caps

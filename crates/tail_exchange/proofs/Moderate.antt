@@ -1,5 +1,5 @@
 -- Worths stay moderate where a step is made.
-use Rattle.std.proofs.Common.{◌≡◌, ◌==◌, ℕ, ◌+◌, ◌<◌, ◌≤◌, true, false, cond, zero, suc, List, [], ◌∷◌, ◌++◌, length, get_or, take, refl, sym, ap, ◌∙◌, arith}
+use Rattle.std.proofs.Common.{◌≡◌, ◌==◌, ℕ, ◌+◌, ◌<◌, true, false, cond, zero, suc, List, [], ◌∷◌, ◌++◌, length, get_or, take, refl, sym, ap, ◌∙◌, arith}
 use Rattle.std.proofs.Math.ListN.{set}
 use Rattle.std.proofs.lemmas.List.{take_more}
 use Rattle.cover_core.specs.declared.Column.{Column}
@@ -7,15 +7,6 @@ use Rattle.cover_core.specs.Plans.{times, all_classes}
 use Rattle.cover_core.specs.FirstLeast.{AreCheap}
 use Rattle.cover_core.proofs.Parts.{placed-push}
 use Rattle.tail_exchange.specs.Exchange.{has_any, without_empty}
-
-pub AreCheap-set : (cs : List Column) (k : ℕ) (c : Column) → AreCheap cs → c.worth ≤ 4000000000 → AreCheap (set cs k c)
-AreCheap-set [] k c h new = tt
-AreCheap-set (d ∷ ds) zero c h new = (new, h.1)
-AreCheap-set (d ∷ ds) (suc k) c h new = (h.0, AreCheap-set ds k c h.1 new)
-
-pub AreCheap-push : (cs : List Column) (c : Column) → AreCheap cs → c.worth ≤ 4000000000 → AreCheap (cs ++ c ∷ [])
-AreCheap-push [] c h new = (new, tt)
-AreCheap-push (d ∷ ds) c h new = (h.0, AreCheap-push ds c h.1 new)
 
 pub AreCheap-without : (cs : List Column) → AreCheap cs → AreCheap (without_empty cs)
 AreCheap-without [] h = tt

@@ -8,6 +8,7 @@ use Rattle.std.proofs.lemmas.Bool.Decides.{nat_tests}
 use Rattle.std.proofs.lemmas.List.Elements.{Contains-append_left, Contains-append_right}
 use Rattle.std.proofs.lemmas.List.FromFn.{length-range_with_len, get_or-range_with_len}
 use Rattle.std.proofs.lemmas.Slice.Zip.{AllZip-long}
+use Rattle.std.proofs.lemmas.List.{get_or_default}
 use Rattle.rayon.specs.Lists.{IsLeast}
 use Rattle.cover_core.specs.declared.Column.{Column}
 use Rattle.cover_core.specs.Cover.{Problem}
@@ -341,11 +342,6 @@ pub useful-leasts : (p : Problem) (old new : List Column) (gone x y : ℕ) (leas
 useful-leasts p old new gone x y leasts moved shows =
     record { first = moved.first; second = moved.second; kept = λ a inside. kept-moved p old new gone x y a leasts moved shows inside }
 
-same-place : (ks : List ℕ) (a d e : ℕ) → a < length ks → get_or ks a d ≡ get_or ks a e
-same-place [] a d e below = absurd (omega arith)
-same-place (k ∷ ks) zero d e below = refl
-same-place (k ∷ ks) (suc a) d e below = same-place ks a d e (omega arith)
-
 at-places : (R : ℕ → Option Candidate → Type 0) (places : List ℕ) (leasts : List (Option Candidate)) (a : ℕ) → AllZip R places leasts →
     a < length places → R (get_or places a a) (least_at leasts a)
 at-places R [] leasts a each below = absurd (omega arith)
@@ -354,7 +350,7 @@ at-places R (k ∷ ks) (o ∷ os) zero each below = each.0
 at-places R (k ∷ ks) (o ∷ os) (suc a) each below =
     let P : ℕ → Type 0 = λ n. R n (least_at os a) in
     let inside : a < length ks = omega arith in
-    subst P (same-place ks a a (suc a) inside) (at-places R ks os a each.1 inside)
+    subst P (get_or_default ks a a (suc a) inside) (at-places R ks os a each.1 inside)
 
 -- the least swaps of the places of a plan, one after another
 pub shown-leasts : (p : Problem) (columns : List Column) (places : List ℕ) (leasts : List (Option Candidate)) →

@@ -58,7 +58,8 @@ module _ (size : Extent) where
   look_event h i k none e s = s
   look_event h i k (some v) e s = if_keeps h _ (nat_lt 0 v.share && nat_lt k size.classes) s (λ t.
       let a = and_parts (nat_lt 0 v.share) (nat_lt k size.classes) t in
-      look_keeps size h.words h.views i k (value_of (slice_index h.words (k + 1))) v s e (ltb-true 0 v.share a.0) (ltb-true k size.classes a.1)
+      look_keeps size h.words h.views i k (value_of (slice_index h.words (k + 1))) v s e (ltb-true 0 v.share a.0)
+      (ltb-true k size.classes a.1)
       (value_stands (slice_index h.words (k + 1))))
 
   lower_event : (h : BoardState) (i k : ℕ) (x : ℤ) (o : Option Sheet) → get_elem? h.views i ≡ o → IsSound size h →

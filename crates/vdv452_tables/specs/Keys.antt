@@ -1,10 +1,11 @@
 -- Promise: keys of rows, and indexes by key.
-use Rattle.std.specs.Prelude.{◌≡◌, ℕ, Bool, true, false, refl, ◌==◌, ◌&&◌, List, Option}
+use Rattle.std.specs.Prelude.{◌≡◌, ℕ, Bool, true, ◌==◌, ◌&&◌, List, Option}
 use Rattle.std.specs.Cmp.{unsigned_Decides}
 use Rattle.std.specs.Cmp.Lexicographic.{bytes_decides}
 use Rattle.std.specs.List.{find}
 use Rattle.std.specs.Option.{option_map}
 use Rattle.std.specs.Str.{bytes_eq}
+use Rattle.std.proofs.lemmas.Bool.{and_parts}
 use Rattle.indexmap.specs.IndexMap.{IndexMap, get}
 use Rattle.plan_core.specs.declared.types.Point.{Point}
 use Rattle.vdv452_tables.specs.declared.keys.DayKey.{DayKey}
@@ -94,15 +95,11 @@ trip_dwell_key_of row = record { version = row.version; fid = row.fid; at = row.
 abbrev pub named : ℕ → ℕ → List ℕ → LineKey
 named version line variant = record { version = version; line = line; variant = variant }
 
-both_true : (a b : Bool) → (a && b) ≡ true → (a ≡ true) × (b ≡ true)
-both_true true b e = (refl, e)
-both_true false b e = absurd cc
-
 -- keys of variants that compare as equal are one key
 pub same_line_key : (a b : LineKey) → line_key_eq a b ≡ true → a ≡ b
 same_line_key a b e =
-    let version = both_true (a.version == b.version) _ e in
-    let line = both_true (a.line == b.line) _ version.1 in
+    let version = and_parts (a.version == b.version) _ e in
+    let line = and_parts (a.line == b.line) _ version.1 in
     λ i. named ((unsigned_Decides a.version b.version).0 version.0 i) ((unsigned_Decides a.line b.line).0 line.0 i)
     ((bytes_decides a.variant b.variant).0 line.1 i)
 

@@ -3,7 +3,7 @@ use Rattle.std.proofs.Common.{◌≡◌, ℕ, ◌<◌, ◌≤◌, ◌^◌, Bool,
 use Rattle.std.specs.Prelude.{◌↔◌, IsTrue, int_le, nat_le}
 use Rattle.std.specs.Bool.{MatchBool}
 use Rattle.std.specs.List.{find}
-use Rattle.std.proofs.lemmas.Bool.{and_from, and_parts, both_ways, cases_from_iff, le-leb, leb-true}
+use Rattle.std.proofs.lemmas.Bool.{and_from, and_parts, both_ways, cases_from_iff, le-leb, leb-true, not-false}
 use Rattle.std.proofs.lemmas.Bool.Decides.{nat_tests}
 use Rattle.jiff_core.specs.Calendar.{days_in_month}
 use Rattle.jiff_core.proofs.SignedLemmas.{signed_arith}
@@ -19,10 +19,6 @@ use Rattle.week_check.specs.Roster.{columns, is_day, is_duty_day, is_end, is_one
 pub find_split : {X : Type 0} (x : X) (r : Option X) (b : Bool) → (if b then Some x else r) ≡ None → (b ≡ false) × (r ≡ None)
 find_split x r true e = absurd cc
 find_split x r false e = (refl, e)
-
-not_wrong : (b : Bool) → not b ≡ false → b ≡ true
-not_wrong true e = refl
-not_wrong false e = absurd cc
 
 -- each value of a row is right
 pub record AreRight (e : Entry) : Type 0 where
@@ -47,12 +43,12 @@ all_right e h =
     let f = find_split Driving (wrong_in e (Pause ∷ [])) (not (is_right e Driving)) d.1 in
     let g = find_split Pause (wrong_in e []) (not (is_right e Pause)) f.1 in
     record {
-      driver = not_wrong _ a.0;
-      day = not_wrong _ b.0;
-      begin = not_wrong _ c.0;
-      end = not_wrong _ d.0;
-      driving = not_wrong _ f.0;
-      pause = not_wrong _ g.0;
+      driver = not-false _ a.0;
+      day = not-false _ b.0;
+      begin = not-false _ c.0;
+      end = not-false _ d.0;
+      driving = not-false _ f.0;
+      pause = not-false _ g.0;
     }
 
 between : (n low high : ℤ) → (int_le low n && int_le n high) ≡ true → (low ≤ℤ n) × (n ≤ℤ high)

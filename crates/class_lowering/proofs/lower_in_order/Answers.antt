@@ -6,10 +6,11 @@ use Rattle.cover_core.specs.Fitting.{AreFit}
 use Rattle.cover_core.specs.Parts.{column_at}
 use Rattle.cover_core.specs.Plans.{number_at}
 use Rattle.cover_core.proofs.Fits.{IsFit, fit-at, AreFit-wider}
+use Rattle.cover_core.proofs.Parts.{column-there}
 use Rattle.column_pool.specs.Pools.{IsByValue, places_from}
 use Rattle.class_lowering.specs.Lowering.{HaveItems, lowered_along, lowered_prices}
 use Rattle.class_lowering.proofs.Ranges.{place-there, items-get}
-use Rattle.class_lowering.proofs.Walks.{column-get, along-more, along-end}
+use Rattle.class_lowering.proofs.Walks.{along-more, along-end}
 use Rattle.class_lowering.proofs.lower_in_order.Goals as goal
 
 pub sorted_by_value-requires-clause-fit : goal.sorted_by_value-requires-clause-fit
@@ -153,7 +154,7 @@ loop-place-preserved c =
     let long = ap (λ (l : List Column). length l) same in
     let inside : place < length columns = omega arith in
     let is : column ≡ column_at pool place =
-    column-get columns place column inside c.index-columns-place.is ∙ ap (λ (l : List Column). column_at l place) same in
+    column-there columns place column inside c.index-columns-place.is ∙ ap (λ (l : List Column). column_at l place) same in
     let fits : FitsSigned w64 c.asked_at.result = search rules in
     let asks : to_z w64 (of_z w64 c.asked_at.result) ≡ number_at asked column.class = to_z-of_z fits ∙ c.asked_at.ensures.value in
     let new : c.lower_by.new.prices.items ≡ lowered_prices now (column_at pool place) (number_at asked (column_at pool place).class) =

@@ -1,7 +1,8 @@
 use Rattle.std.proofs.Common.{◌≡◌, ◌<◌, ◌*ℤ◌, pos, length, get_or, arith, ap, ◌∙◌, rules, w64, FitsSigned}
 use Rattle.std.proofs.lemmas.Int.{ints, to_z-of_z}
 use Rattle.cover_core.specs.Plans.{number_at}
-use Rattle.dual_bound.proofs.Bounds.{rent-take, number_at-get, AreAtLeast-get}
+use Rattle.cover_core.proofs.Values.{number_at-get}
+use Rattle.dual_bound.proofs.Bounds.{rent-take, AreAtLeast-get}
 use Rattle.dual_bound.proofs.all_rent.Goals as goal
 
 pub class_rent-sum-requires : goal.class_rent-sum-requires

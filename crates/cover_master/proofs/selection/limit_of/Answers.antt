@@ -1,5 +1,5 @@
 use Rattle.std.proofs.Common.{◌∙◌, ◌≤◌, length, pos, get_or, sym, arith, rules, w64, to_z-of_z, FitsSigned}
-use Rattle.cover_master.proofs.Limits.{number_at-get}
+use Rattle.cover_core.proofs.Values.{number_at-get}
 use Rattle.cover_master.proofs.Walks.{number_at-past}
 use Rattle.cover_master.proofs.selection.limit_of.Goals as goal
 

@@ -3,7 +3,7 @@ use Rattle.plan_core.specs.declared.Price.{Price}
 use Rattle.std.proofs.lemmas.Int.{ints}
 use Rattle.cover_core.specs.Plans.{price_at}
 use Rattle.cover_core.specs.FirstLeast.{AllWithin}
-use Rattle.cover_master.proofs.Rules.{AllWithin-push}
+use Rattle.cover_core.proofs.Values.{AllWithin-push}
 use Rattle.cover_master.specs.Method.{start_price}
 use Rattle.cover_master.proofs.Prices.{pushed-more}
 use Rattle.cover_master.proofs.start.each_start.Goals as goal

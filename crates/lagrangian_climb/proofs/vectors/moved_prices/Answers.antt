@@ -2,8 +2,7 @@ use Rattle.std.proofs.Common.{◌≡◌, ℤ, pos, neg_ℤ, ◌≤ℤ◌, List, 
 use Rattle.std.proofs.lemmas.Int.{ints}
 use Rattle.plan_core.specs.declared.Price.{Price}
 use Rattle.cover_core.specs.FirstLeast.{AllWithin}
-use Rattle.cover_core.proofs.Values.{IsWithin}
-use Rattle.lagrangian_climb.proofs.Ranges.{within-push}
+use Rattle.cover_core.proofs.Values.{IsWithin, AllWithin-push}
 use Rattle.lagrangian_climb.proofs.vectors.moved_prices.Goals as goal
 
 pub loop-item-preserved : goal.loop-item-preserved
@@ -22,5 +21,5 @@ loop-item-preserved c =
     record {
       order = omega arith;
       len = ap (λ (l : List Price). length l) pushed ∙ (omega (arith, length-append c.loop-item.items (x ∷ []), c.loop-item.invariant.len));
-      moderate = subst P (sym pushed) (within-push 10000000000000 c.loop-item.items x c.loop-item.invariant.moderate within);
+      moderate = subst P (sym pushed) (AllWithin-push 10000000000000 c.loop-item.items x c.loop-item.invariant.moderate within);
     }

@@ -1,13 +1,14 @@
 use Rattle.std.proofs.Common.{pos, get_or, ◌∙◌, arith, FitsSigned, w64, to_z-of_z}
 use Rattle.std.proofs.lemmas.Int.{ints}
-use Rattle.offer_estimate.proofs.Ranges.{least-get, number-get}
+use Rattle.cover_core.proofs.Values.{number_at-get}
+use Rattle.offer_estimate.proofs.Ranges.{least-get}
 use Rattle.offer_estimate.proofs.guessing.least_at.Goals as goal
 
 pub returns-clause-value : goal.returns-clause-value
 returns-clause-value c =
     let is = least-get c.args.least.now c.args.class (pos 0) c.requires.inside c.requires.least in
     let fits : FitsSigned w64 (get_or c.args.least.now c.args.class (pos 0)) = omega (arith, ints, is.low, is.high) in
-    to_z-of_z fits ∙ number-get c.args.least.now c.args.class (pos 0) c.requires.inside
+    to_z-of_z fits ∙ number_at-get c.args.least.now c.args.class (pos 0) c.requires.inside
 
 pub returns-clause-low : goal.returns-clause-low
 returns-clause-low c =

@@ -3,9 +3,8 @@ use Rattle.std.proofs.lemmas.Int.{ints}
 use Rattle.plan_core.specs.declared.Price.{Price}
 use Rattle.cover_core.specs.FirstLeast.{AllWithin}
 use Rattle.cover_core.specs.Plans.{price_at}
-use Rattle.cover_core.proofs.Values.{IsWithin}
+use Rattle.cover_core.proofs.Values.{IsWithin, AllWithin-push}
 use Rattle.offer_estimate.specs.Estimates.{scaled_price}
-use Rattle.offer_estimate.proofs.Ranges.{within-push}
 use Rattle.offer_estimate.proofs.Scaling.{scaled-more}
 use Rattle.offer_estimate.proofs.scales.scaled.Goals as goal
 
@@ -46,6 +45,6 @@ loop-item-preserved c =
     record {
       order = omega arith;
       len = ap (λ (l : List Price). length l) pushed ∙ (omega (arith, length-append c.loop-item.items (x ∷ []), c.loop-item.invariant.len));
-      moderate = subst P (sym pushed) (within-push 10000000000000 c.loop-item.items x c.loop-item.invariant.moderate within);
+      moderate = subst P (sym pushed) (AllWithin-push 10000000000000 c.loop-item.items x c.loop-item.invariant.moderate within);
       scaled = scaled-more c.args.scale prices c.loop-item.items c.push.new.self item x inside is pushed c.loop-item.invariant.scaled;
     }

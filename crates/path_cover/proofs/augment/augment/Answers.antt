@@ -1,6 +1,7 @@
 use Rattle.std.proofs.Common.{◌≡◌, ◌<◌, get_or, length, ◌∙◌, arith}
+use Rattle.std.proofs.lemmas.List.{get_or_default}
 use Rattle.path_cover.specs.Augmenting.{IsWalkOf}
-use Rattle.path_cover.proofs.WalkSteps.{default_same, frame_done, frame_more, frame_start, walk_done, walk_few, walk_in, walk_more}
+use Rattle.path_cover.proofs.WalkSteps.{frame_done, frame_more, frame_start, walk_done, walk_few, walk_in, walk_more}
 use Rattle.path_cover.proofs.augment.augment.Goals as goal
 
 pub take_out-requires-clause-few : goal.take_out-requires-clause-few
@@ -37,7 +38,7 @@ loop-row-preserved g c =
     let via_count = c.requires.via in
     let row_in : c.loop-row.row < length growth.by.items = omega (arith, inside.1) in
     let back_is : c.index-old.result.now ≡ get_or growth.by.items c.loop-row.row 0 =
-    c.index-old.ensures ∙ default_same growth.by.items c.loop-row.row c.index-old.result.now 0 row_in in
+    c.index-old.ensures ∙ get_or_default growth.by.items c.loop-row.row c.index-old.result.now 0 row_in in
     let walk : IsWalkOf net c.args.falls.now c.args.target growth c.put_in.new.m c.index-old.result.now =
     walk_more net (g.met.A.Arcs.rising c.args.arcs.now) c.args.falls.now c.args.target growth c.loop-row.placing c.take_out.new.m
     c.put_in.new.m 4294967295 c.loop-row.hole c.nodes-n.result c.loop-row.row c.index-old.result.now
@@ -46,7 +47,7 @@ loop-row-preserved g c =
     (c.put_in.ensures.to, c.put_in.ensures.from, c.put_in.ensures.room, c.put_in.ensures.spare) in
     let after = walk_in net c.args.falls.now c.args.target growth c.put_in.new.m c.index-old.result.now walk in
     let back_in : c.index-old.result.now < length growth.via.items = omega (arith, after.0) in (
-      c.index-row-in-loop-row.ensures ∙ default_same growth.via.items c.index-old.result.now c.index-row-in-loop-row.result.now 0 back_in,
+      c.index-row-in-loop-row.ensures ∙ get_or_default growth.via.items c.index-old.result.now c.index-row-in-loop-row.result.now 0 back_in,
       inv.1,
       walk,
       frame_more net c.args.falls.now c.args.target growth c.loop-row.placing c.take_out.new.m c.put_in.new.m c.args.placing.now.to.items
@@ -64,7 +65,7 @@ loop-row-init g c =
     let inside = walk_in net c.args.falls.now c.args.target growth c.args.placing.now c.args.v walk in
     let via_count = c.requires.via in
     let hole_in : c.args.v < length growth.via.items = omega (arith, inside.0) in (
-      c.index-row.ensures ∙ default_same growth.via.items c.args.v c.index-row.result.now 0 hole_in,
+      c.index-row.ensures ∙ get_or_default growth.via.items c.args.v c.index-row.result.now 0 hole_in,
       c.nodes-n.ensures.value,
       walk,
       frame_start net.nodes c.args.target c.args.placing.now.to.items,

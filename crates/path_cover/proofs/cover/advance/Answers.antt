@@ -1,4 +1,5 @@
 use Rattle.std.proofs.Common.{◌≡◌, ◌+◌, ◌≤◌, ℕ, get_or, sym, ap, subst, ◌∙◌, arith}
+use Rattle.std.proofs.lemmas.List.{get_or_default}
 use Rattle.path_cover.specs.declared.growth.Falls.{Falls}
 use Rattle.path_cover.specs.declared.growth.Target.{Target}
 use Rattle.path_cover.specs.declared.placing.Placing.{Placing}
@@ -7,7 +8,7 @@ use Rattle.path_cover.specs.Searching.{IsSeated}
 use Rattle.path_cover.proofs.Earliest.{stuck_first}
 use Rattle.path_cover.proofs.Freed.{freed, freed_other, restored, restored_rows, seat_few}
 use Rattle.path_cover.proofs.Walking.{taken}
-use Rattle.path_cover.proofs.WalkSteps.{IsPlaced, IsTaken, default_same}
+use Rattle.path_cover.proofs.WalkSteps.{IsPlaced, IsTaken}
 use Rattle.path_cover.proofs.cover.advance.Goals as goal
 
 pub take_out-requires-clause-few : goal.take_out-requires-clause-few
@@ -26,7 +27,7 @@ place-requires-clause-seated g c =
     let few = c.nodes-n.ensures.few in
     let count = is.kept.to_count in
     let t_in = c.requires.row in
-    let v_is : v ≡ get_or old.to.items t 0 = c.index-v.ensures ∙ default_same old.to.items t v 0 (omega arith) in
+    let v_is : v ≡ get_or old.to.items t 0 = c.index-v.ensures ∙ get_or_default old.to.items t v 0 (omega arith) in
     let there = c.requires.placed t t_in in
     let out : IsTaken c.nodes-n.result 4294967295 t v old mid =
     (c.take_out.ensures.to, c.take_out.ensures.from, c.take_out.ensures.room, c.take_out.ensures.spare) in
@@ -50,7 +51,7 @@ returns-clause-seated g c =
     let few = c.nodes-n.ensures.few in
     let count = is.kept.to_count in
     let t_in = c.requires.row in
-    let v_is : v ≡ get_or old.to.items t 0 = c.index-v.ensures ∙ default_same old.to.items t v 0 (omega arith) in
+    let v_is : v ≡ get_or old.to.items t 0 = c.index-v.ensures ∙ get_or_default old.to.items t v 0 (omega arith) in
     let there = c.requires.placed t t_in in
     let out : IsTaken c.nodes-n.result 4294967295 t v old mid =
     (c.take_out.ensures.to, c.take_out.ensures.from, c.take_out.ensures.room, c.take_out.ensures.spare) in
@@ -77,7 +78,7 @@ returns-clause-first g c e lists cover slack agree =
     let n_is = c.nodes-n.ensures.value in
     let count = is.kept.to_count in
     let t_in = c.requires.row in
-    let v_is : v ≡ get_or old.to.items t 0 = c.index-v.ensures ∙ default_same old.to.items t v 0 (omega arith) in
+    let v_is : v ≡ get_or old.to.items t 0 = c.index-v.ensures ∙ get_or_default old.to.items t v 0 (omega arith) in
     let out : IsTaken c.nodes-n.result 4294967295 t v old mid =
     (c.take_out.ensures.to, c.take_out.ensures.from, c.take_out.ensures.room, c.take_out.ensures.spare) in
     let out_net : IsTaken net.nodes 4294967295 t v old mid = subst (λ (k : ℕ). IsTaken k 4294967295 t v old mid) n_is out in

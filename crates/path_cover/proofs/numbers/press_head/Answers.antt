@@ -1,6 +1,6 @@
 use Rattle.std.proofs.Common.{◌≡◌, ◌-◌, ◌<◌, ℕ, get_or, set, sym, subst, ◌∙◌, arith}
+use Rattle.std.proofs.lemmas.List.{get_or_default}
 use Rattle.path_cover.proofs.Sweeping.{head_swept}
-use Rattle.path_cover.proofs.WalkSteps.{default_same}
 use Rattle.path_cover.proofs.numbers.press_head.Goals as goal
 
 pub returns-in-Some-clause-swept : goal.returns-in-Some-clause-swept
@@ -13,7 +13,7 @@ returns-in-Some-clause-swept g c =
     let row_in = c.requires.row in
     let count = c.requires.places.tails in
     let tail_is : c.index.result.now ≡ get_or old.tails.items x 0 =
-    c.index.ensures ∙ default_same old.tails.items x c.index.result.now 0 (omega arith) in
+    c.index.ensures ∙ get_or_default old.tails.items x c.index.result.now 0 (omega arith) in
     let cost_is = c.from.ensures in
     let rest = c.saturating_sub-least.ensures in
     let least_is : c.saturating_sub-least.result ≡ get_or old.tails.items x 0 - c.in-Some.cost = omega arith in

@@ -1,8 +1,8 @@
 use Rattle.std.proofs.Common.{◌≡◌, ◌<◌, ℕ, Bool, get_or, sym, subst, ◌∙◌, arith}
+use Rattle.std.proofs.lemmas.List.{get_or_default}
 use Rattle.path_cover.specs.declared.growth.Falls.{Falls}
 use Rattle.path_cover.specs.Sweeps.{IsSwept, IsTaut, IsTightIn}
 use Rattle.path_cover.proofs.Sweeping.{asked_more, swept_more, tight_row}
-use Rattle.path_cover.proofs.WalkSteps.{default_same}
 use Rattle.path_cover.proofs.numbers.press_rows.Goals as goal
 
 pub press_tail-pressed-requires-clause-tight : goal.press_tail-pressed-requires-clause-tight
@@ -14,7 +14,7 @@ press_tail-pressed-requires-clause-tight g c =
     let inside = c.loop-t-test.true in
     let count = c.requires.count in
     let at : c.index.result.now ≡ get_or placing.to.items t 0 =
-    c.index.ensures ∙ default_same placing.to.items t c.index.result.now 0 (omega arith) in
+    c.index.ensures ∙ get_or_default placing.to.items t c.index.result.now 0 (omega arith) in
     let t_in : t < net.nodes = omega arith in
     subst (λ (w : ℕ). IsTightIn net placing t w) (sym at) (tight_row net placing t t_in (c.requires.placed t t_in))
 
@@ -34,7 +34,7 @@ loop-t-preserved g c =
     let inside = c.loop-t-test.true in
     let count = c.requires.count in
     let at : c.index.result.now ≡ get_or placing.to.items t 0 =
-    c.index.ensures ∙ default_same placing.to.items t c.index.result.now 0 (omega arith) in
+    c.index.ensures ∙ get_or_default placing.to.items t c.index.result.now 0 (omega arith) in
     record {
       swept = subst (λ (r : Bool). IsSwept net placing old new r) (sym c.either-moved.ensures)
           (swept_more net placing old mid new a b inv.swept e.swept);

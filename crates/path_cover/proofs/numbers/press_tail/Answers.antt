@@ -1,6 +1,6 @@
 use Rattle.std.proofs.Common.{◌≡◌, ◌+◌, ◌<◌, ℕ, get_or, set, sym, subst, ◌∙◌, arith}
+use Rattle.std.proofs.lemmas.List.{get_or_default}
 use Rattle.path_cover.proofs.Sweeping.{tail_low, tail_swept}
-use Rattle.path_cover.proofs.WalkSteps.{default_same}
 use Rattle.path_cover.proofs.numbers.press_tail.Goals as goal
 
 pub overflow_add-least : goal.overflow_add-least
@@ -12,7 +12,7 @@ overflow_add-least g c =
     let column_in = c.requires.column in
     let count = c.requires.places.heads in
     let head_is : c.index.result.now ≡ get_or old.heads.items v 0 =
-    c.index.ensures ∙ default_same old.heads.items v c.index.result.now 0 (omega arith) in
+    c.index.ensures ∙ get_or_default old.heads.items v c.index.result.now 0 (omega arith) in
     let cost_is = c.from.ensures in
     let low = tail_low net c.args.placing.now old x v c.in-Some.cost c.requires.row column_in c.requires.high c.requires.floor
     c.requires.tight (sym c.in-Some.ensures) in
@@ -28,7 +28,7 @@ returns-in-Some-clause-swept g c =
     let column_in = c.requires.column in
     let count = c.requires.places.heads in
     let head_is : c.index.result.now ≡ get_or old.heads.items v 0 =
-    c.index.ensures ∙ default_same old.heads.items v c.index.result.now 0 (omega arith) in
+    c.index.ensures ∙ get_or_default old.heads.items v c.index.result.now 0 (omega arith) in
     let cost_is = c.from.ensures in
     let least_is : c.from.result + c.index.result.now ≡ c.in-Some.cost + get_or old.heads.items v 0 = omega arith in
     let e = c.press_one_tail.ensures in

@@ -1,8 +1,8 @@
 use Rattle.std.proofs.Common.{◌≡◌, ◌++◌, ◌∷◌, [], ◌-ℤ◌, ◌*ℤ◌, List, ℕ, ℤ, pos, length, get_or, ap, ◌∙◌, arith, rules, FitsSigned, w64, to_z, of_z, to_z-of_z, length-append}
+use Rattle.std.proofs.lemmas.List.{get_or_default}
 use Rattle.plan_core.specs.declared.Price.{Price}
 use Rattle.cover_core.specs.Plans.{price_at}
 use Rattle.path_cover.proofs.Priced.{priced_more}
-use Rattle.path_cover.proofs.WalkSteps.{default_same}
 use Rattle.path_cover.proofs.prices.node_prices.Goals as goal
 
 pub loop-t-preserved : goal.loop-t-preserved
@@ -14,9 +14,9 @@ loop-t-preserved c =
     let heads_count = c.requires.places.heads in
     let tails_count = c.requires.places.tails in
     let head_is : c.index.result.now ≡ get_or falls.heads.items t 0 =
-    c.index.ensures ∙ default_same falls.heads.items t c.index.result.now 0 (omega arith) in
+    c.index.ensures ∙ get_or_default falls.heads.items t c.index.result.now 0 (omega arith) in
     let tail_is : c.index-in-loop-t.result.now ≡ get_or falls.tails.items t 0 =
-    c.index-in-loop-t.ensures ∙ default_same falls.tails.items t c.index-in-loop-t.result.now 0 (omega arith) in
+    c.index-in-loop-t.ensures ∙ get_or_default falls.tails.items t c.index-in-loop-t.result.now 0 (omega arith) in
     let fits : FitsSigned w64 c.thousandfold-price.result = search rules in
     let price : Price = record { 0 = to_z w64 (of_z w64 c.thousandfold-price.result) } in
     let value : price.0 ≡ f t =

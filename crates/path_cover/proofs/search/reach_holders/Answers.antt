@@ -1,7 +1,7 @@
 use Rattle.std.proofs.Common.{◌≡◌, ◌<◌, ℕ, true, false, get_or, sym, ap, subst, ◌∙◌, arith}
+use Rattle.std.proofs.lemmas.List.{get_or_default}
 use Rattle.path_cover.specs.Searching.{IsReachedBy}
 use Rattle.path_cover.proofs.Opened.{IsSeenToo, closed, holder_goes, opened_near, seen_once}
-use Rattle.path_cover.proofs.WalkSteps.{default_same}
 use Rattle.path_cover.proofs.search.reach_holders.Goals as goal
 
 pub reach_new-requires-clause-near : goal.reach_new-requires-clause-near
@@ -33,7 +33,7 @@ returns-then-x-target-clause-treed g c =
     let under : v < c.nodes-n.result = c.if-v-n.true in
     let below : v < net.nodes = omega arith in
     let count = c.requires.opened.1.seat.kept.from_count in
-    let x_is : x ≡ get_or placing.from.items v 0 = c.index-x.ensures ∙ default_same placing.from.items v x 0 (omega arith) in
+    let x_is : x ≡ get_or placing.from.items v 0 = c.index-x.ensures ∙ get_or_default placing.from.items v x 0 (omega arith) in
     let goes = holder_goes net falls placing old target v c.requires.opened below in
     let low = goes.0 in
     let seen : IsSeenToo net falls placing old new target v x =
@@ -54,7 +54,7 @@ returns-else-x-target-clause-treed g c =
     let under : v < c.nodes-n.result = c.if-v-n.true in
     let before = c.if-x-target.false in
     let count = c.requires.opened.1.seat.kept.from_count in
-    let x_is : x ≡ get_or placing.from.items v 0 = c.index-x.ensures ∙ default_same placing.from.items v x 0 (omega arith) in
+    let x_is : x ≡ get_or placing.from.items v 0 = c.index-x.ensures ∙ get_or_default placing.from.items v x 0 (omega arith) in
     closed net c.args.falls.now placing c.args.growth.now c.args.target v c.requires.opened (λ column past. absurd (omega arith))
     (λ at_end t past t_in to_end. absurd (omega arith)) (λ at_end some. absurd (omega arith))
 

@@ -1,9 +1,9 @@
 use Rattle.std.proofs.Common.{◌≡◌, ◌<◌, ◌≤◌, ℕ, true, false, get_or, inl, inr, sym, ap, subst, ◌∙◌, arith}
 use Rattle.std.proofs.lemmas.Bool.{cases_lt}
+use Rattle.std.proofs.lemmas.List.{get_or_default}
 use Rattle.path_cover.specs.declared.growth.Growth.{Growth}
 use Rattle.path_cover.specs.Searching.{IsOpenedAs, IsReachedBy}
 use Rattle.path_cover.proofs.Opened.{IsSeenToo, opened_near, seen_once}
-use Rattle.path_cover.proofs.WalkSteps.{default_same}
 use Rattle.path_cover.proofs.search.reach_last.Goals as goal
 use Rattle.path_cover.proofs.search.reach_last.Goals.{then-index-n, else-index-n}
 
@@ -30,7 +30,7 @@ loop-t-preserved g c =
     let past : target.fixed ≤ t = c.loop-t.auto.t in
     let count = inv.opened.1.seat.kept.to_count in
     let at : c.index.result.now ≡ get_or placing.to.items t 0 =
-    c.index.ensures ∙ default_same placing.to.items t c.index.result.now 0 (omega arith) in
+    c.index.ensures ∙ get_or_default placing.to.items t c.index.result.now 0 (omega arith) in
     elim c.if-index-n.branch [
       | then-index-n w ↦
           let new = w.reach_new.new.growth in

@@ -1,7 +1,8 @@
 use Rattle.std.proofs.Common.{◌≡◌, ◌+◌, ◌<◌, ◌++◌, List, ℕ, drop, length, ap, ◌∙◌, arith}
 use Rattle.std.specs.Prelude.{slice_index}
 use Rattle.cover_core.specs.Plans.{all_items, times}
-use Rattle.plan_check.proofs.Counted.{items-step, times-both}
+use Rattle.cover_core.proofs.Parts.{times-append}
+use Rattle.plan_check.proofs.Counted.{items-step}
 use Rattle.plan_check.proofs.counts.count_items.Goals as goal
 
 pub count_numbers-requires : goal.count_numbers-requires
@@ -13,7 +14,7 @@ count_numbers-requires c = λ n below.
     let left = c.loop-list.invariant.left n below' in
     let rest = all_items (drop (i + 1) lists) in
     let step = ap (times n) (items-step lists i c.list-item.result c.loop-list-test.true c.list-item.is)
-    ∙ times-both n c.list-item.result.items rest in
+    ∙ times-append n c.list-item.result.items rest in
     let here = ap (times n) c.as_slice.ensures in
     let few = c.requires n below' in
     omega arith
@@ -31,7 +32,7 @@ loop-list-preserved c =
           let left = c.loop-list.invariant.left n below in
           let rest = all_items (drop (i + 1) lists) in
           let step = ap (times n) (items-step lists i c.list-item.result c.loop-list-test.true c.list-item.is)
-          ∙ times-both n c.list-item.result.items rest in
+          ∙ times-append n c.list-item.result.items rest in
           let here = ap (times n) c.as_slice.ensures in
           let risen = c.count_numbers.ensures.risen n below' in
           omega arith;

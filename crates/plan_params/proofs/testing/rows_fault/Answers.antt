@@ -2,7 +2,7 @@ use Rattle.std.proofs.Common.{◌≡◌, ◌+◌, ◌∷◌, Some, drop, sym, ap
 use Rattle.plan_params.specs.Faults.{fault}
 use Rattle.plan_params.specs.Rules.{rule_of}
 use Rattle.plan_params.proofs.FaultLemmas.{row_first}
-use Rattle.plan_params.proofs.ListSteps.{drop_item}
+use Rattle.vdv452_rows.proofs.RowSteps.{drop_item}
 use Rattle.plan_params.proofs.testing.rows_fault.Goals as goal
 
 pub returns-in-Some : goal.returns-in-Some

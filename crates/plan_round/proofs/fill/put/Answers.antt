@@ -2,8 +2,9 @@ use Rattle.std.proofs.Common.{◌≡◌, ◌∷◌, [], ◌++◌, ◌+◌, List,
 use Rattle.std.proofs.Math.ListN.{set}
 use Rattle.cover_core.specs.declared.Column.{Column}
 use Rattle.cover_core.specs.FirstLeast.{AreCheap}
+use Rattle.cover_core.proofs.Values.{AreCheap-push, AreCheap-set}
 use Rattle.plan_round.specs.Drafts.{IsCounted}
-use Rattle.plan_round.proofs.Counts.{counted-set, counted-push, AreCheap-set, AreCheap-push}
+use Rattle.plan_round.proofs.Counts.{counted-set, counted-push}
 use Rattle.plan_round.proofs.fill.put.Goals as goal
 
 pub returns-in_ok-items-in-Into-clause-counted : goal.returns-in_ok-items-in-Into-clause-counted

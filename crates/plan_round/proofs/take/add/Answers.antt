@@ -3,8 +3,9 @@ use Rattle.std.proofs.Math.ListN.{set}
 use Rattle.cover_core.specs.declared.Column.{Column}
 use Rattle.cover_core.specs.Plans.{times}
 use Rattle.cover_core.specs.FirstLeast.{AreCheap}
+use Rattle.cover_core.proofs.Values.{AreCheap-push}
 use Rattle.plan_round.specs.Drafts.{IsCounted, ShowsFree}
-use Rattle.plan_round.proofs.Counts.{counted-push, AreCheap-push}
+use Rattle.plan_round.proofs.Counts.{counted-push}
 use Rattle.plan_round.proofs.Takes.{shows-added}
 use Rattle.plan_round.proofs.take.add.Goals as goal
 

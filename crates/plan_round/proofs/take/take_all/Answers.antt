@@ -2,10 +2,10 @@ use Rattle.std.proofs.Common.{◌≡◌, ◌<◌, ◌+◌, List, length, get_or,
 use Rattle.cover_core.specs.declared.Column.{Column}
 use Rattle.cover_core.specs.Plans.{IsColumn}
 use Rattle.cover_core.specs.Parts.{column_at}
-use Rattle.cover_core.proofs.Parts.{AreColumns-get}
+use Rattle.cover_core.proofs.Parts.{AreColumns-get, column-there}
 use Rattle.cover_core.proofs.Values.{AllBelow-get, AreCheap-get}
 use Rattle.plan_round.specs.Rounding.{taken, with_taken, picked}
-use Rattle.plan_round.proofs.Takes.{taken-more, column-there}
+use Rattle.plan_round.proofs.Takes.{taken-more}
 use Rattle.plan_round.proofs.take.take_all.Goals as goal
 
 pub bounds-pool-place : goal.bounds-pool-place

@@ -1,7 +1,8 @@
 use Rattle.std.proofs.Common.{◌<◌, length, sym, ap, subst, arith}
 use Rattle.cover_core.specs.declared.Column.{Column}
 use Rattle.cover_core.proofs.Values.{AreCheap-get}
-use Rattle.tail_exchange.proofs.Lists.{column-there, sound-at}
+use Rattle.cover_core.proofs.Parts.{column-there}
+use Rattle.tail_exchange.proofs.Lists.{sound-at}
 use Rattle.tail_exchange.proofs.joins.column_of.Goals as goal
 
 pub returns-clause-is : goal.returns-clause-is

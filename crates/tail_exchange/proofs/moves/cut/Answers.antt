@@ -3,8 +3,9 @@ use Rattle.std.proofs.Math.ListN.{set}
 use Rattle.cover_core.specs.declared.Column.{Column}
 use Rattle.cover_core.specs.Parts.{column_at}
 use Rattle.cover_core.specs.FirstLeast.{AreCheap}
+use Rattle.cover_core.proofs.Values.{AreCheap-push, AreCheap-set}
 use Rattle.tail_exchange.specs.Exchange.{made, without_empty}
-use Rattle.tail_exchange.proofs.Moderate.{AreCheap-set, AreCheap-push, AreCheap-without, set-push}
+use Rattle.tail_exchange.proofs.Moderate.{AreCheap-without, set-push}
 use Rattle.tail_exchange.proofs.moves.cut.Goals as goal
 
 pub returns-clause-ok : goal.returns-clause-ok

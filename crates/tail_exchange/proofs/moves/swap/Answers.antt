@@ -2,8 +2,9 @@ use Rattle.std.proofs.Common.{List, sym, ap, ◌∙◌, subst}
 use Rattle.std.proofs.Math.ListN.{set}
 use Rattle.cover_core.specs.declared.Column.{Column}
 use Rattle.cover_core.specs.FirstLeast.{AreCheap}
+use Rattle.cover_core.proofs.Values.{AreCheap-set}
 use Rattle.tail_exchange.specs.Exchange.{without_empty}
-use Rattle.tail_exchange.proofs.Moderate.{AreCheap-set, AreCheap-without}
+use Rattle.tail_exchange.proofs.Moderate.{AreCheap-without}
 use Rattle.tail_exchange.proofs.moves.swap.Goals as goal
 
 pub returns-clause-cheap : goal.returns-clause-cheap
