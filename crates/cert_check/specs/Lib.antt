@@ -1,6 +1,7 @@
 pub mod Certified
 pub mod Examples
 pub mod Judging
+pub mod Names
 pub mod Old
 pub mod Parts
 pub mod Reasons

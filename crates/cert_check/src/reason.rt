@@ -1,5 +1,8 @@
 //! What the checker answers.
 
+ghost use Rattle.std.specs.Prelude.{◌≡◌};
+ghost use Rattle.cert_check.specs.Names.{name_of, number_of};
+
 use cover_core::Gap;
 use plan_cert::Place;
 use plan_core::Bytes;
@@ -93,6 +96,48 @@ pub enum Reason {
         /// The bound of the prices.
         shown: u64,
     },
+}
+
+impl Reason {
+    /// The reason's number. There is no number 11.
+    pub fn number(&self) -> u64
+        ensures { result ≡ number_of self.now }
+    {
+        match self {
+            Reason::PlanForm { .. } => 1,
+            Reason::TripTimes { .. } => 2,
+            Reason::BlockUnlawful { .. } => 3,
+            Reason::PoolOver { .. } => 4,
+            Reason::PieceTimes { .. } => 5,
+            Reason::DutyUnlawful { .. } => 6,
+            Reason::GroupOver { .. } => 7,
+            Reason::PlanDiffers { .. } => 8,
+            Reason::CertForm { .. } => 9,
+            Reason::NegativeClassPrice { .. } => 10,
+            Reason::Uncovered { .. } => 12,
+            Reason::BoundTooHigh { .. } => 13,
+        }
+    }
+
+    /// The reason's name, as it is printed.
+    pub fn name(&self) -> &'static [u8]
+        ensures { result.now ≡ name_of self.now }
+    {
+        match self {
+            Reason::PlanForm { .. } => b"PlanForm",
+            Reason::TripTimes { .. } => b"TripTimes",
+            Reason::BlockUnlawful { .. } => b"BlockUnlawful",
+            Reason::PoolOver { .. } => b"PoolOver",
+            Reason::PieceTimes { .. } => b"PieceTimes",
+            Reason::DutyUnlawful { .. } => b"DutyUnlawful",
+            Reason::GroupOver { .. } => b"GroupOver",
+            Reason::PlanDiffers { .. } => b"PlanDiffers",
+            Reason::CertForm { .. } => b"CertForm",
+            Reason::NegativeClassPrice { .. } => b"NegativeClassPrice",
+            Reason::Uncovered { .. } => b"Uncovered",
+            Reason::BoundTooHigh { .. } => b"BoundTooHigh",
+        }
+    }
 }
 
 /// What the checker answers.

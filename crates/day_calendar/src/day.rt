@@ -5,6 +5,7 @@ ghost use Rattle.jiff.specs.Words.{monday_zero};
 ghost use Rattle.vdv452_tables.specs.Calendar.{kind_on, version_on};
 ghost use Rattle.day_calendar.specs.Days.{IsCivilDay, HasWeekday};
 ghost use Rattle.day_calendar.specs.Kinds.{IsKindOf};
+ghost use Rattle.day_calendar.specs.Names.{name_of};
 
 use jiff::civil::{Date, Weekday};
 use thiserror::Error;
@@ -28,14 +29,27 @@ pub struct DayKind {
 #[derive(Clone, Copy, Debug, PartialEq, Eq, Error)]
 pub enum DayFault {
     /// No version is in force: every one begins later.
-    #[error("no version is in force")]
+    #[error("NoVersion")]
     NoVersion,
     /// FIRMENKALENDER has no row of the version in force and the day.
-    #[error("the calendar lacks the day")]
+    #[error("NoDay")]
     NoDay,
     /// The number is not YYYYMMDD of a date of the Gregorian calendar in a year from 0 to 9999.
-    #[error("no date")]
+    #[error("NoDate")]
     NoDate,
+}
+
+impl DayFault {
+    /// The fault's name, as it is printed.
+    pub fn name(self) -> &'static [u8]
+        ensures { result.now ≡ name_of self }
+    {
+        match self {
+            DayFault::NoVersion => b"NoVersion",
+            DayFault::NoDay => b"NoDay",
+            DayFault::NoDate => b"NoDate",
+        }
+    }
 }
 
 fn weekday_number(weekday: Weekday) -> u32

@@ -1,5 +1,8 @@
 //! The sides of a plan.
 
+ghost use Rattle.std.specs.Prelude.{◌≡◌};
+ghost use Rattle.day_method.specs.Names.{name_of};
+
 /// The side of a plan that a refusal speaks of.
 #[derive(Clone, Copy, Debug, PartialEq, Eq)]
 pub enum Side {
@@ -7,4 +10,16 @@ pub enum Side {
     Vehicles,
     /// The pieces of the blocks and their driver duties.
     Drivers,
+}
+
+impl Side {
+    /// The side's name, as it is printed.
+    pub fn name(self) -> &'static [u8]
+        ensures { result.now ≡ name_of self }
+    {
+        match self {
+            Side::Vehicles => b"vehicles",
+            Side::Drivers => b"drivers",
+        }
+    }
 }

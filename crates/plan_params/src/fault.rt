@@ -2,6 +2,7 @@
 
 ghost use Rattle.std.specs.Prelude.{◌≡◌, IfOk, Some};
 ghost use Rattle.plan_params.specs.Faults.{IsRefusal, fault, fault_of, memory_fault};
+ghost use Rattle.plan_params.specs.Names.{name_of};
 
 use crate::testing::Found;
 use plan_core::{Bytes, Memory};
@@ -12,20 +13,35 @@ use thiserror::Error;
 #[derive(Clone, Copy, Debug, PartialEq, Eq, Error)]
 pub enum ParamKind {
     /// X_PLAN has not one row.
-    #[error("the plan has not one row")]
+    #[error("NotOne")]
     NotOne,
     /// X_HOF or X_FAHRER has more than 32 rows.
-    #[error("too many rows")]
+    #[error("TooMany")]
     TooMany,
     /// A point has no row in REC_ORT of the version.
-    #[error("an unknown point")]
+    #[error("UnknownPoint")]
     UnknownPoint,
     /// A type of vehicles has no row in MENGE_FZG_TYP of the version.
-    #[error("an unknown type of vehicles")]
+    #[error("UnknownType")]
     UnknownType,
     /// Out of memory.
-    #[error("out of memory")]
+    #[error("Memory")]
     Memory,
+}
+
+impl ParamKind {
+    /// The kind's name, as it is printed.
+    pub fn name(self) -> &'static [u8]
+        ensures { result.now ≡ name_of self }
+    {
+        match self {
+            ParamKind::NotOne => b"NotOne",
+            ParamKind::TooMany => b"TooMany",
+            ParamKind::UnknownPoint => b"UnknownPoint",
+            ParamKind::UnknownType => b"UnknownType",
+            ParamKind::Memory => b"Memory",
+        }
+    }
 }
 
 /// The first fault of the settings. Rows count from 1, and those past 4,294,967,295 count as that one.

@@ -1,3 +1,4 @@
 pub mod Courses
 pub mod Timing
 pub mod Runs
+pub mod Names

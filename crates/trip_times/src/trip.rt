@@ -1,5 +1,8 @@
 //! Trips with their times, and why a trip has none.
 
+ghost use Rattle.std.specs.Prelude.{◌≡◌};
+ghost use Rattle.trip_times.specs.Names.{name_of};
+
 use plan_core::{Point, Sec};
 use thiserror::Error;
 
@@ -24,13 +27,13 @@ pub struct Trip {
 #[derive(Clone, Copy, Debug, PartialEq, Eq, Error)]
 pub enum TripFault {
     /// REC_LID has no row of the trip's line and variant.
-    #[error("the line's variant has no row")]
+    #[error("NoRoute")]
     NoRoute,
     /// The stop sequence has fewer than two points.
-    #[error("the stop sequence is too short")]
+    #[error("ShortRoute")]
     ShortRoute,
     /// SEL_FZT_FELD has no row of this section; it is the first such one of the stop sequence.
-    #[error("a section has no run time")]
+    #[error("NoRunTime")]
     NoRunTime {
         /// Where the section begins.
         from: Point,
@@ -38,6 +41,20 @@ pub enum TripFault {
         to: Point,
     },
     /// The trip ends after 172,800.
-    #[error("the trip ends too late")]
+    #[error("PastEnd")]
     PastEnd,
+}
+
+impl TripFault {
+    /// The fault's name, as it is printed.
+    pub fn name(self) -> &'static [u8]
+        ensures { result.now ≡ name_of self }
+    {
+        match self {
+            TripFault::NoRoute => b"NoRoute",
+            TripFault::ShortRoute => b"ShortRoute",
+            TripFault::NoRunTime { .. } => b"NoRunTime",
+            TripFault::PastEnd => b"PastEnd",
+        }
+    }
 }

@@ -10,3 +10,4 @@ pub mod LineView
 pub mod FieldView
 pub mod RowView
 pub mod FewFields
+pub mod Names

@@ -8,33 +8,55 @@ use thiserror::Error;
 #[derive(Clone, Copy, Debug, PartialEq, Eq, Error)]
 pub enum TextKind {
     /// No keyword with the line end or a `;` behind it, or an unknown one behind the first `tbl` or behind `eof`.
-    #[error("no keyword")]
+    #[error("Keyword")]
     Keyword,
     /// A known keyword where it may not stand.
-    #[error("a line out of order")]
+    #[error("Order")]
     Order,
     /// A quote that is not closed, bytes behind a closing quote, a wrong name or format, or an `end` or `eof` field that is not
     /// 1 to 18 bare digits.
-    #[error("a wrong field")]
+    #[error("Field")]
     Field,
     /// A wrong number of fields.
-    #[error("a wrong number of fields")]
+    #[error("Count")]
     Count,
     /// The number on `end` is not that of the table's rows.
-    #[error("a wrong number of rows")]
+    #[error("EndCount")]
     EndCount,
     /// The number on `eof` is not that of the file's tables.
-    #[error("a wrong number of tables")]
+    #[error("EofCount")]
     EofCount,
     /// There is no `eof`. The line is the number of lines plus 1.
-    #[error("no end of file")]
+    #[error("Unended")]
     Unended,
     /// There are more bytes than are allowed. It comes before all others, and its line is 0.
-    #[error("too many bytes")]
+    #[error("TooLarge")]
     TooLarge,
     /// Memory ran out, at the line where it did.
-    #[error("out of memory")]
+    #[error("Memory")]
     Memory,
+}
+
+impl TextKind {
+    ghost use Rattle.std.specs.Prelude.{◌≡◌};
+    ghost use Rattle.vdv451_text.specs.Names.{name_of};
+
+    /// The kind's name, as it is printed.
+    pub fn name(self) -> &'static [u8]
+        ensures { result.now ≡ name_of self }
+    {
+        match self {
+            TextKind::Keyword => b"Keyword",
+            TextKind::Order => b"Order",
+            TextKind::Field => b"Field",
+            TextKind::Count => b"Count",
+            TextKind::EndCount => b"EndCount",
+            TextKind::EofCount => b"EofCount",
+            TextKind::Unended => b"Unended",
+            TextKind::TooLarge => b"TooLarge",
+            TextKind::Memory => b"Memory",
+        }
+    }
 }
 
 impl From<AllocError> for TextKind {

@@ -7,3 +7,4 @@ pub mod Found
 pub mod Values
 pub mod TypedRows
 pub mod RowKeys
+pub mod Names

@@ -2,6 +2,7 @@
 
 ghost use Rattle.std.specs.Prelude.{◌≡◌, [], ◌∷◌, IfOk};
 ghost use Rattle.vdv452_rows.specs.Answers.{IsRefusal};
+ghost use Rattle.vdv452_rows.specs.Names.{name_of};
 ghost use Rattle.vdv452_rows.specs.Rows.{fault, memory_fault};
 ghost use Rattle.vdv452_rows.specs.declared.fault.Refusal.TheVariants as refusals;
 
@@ -14,26 +15,43 @@ use thiserror::Error;
 #[derive(Clone, Copy, Debug, PartialEq, Eq, Error)]
 pub enum TableKind {
     /// A used table stands more than once over all files.
-    #[error("a table stands twice")]
+    #[error("TableTwice")]
     TableTwice,
     /// A table that must be there is missing.
-    #[error("a table is missing")]
+    #[error("NoTable")]
     NoTable,
     /// A used table lacks one of its columns.
-    #[error("a column is missing")]
+    #[error("NoColumn")]
     NoColumn,
     /// A field is empty in a column where it may not be.
-    #[error("a value is missing")]
+    #[error("NoValue")]
     NoValue,
     /// A field is no number where its column has numbers, or one out of range.
-    #[error("a value out of range")]
+    #[error("Range")]
     Range,
     /// A row has the key of a row before it.
-    #[error("a key stands twice")]
+    #[error("KeyTwice")]
     KeyTwice,
     /// Out of memory.
-    #[error("out of memory")]
+    #[error("Memory")]
     Memory,
+}
+
+impl TableKind {
+    /// The kind's name, as it is printed.
+    pub fn name(self) -> &'static [u8]
+        ensures { result.now ≡ name_of self }
+    {
+        match self {
+            TableKind::TableTwice => b"TableTwice",
+            TableKind::NoTable => b"NoTable",
+            TableKind::NoColumn => b"NoColumn",
+            TableKind::NoValue => b"NoValue",
+            TableKind::Range => b"Range",
+            TableKind::KeyTwice => b"KeyTwice",
+            TableKind::Memory => b"Memory",
+        }
+    }
 }
 
 /// The first fault of the tables. Rows count from 1. The row is 0 where the fault is about the
