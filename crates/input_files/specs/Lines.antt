@@ -1,21 +1,7 @@
 -- Promise: a line on standard error, written part by part.
-use Rattle.std.specs.Prelude.{◌≡◌, ℕ, ◌≤◌, Bool, true, false, ◌++◌, ◌⊎◌, List, [], ◌∷◌, Option, Some, IfSome, codes}
+use Rattle.std.specs.Prelude.{◌≡◌, ℕ, ◌≤◌, Bool, true, false, ◌++◌, ◌⊎◌, List, [], ◌∷◌, Option, Some, IfSome}
 use Rattle.plan_core.specs.Outside.{Rose}
-use Rattle.vdv451_text.specs.declared.fault.TextKind.{TextKind}
-use Rattle.vdv451_text.specs.declared.fault.TextKind.TheVariants as texts
 use Rattle.input_files.specs.Taken.{TakesFront}
-
--- the name of a kind of fault of a text
-abbrev pub text_kind : TextKind → List ℕ
-text_kind texts.Keyword = codes "Keyword"
-text_kind texts.Order = codes "Order"
-text_kind texts.Field = codes "Field"
-text_kind texts.Count = codes "Count"
-text_kind texts.EndCount = codes "EndCount"
-text_kind texts.EofCount = codes "EofCount"
-text_kind texts.Unended = codes "Unended"
-text_kind texts.TooLarge = codes "TooLarge"
-text_kind texts.Memory = codes "Memory"
 
 -- the parts of a line after one another
 abbrev pub joined : List (List ℕ) → List ℕ

@@ -18,7 +18,7 @@ mod transfer;
 
 pub use fault::FileFault;
 pub use inputs::read_files;
-pub use lines::{text_kind, write_line, write_number, write_part};
+pub use lines::{write_line, write_number, write_part};
 pub use parts::{CheckParts, EarlierParts, join_tables, split_earlier, split_plan};
 pub use stage::{MOST_BYTES, MOST_CERT, Stage};
 pub use transfer::{PIECE, ReadRefusal, read_whole, write_whole};

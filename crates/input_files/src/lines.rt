@@ -1,29 +1,11 @@
 //! A line on standard error, written part by part.
 
-ghost use Rattle.std.specs.Prelude.{◌≡◌, ◌++◌, ℕ, List, Option, decimal};
-ghost use Rattle.input_files.specs.Lines.{IsTelling, IsTold, text_kind as text_kind_of};
+ghost use Rattle.std.specs.Prelude.{◌++◌, ℕ, List, Option, decimal};
+ghost use Rattle.input_files.specs.Lines.{IsTelling, IsTold};
 
 use crate::transfer::write_whole;
 use itoa::Buffer;
 use plan_core::Sink;
-use vdv451_text::TextKind;
-
-/// The name of a kind of fault of a text.
-pub fn text_kind(kind: TextKind) -> &'static [u8]
-    ensures { result.now ≡ text_kind_of kind }
-{
-    match kind {
-        TextKind::Keyword => b"Keyword",
-        TextKind::Order => b"Order",
-        TextKind::Field => b"Field",
-        TextKind::Count => b"Count",
-        TextKind::EndCount => b"EndCount",
-        TextKind::EofCount => b"EofCount",
-        TextKind::Unended => b"Unended",
-        TextKind::TooLarge => b"TooLarge",
-        TextKind::Memory => b"Memory",
-    }
-}
 
 /// Writes a further part of a line, unless a part before it failed: a line of parts begins with `true`. It tells whether all parts so far
 /// are there; so what a sink took is an initial part of the line, and where its last part is there, the whole.

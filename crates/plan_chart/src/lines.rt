@@ -5,7 +5,7 @@ ghost use Rattle.input_files.specs.Lines.{IsTold};
 ghost use Rattle.plan_chart.specs.Lines.{line_of};
 
 use crate::status::Status;
-use input_files::{text_kind, write_line, write_number, write_part};
+use input_files::{write_line, write_number, write_part};
 use plan_core::Sink;
 use plan_rows::Place;
 use vdv451_text::TextFault;
@@ -16,7 +16,7 @@ fn tell_text<E: Sink>(err: &mut E, fault: TextFault)
     let is_whole = write_part(err, true, b"file 1 line ");
     let is_whole = write_number(err, is_whole, fault.line as u64);
     let is_whole = write_part(err, is_whole, b": ");
-    let is_whole = write_part(err, is_whole, text_kind(fault.kind));
+    let is_whole = write_part(err, is_whole, fault.kind.name());
     let _ = write_part(err, is_whole, b"\n");
 }
 

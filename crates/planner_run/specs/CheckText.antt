@@ -7,12 +7,12 @@ use Rattle.day_model.specs.Facts.{DayFacts}
 use Rattle.cert_check.specs.declared.reason.Answered.{Answered}
 use Rattle.cert_check.specs.declared.reason.Answered.TheVariants.{Yes, No}
 use Rattle.cert_check.specs.declared.reason.Reason.{Reason}
+use Rattle.cert_check.specs.Names.{name_of as reason_name, number_of as reason_number}
 use Rattle.cert_check.specs.Reasons.{IsAnswer as IsCheckerAnswer}
 use Rattle.planner_run.specs.declared.status.Status.{Status}
 use Rattle.planner_run.specs.declared.status.Status.TheVariants as statuses
 use Rattle.input_files.specs.Lines.{joined as joined_line}
 use Rattle.planner_run.specs.Model.{IsModelOf}
-use Rattle.planner_run.specs.Reasons.{reason_name, reason_number}
 
 -- the line of an answer of the checker
 abbrev pub no_line : Reason → List ℕ

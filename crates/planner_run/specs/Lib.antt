@@ -6,7 +6,6 @@ pub mod MadeText
 pub mod Endings
 pub mod Model
 pub mod PlanText
-pub mod Reasons
 pub mod ReplanText
 pub mod Run
 pub mod Tasks

@@ -5,7 +5,6 @@ ghost use Rattle.vdv451_text.specs.Plain.{are_plain, is_plain_table};
 ghost use Rattle.plan_command.specs.PlanText.{HasTripRows};
 ghost use Rattle.planner_run.specs.CheckText.{IsCheckText, IsCheckTextOver, check_line as check_line_of, ending_of as ending_by, no_line as no_line_of};
 ghost use Rattle.planner_run.specs.Model.{IsModelRefused};
-ghost use Rattle.planner_run.specs.Reasons.{reason_name as reason_name_of, reason_number as reason_number_of};
 
 use crate::outcome::Outcome;
 use crate::ready::{Ready, ready_day};
@@ -16,55 +15,15 @@ use plan_core::{Bytes, Memory, Seq};
 use std::alloc::Global;
 use vdv451_text::Table;
 
-/// The number of a reason.
-pub(crate) fn reason_number(reason: &Reason) -> u64
-    ensures { result ≡ reason_number_of reason.now }
-{
-    match reason {
-        Reason::PlanForm { .. } => 1,
-        Reason::TripTimes { .. } => 2,
-        Reason::BlockUnlawful { .. } => 3,
-        Reason::PoolOver { .. } => 4,
-        Reason::PieceTimes { .. } => 5,
-        Reason::DutyUnlawful { .. } => 6,
-        Reason::GroupOver { .. } => 7,
-        Reason::PlanDiffers { .. } => 8,
-        Reason::CertForm { .. } => 9,
-        Reason::NegativeClassPrice { .. } => 10,
-        Reason::Uncovered { .. } => 12,
-        Reason::BoundTooHigh { .. } => 13,
-    }
-}
-
-/// The name of a reason.
-pub(crate) fn reason_name(reason: &Reason) -> &'static [u8]
-    ensures { result.now ≡ reason_name_of reason.now }
-{
-    match reason {
-        Reason::PlanForm { .. } => b"PlanForm",
-        Reason::TripTimes { .. } => b"TripTimes",
-        Reason::BlockUnlawful { .. } => b"BlockUnlawful",
-        Reason::PoolOver { .. } => b"PoolOver",
-        Reason::PieceTimes { .. } => b"PieceTimes",
-        Reason::DutyUnlawful { .. } => b"DutyUnlawful",
-        Reason::GroupOver { .. } => b"GroupOver",
-        Reason::PlanDiffers { .. } => b"PlanDiffers",
-        Reason::CertForm { .. } => b"CertForm",
-        Reason::NegativeClassPrice { .. } => b"NegativeClassPrice",
-        Reason::Uncovered { .. } => b"Uncovered",
-        Reason::BoundTooHigh { .. } => b"BoundTooHigh",
-    }
-}
-
 /// The line of a no: number and name of the reason.
 fn no_line(alloc: Global, reason: &Reason) -> Result<Bytes, Memory>
     ensures { IfOk result (λ line. line ≡ no_line_of reason.now) }
 {
     let mut digits = Buffer::new();
     let mut line = Vec::from_slice(alloc, b"no ")?;
-    line.extend_from_slice(digits.format(reason_number(reason)).as_bytes())?;
+    line.extend_from_slice(digits.format(reason.number()).as_bytes())?;
     line.extend_from_slice(b" ")?;
-    line.extend_from_slice(reason_name(reason))?;
+    line.extend_from_slice(reason.name())?;
     line.extend_from_slice(b"\n")?;
     Ok(Bytes::from_vec(line))
 }

@@ -2,71 +2,22 @@
 
 ghost use Rattle.std.specs.Prelude.{◌≡◌, false, ◌++◌, ◌∷◌, [], ℕ, List, codes, decimal};
 ghost use Rattle.input_files.specs.Lines.{IsTold, joined};
+ghost use Rattle.day_method.specs.Names.{name_of as side_name};
+ghost use Rattle.cert_check.specs.Names.{name_of as reason_name, number_of as reason_number};
 ghost use Rattle.planner_run.specs.Endings.{is_done};
 ghost use Rattle.planner_run.specs.Lines as spec;
-ghost use Rattle.planner_run.specs.Reasons.{reason_name as reason_name_of, reason_number as reason_number_of};
 
-use crate::check::{reason_name, reason_number};
 use crate::status::{InputFault, Status};
 use cert_check::Reason;
 use day_calendar::DayFault;
 use day_method::Side;
-use input_files::{text_kind, write_line, write_number, write_part};
+use input_files::{write_line, write_number, write_part};
 use plan_command::ItemName;
 use plan_core::{Point, Sink};
-use plan_params::{ParamFault, ParamKind};
+use plan_params::ParamFault;
 use trip_times::TripFault;
 use vdv451_text::TextFault;
-use vdv452_tables::{TableFault, TableKind};
-
-/// The name of a kind of fault of the tables.
-fn table_kind(kind: TableKind) -> &'static [u8]
-    ensures { result.now ≡ spec.table_kind kind }
-{
-    match kind {
-        TableKind::TableTwice => b"TableTwice",
-        TableKind::NoTable => b"NoTable",
-        TableKind::NoColumn => b"NoColumn",
-        TableKind::NoValue => b"NoValue",
-        TableKind::Range => b"Range",
-        TableKind::KeyTwice => b"KeyTwice",
-        TableKind::Memory => b"Memory",
-    }
-}
-
-/// The name of a kind of fault of the settings.
-fn param_kind(kind: ParamKind) -> &'static [u8]
-    ensures { result.now ≡ spec.param_kind kind }
-{
-    match kind {
-        ParamKind::NotOne => b"NotOne",
-        ParamKind::TooMany => b"TooMany",
-        ParamKind::UnknownPoint => b"UnknownPoint",
-        ParamKind::UnknownType => b"UnknownType",
-        ParamKind::Memory => b"Memory",
-    }
-}
-
-/// The name of a fault of a day.
-fn day_kind(fault: DayFault) -> &'static [u8]
-    ensures { result.now ≡ spec.day_kind fault }
-{
-    match fault {
-        DayFault::NoVersion => b"NoVersion",
-        DayFault::NoDay => b"NoDay",
-        DayFault::NoDate => b"NoDate",
-    }
-}
-
-/// The name of a side.
-fn side_name(side: Side) -> &'static [u8]
-    ensures { result.now ≡ spec.side_name side }
-{
-    match side {
-        Side::Vehicles => b"vehicles",
-        Side::Drivers => b"drivers",
-    }
-}
+use vdv452_tables::TableFault;
 
 fn tell_text<E: Sink>(err: &mut E, file: u32, fault: &TextFault)
     ensures { (day : List ℕ) → IsTold (E.taken err.old) (E.taken err.new) (E.faults err.old) (E.faults err.new) (spec.line_of day (Status.Input (InputFault.Text file fault.now))) }
@@ -76,7 +27,7 @@ fn tell_text<E: Sink>(err: &mut E, file: u32, fault: &TextFault)
     let is_whole = write_part(err, is_whole, b" line ");
     let is_whole = write_number(err, is_whole, fault.line as u64);
     let is_whole = write_part(err, is_whole, b": ");
-    let is_whole = write_part(err, is_whole, text_kind(fault.kind));
+    let is_whole = write_part(err, is_whole, fault.kind.name());
     let _ = write_part(err, is_whole, b"\n");
 }
 
@@ -90,7 +41,7 @@ fn tell_table<E: Sink>(err: &mut E, fault: &TableFault)
     let is_whole = write_part(err, is_whole, b" row ");
     let is_whole = write_number(err, is_whole, fault.row as u64);
     let is_whole = write_part(err, is_whole, b": ");
-    let is_whole = write_part(err, is_whole, table_kind(fault.kind));
+    let is_whole = write_part(err, is_whole, fault.kind.name());
     let _ = write_part(err, is_whole, b"\n");
 }
 
@@ -102,7 +53,7 @@ fn tell_params<E: Sink>(err: &mut E, fault: &ParamFault)
     let is_whole = write_part(err, is_whole, b" row ");
     let is_whole = write_number(err, is_whole, fault.row as u64);
     let is_whole = write_part(err, is_whole, b": ");
-    let is_whole = write_part(err, is_whole, param_kind(fault.kind));
+    let is_whole = write_part(err, is_whole, fault.kind.name());
     let _ = write_part(err, is_whole, b"\n");
 }
 
@@ -117,14 +68,15 @@ fn tell_word<E: Sink>(err: &mut E, fid: u64, word: &[u8])
     let _ = write_part(err, is_whole, b"\n");
 }
 
-/// Writes a trip and the section that has no run time.
-fn tell_gap<E: Sink>(err: &mut E, fid: u64, from: Point, to: Point)
-    ensures { IsTold (E.taken err.old) (E.taken err.new) (E.faults err.old) (E.faults err.new) (joined (codes "trip " ∷ decimal fid ∷ codes ": " ∷ codes "NoRunTime " ∷ decimal from.typ ∷ codes "/" ∷ decimal from.nr ∷ codes " to " ∷ decimal to.typ ∷ codes "/" ∷ decimal to.nr ∷ codes "\n" ∷ [])) }
+/// Writes a trip, a word and the section that has no run time.
+fn tell_gap<E: Sink>(err: &mut E, fid: u64, word: &[u8], from: Point, to: Point)
+    ensures { IsTold (E.taken err.old) (E.taken err.new) (E.faults err.old) (E.faults err.new) (joined (codes "trip " ∷ decimal fid ∷ codes ": " ∷ word.now ∷ codes " " ∷ decimal from.typ ∷ codes "/" ∷ decimal from.nr ∷ codes " to " ∷ decimal to.typ ∷ codes "/" ∷ decimal to.nr ∷ codes "\n" ∷ [])) }
 {
     let is_whole = write_part(err, true, b"trip ");
     let is_whole = write_number(err, is_whole, fid);
     let is_whole = write_part(err, is_whole, b": ");
-    let is_whole = write_part(err, is_whole, b"NoRunTime ");
+    let is_whole = write_part(err, is_whole, word);
+    let is_whole = write_part(err, is_whole, b" ");
     let is_whole = write_number(err, is_whole, from.typ as u64);
     let is_whole = write_part(err, is_whole, b"/");
     let is_whole = write_number(err, is_whole, from.nr as u64);
@@ -139,10 +91,12 @@ fn tell_trip<E: Sink>(err: &mut E, fid: u64, fault: TripFault)
     ensures { (day : List ℕ) → IsTold (E.taken err.old) (E.taken err.new) (E.faults err.old) (E.faults err.new) (spec.line_of day (Status.Input (InputFault.Trip fid fault))) }
 {
     match fault {
-        TripFault::NoRoute => tell_word(err, fid, b"NoRoute"),
-        TripFault::ShortRoute => tell_word(err, fid, b"ShortRoute"),
-        TripFault::NoRunTime { from, to } => tell_gap(err, fid, from, to),
-        TripFault::PastEnd => tell_word(err, fid, b"PastEnd"),
+        TripFault::NoRunTime { from, to } => tell_gap(err, fid, fault.name(), from, to),
+        TripFault::NoRoute | TripFault::ShortRoute | TripFault::PastEnd => tell_word(
+            err,
+            fid,
+            fault.name(),
+        ),
     }
 }
 
@@ -161,16 +115,16 @@ fn tell_day<E: Sink>(err: &mut E, day: &[u8], fault: DayFault)
     let is_whole = write_part(err, true, b"day ");
     let is_whole = write_part(err, is_whole, day);
     let is_whole = write_part(err, is_whole, b": ");
-    let is_whole = write_part(err, is_whole, day_kind(fault));
+    let is_whole = write_part(err, is_whole, fault.name());
     let _ = write_part(err, is_whole, b"\n");
 }
 
 /// Writes that a side has no plan, with the bound and the places.
 fn tell_no_plan<E: Sink>(err: &mut E, side: Side, bound: u64, places: u64)
-    ensures { IsTold (E.taken err.old) (E.taken err.new) (E.faults err.old) (E.faults err.new) (joined (codes "no plan: " ∷ spec.side_name side ∷ codes " bound " ∷ decimal bound ∷ codes " places " ∷ decimal places ∷ codes "\n" ∷ [])) }
+    ensures { IsTold (E.taken err.old) (E.taken err.new) (E.faults err.old) (E.faults err.new) (joined (codes "no plan: " ∷ side_name side ∷ codes " bound " ∷ decimal bound ∷ codes " places " ∷ decimal places ∷ codes "\n" ∷ [])) }
 {
     let is_whole = write_part(err, true, b"no plan: ");
-    let is_whole = write_part(err, is_whole, side_name(side));
+    let is_whole = write_part(err, is_whole, side.name());
     let is_whole = write_part(err, is_whole, b" bound ");
     let is_whole = write_number(err, is_whole, bound);
     let is_whole = write_part(err, is_whole, b" places ");
@@ -211,12 +165,12 @@ fn tell_left<E: Sink>(err: &mut E, name: ItemName)
 
 /// Writes that an earlier plan is refused, with the number and the name of the reason.
 fn tell_old_plan<E: Sink>(err: &mut E, reason: &Reason)
-    ensures { IsTold (E.taken err.old) (E.taken err.new) (E.faults err.old) (E.faults err.new) (joined (codes "old plan " ∷ decimal (reason_number_of reason.now) ∷ codes " " ∷ reason_name_of reason.now ∷ codes "\n" ∷ [])) }
+    ensures { IsTold (E.taken err.old) (E.taken err.new) (E.faults err.old) (E.faults err.new) (joined (codes "old plan " ∷ decimal (reason_number reason.now) ∷ codes " " ∷ reason_name reason.now ∷ codes "\n" ∷ [])) }
 {
     let is_whole = write_part(err, true, b"old plan ");
-    let is_whole = write_number(err, is_whole, reason_number(reason));
+    let is_whole = write_number(err, is_whole, reason.number());
     let is_whole = write_part(err, is_whole, b" ");
-    let is_whole = write_part(err, is_whole, reason_name(reason));
+    let is_whole = write_part(err, is_whole, reason.name());
     let _ = write_part(err, is_whole, b"\n");
 }
 

@@ -19,7 +19,7 @@ use day_calendar::{DayKind, day_rows};
 use day_model::MOST_TRIPS;
 use plan_core::{Bytes, Memory, Seq};
 use std::alloc::Global;
-use vdv451_text::{Field, Table, write_tables, copied_columns, copied_row};
+use vdv451_text::{Field, Table, copied_columns, copied_row, write_tables};
 use vdv452_tables::{Needs, Network};
 
 /// The rows that stand at these places.

@@ -12,9 +12,7 @@ use day_model::Day;
 use itoa::Buffer;
 use plan_core::{Bytes, Memory, Seq};
 use std::alloc::Global;
-use vdv451_text::{
-    Field, FieldBytes, Head, Table, copied_columns, copied_row, is_number_format,
-};
+use vdv451_text::{Field, FieldBytes, Head, Table, copied_columns, copied_row, is_number_format};
 use vdv452_tables::column_place;
 
 /// The number of a block in a column of a format: a number in a column of numbers, else its bare digits.

@@ -10,8 +10,8 @@ use plan_core::{Bytes, Memory, Point};
 use std::alloc::Global;
 use std::hash::Hash;
 use vdv452_rows::{
-    CalendarRow, GroupDwellRow, LineRow, PointRow, RunRow, SectionRow, TripDwellRow,
-    TypeRow, bytes_of,
+    CalendarRow, GroupDwellRow, LineRow, PointRow, RunRow, SectionRow, TripDwellRow, TypeRow,
+    bytes_of,
 };
 
 /// The key of a day in FIRMENKALENDER.

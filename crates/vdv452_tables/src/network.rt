@@ -247,7 +247,7 @@ impl Network {
         ensures range { IfSome result IsTime }
     {
         let key = MoveKey::new(version, area, group, from, to);
-        dead_time_in(self.rows.deads.as_slice(), key)
+        dead_time_in(self.dead_rows(), key)
     }
 
     /// All rows of UEB_FZT in their order, those of other versions too. It takes no memory.

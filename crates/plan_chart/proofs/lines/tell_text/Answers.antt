@@ -1,5 +1,6 @@
 use Rattle.std.proofs.Common.{◌∷◌, [], codes, decimal}
-use Rattle.input_files.specs.Lines.{joined, text_kind}
+use Rattle.vdv451_text.specs.Names.{name_of}
+use Rattle.input_files.specs.Lines.{joined}
 use Rattle.plan_chart.specs.Lines as spec
 use Rattle.plan_chart.specs.declared.status.Status.TheVariants as statuses
 use Rattle.input_files.proofs.LineLemmas.{named_part, telling_begins, telling_ends}
@@ -10,12 +11,12 @@ returns g c =
     let old = g.E.Sink.taken c.args.err.now in
     let faults = g.E.Sink.faults c.args.err.now in
     let fault = c.args.fault in
-    let kind = text_kind fault.kind in
+    let kind = name_of fault.kind in
     let line = spec.line_of (statuses.Text fault) in
     let s1 = c.write_part-is_whole.ensures old faults line (joined (decimal fault.line ∷ codes ": " ∷ kind ∷ codes "\n" ∷ []))
     (telling_begins old faults line) in
     let s2 = c.write_number-is_whole.ensures old faults line (joined (codes ": " ∷ kind ∷ codes "\n" ∷ [])) s1 in
     let s3 = c.write_part-is_whole-2.ensures old faults line (joined (kind ∷ codes "\n" ∷ [])) s2 in
     let s4 = c.write_part-is_whole-3.ensures old faults line (joined (codes "\n" ∷ []))
-    (named_part old _ faults _ line kind c.text_kind.result.now (joined (codes "\n" ∷ [])) _ c.text_kind.ensures s3) in
+    (named_part old _ faults _ line kind c.name.result.now (joined (codes "\n" ∷ [])) _ c.name.ensures s3) in
     telling_ends old _ faults _ line c.write_part.result (c.write_part.ensures old faults line [] s4)

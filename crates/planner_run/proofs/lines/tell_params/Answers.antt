@@ -1,4 +1,5 @@
 use Rattle.std.proofs.Common.{◌∷◌, [], codes, decimal}
+use Rattle.plan_params.specs.Names.{name_of}
 use Rattle.input_files.specs.Lines.{joined}
 use Rattle.planner_run.specs.Lines as spec
 use Rattle.planner_run.specs.declared.status.Status.TheVariants as statuses
@@ -11,7 +12,7 @@ returns g c = λ day.
     let old = g.E.Sink.taken c.args.err.now in
     let faults = g.E.Sink.faults c.args.err.now in
     let fault = c.args.fault.now in
-    let kind = spec.param_kind fault.kind in
+    let kind = name_of fault.kind in
     let line = spec.line_of day (statuses.Input (inputs.Params fault)) in
     let s1 = c.write_part-is_whole.ensures old faults line
     (joined (fault.table ∷ codes " row " ∷ decimal fault.row ∷ codes ": " ∷ kind ∷ codes "\n" ∷ [])) (telling_begins old faults line) in
@@ -23,5 +24,5 @@ returns g c = λ day.
     let s4 = c.write_number-is_whole.ensures old faults line (joined (codes ": " ∷ kind ∷ codes "\n" ∷ [])) s3 in
     let s5 = c.write_part-is_whole-4.ensures old faults line (joined (kind ∷ codes "\n" ∷ [])) s4 in
     let s6 = c.write_part-is_whole-5.ensures old faults line (joined (codes "\n" ∷ []))
-    (named_part old _ faults _ line kind c.param_kind.result.now (joined (codes "\n" ∷ [])) _ c.param_kind.ensures s5) in
+    (named_part old _ faults _ line kind c.name.result.now (joined (codes "\n" ∷ [])) _ c.name.ensures s5) in
     telling_ends old _ faults _ line c.write_part.result (c.write_part.ensures old faults line [] s6)

@@ -1,4 +1,5 @@
 use Rattle.std.proofs.Common.{◌∷◌, [], codes, decimal}
+use Rattle.vdv452_rows.specs.Names.{name_of}
 use Rattle.input_files.specs.Lines.{joined}
 use Rattle.planner_run.specs.Lines as spec
 use Rattle.planner_run.specs.declared.status.Status.TheVariants as statuses
@@ -11,7 +12,7 @@ returns g c = λ day.
     let old = g.E.Sink.taken c.args.err.now in
     let faults = g.E.Sink.faults c.args.err.now in
     let fault = c.args.fault.now in
-    let kind = spec.table_kind fault.kind in
+    let kind = name_of fault.kind in
     let line = spec.line_of day (statuses.Input (inputs.Table fault)) in
     let s1 = c.write_part-is_whole.ensures old faults line
     (joined (fault.table ∷ codes " column " ∷ fault.column ∷ codes " row " ∷ decimal fault.row ∷ codes ": " ∷ kind ∷ codes "\n" ∷ []))
@@ -31,5 +32,5 @@ returns g c = λ day.
     let s6 = c.write_number-is_whole.ensures old faults line (joined (codes ": " ∷ kind ∷ codes "\n" ∷ [])) s5 in
     let s7 = c.write_part-is_whole-6.ensures old faults line (joined (kind ∷ codes "\n" ∷ [])) s6 in
     let s8 = c.write_part-is_whole-7.ensures old faults line (joined (codes "\n" ∷ []))
-    (named_part old _ faults _ line kind c.table_kind.result.now (joined (codes "\n" ∷ [])) _ c.table_kind.ensures s7) in
+    (named_part old _ faults _ line kind c.name.result.now (joined (codes "\n" ∷ [])) _ c.name.ensures s7) in
     telling_ends old _ faults _ line c.write_part.result (c.write_part.ensures old faults line ([]) s8)
