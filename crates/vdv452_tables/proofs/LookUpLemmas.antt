@@ -29,19 +29,6 @@ module _ {K V R : Type 0} (same : K → K → Bool) (key_of : R → K) (value_of
   put_first row rows key true = refl
   put_first row rows key false = refl
 
-  -- rows are read from the first on: a row with the key decides, and behind a row without it the rows that are left do
-  pub value_here : (rows : List R) (i : ℕ) (row : R) (key : K) → i < length rows → row ≡ get_or rows i row → same (key_of row) key ≡ true →
-      value_at same key_of value_of (drop i rows) key ≡ Some (value_of row)
-  value_here rows i row key within is yes =
-      ap (λ rs. value_at same key_of value_of rs key) (drop_item rows i row within is)
-      ∙ ap (λ (b : Bool). option_map value_of (if b then Some row else find (λ r. same (key_of r) key) (drop (i + 1) rows))) yes
-
-  pub value_past : (rows : List R) (i : ℕ) (row : R) (key : K) → i < length rows → row ≡ get_or rows i row → same (key_of row) key ≡ false →
-      value_at same key_of value_of (drop i rows) key ≡ value_at same key_of value_of (drop (i + 1) rows) key
-  value_past rows i row key within is no =
-      ap (λ rs. value_at same key_of value_of rs key) (drop_item rows i row within is)
-      ∙ ap (λ (b : Bool). option_map value_of (if b then Some row else find (λ r. same (key_of r) key) (drop (i + 1) rows))) no
-
   -- A row put into an index before the rows behind it. The code goes through the rows from the last to the first, and each takes
   -- the place of one with its key: so the index always gives what the first row with the key among those passed gives, as the
   -- definition's look-up does. At the end all rows are passed, and a look-up in the index is one in the table, twice-used keys
