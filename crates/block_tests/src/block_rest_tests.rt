@@ -8,7 +8,6 @@ ghost use Rattle.block_rest.specs.Heads.{AreOfDay};
 ghost use Rattle.block_rest.specs.Rest.{begun_of};
 
 use crate::days::two_pool_day;
-use crate::searches::{agrees, worth_of};
 use block_rest::{BlockRest, Head, heads, heads_are_heads, kept_is_same_heads};
 use cover_core::{Column, Columns, Items, Plan, Worth};
 use cover_rest::rest_is_kept;
@@ -17,6 +16,7 @@ use depot_network::PoolNet;
 use plan_core::{Memory, Seq};
 use std::alloc::Global;
 use std::test::Fail;
+use tried_lists::{agrees, worth_of};
 
 /// A column.
 fn column(alloc: Global, class: u32, worth: u64, items: &[u32]) -> Result<Column, Memory>

@@ -1,11 +1,11 @@
 //! Blocks of small days: two trips, from 1 to 2 and back, and a depot at 9.
 
 use crate::days::day;
-use crate::searches::worth_of;
 use cover_core::{Columns, Worth};
 use depot_network::PoolNet;
 use std::alloc::Global;
 use std::test::Fail;
+use tried_lists::worth_of;
 
 /// Whether lists of the trips of a day are worth this.
 fn has_worths(

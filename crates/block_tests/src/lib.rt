@@ -15,5 +15,3 @@ mod depot_network_tests;
 mod one_pool_flow_tests;
 #[cfg(test)]
 mod path_pricing_tests;
-#[cfg(test)]
-mod searches;

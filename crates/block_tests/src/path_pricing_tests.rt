@@ -1,13 +1,13 @@
 //! The blocks of least value of small days, against a search through all their lists.
 
 use crate::days::day;
-use crate::searches::{agrees, best, searched};
 use cover_core::{Columns, Worth};
 use depot_network::PoolNet;
 use path_pricing::PathPricer;
 use plan_core::Memory;
 use std::alloc::Global;
 use std::test::Fail;
+use tried_lists::{agrees, best, searched};
 
 /// The worth of a block, and how many trips it has.
 type Block = Option<(u64, usize)>;

@@ -8,98 +8,21 @@ ghost use Rattle.duty_network.specs.Ranges.{IsShift};
 
 use cover_core::{Prices, Worth};
 use duty_network::DutyNet;
-use plan_core::{Memory, Piece, Point, Price, Sec, Seq};
-use plan_params::{Params, read_params};
+use plan_core::{Memory, Piece, Price, Sec, Seq};
+use plan_params::Params;
+use small_networks::{DEPOT, Rows, STOP, driver_settings};
 use std::alloc::Global;
 use std::test::Fail;
-use vdv451_text::read_file;
-use vdv452_tables::{Needs, read_tables};
 
-/// The way between the depot (2, 9) and the point (1, 2) takes 1,200 seconds. There is one group of drivers.
-const SETTINGS: &[u8] = b"tbl; BASIS_VER_GUELTIGKEIT
-atr; VER_GUELTIGKEIT; BASIS_VERSION
-frm; num[10.0]; num[10.0]
-end; 0
-tbl; FIRMENKALENDER
-atr; BASIS_VERSION; BETRIEBSTAG; TAGESART_NR
-frm; num[10.0]; num[10.0]; num[10.0]
-end; 0
-tbl; REC_ORT
-atr; BASIS_VERSION; ONR_TYP_NR; ORT_NR
-frm; num[10.0]; num[10.0]; num[10.0]
-rec; 1; 1; 2
-rec; 1; 2; 9
-end; 2
-tbl; REC_SEL
-atr; BASIS_VERSION; BEREICH_NR; ONR_TYP_NR; ORT_NR; SEL_ZIEL_TYP; SEL_ZIEL; SEL_LAENGE
-frm; num[10.0]; num[10.0]; num[10.0]; num[10.0]; num[10.0]; num[10.0]; num[10.0]
-end; 0
-tbl; SEL_FZT_FELD
-atr; BASIS_VERSION; BEREICH_NR; FGR_NR; ONR_TYP_NR; ORT_NR; SEL_ZIEL_TYP; SEL_ZIEL; SEL_FZT
-frm; num[10.0]; num[10.0]; num[10.0]; num[10.0]; num[10.0]; num[10.0]; num[10.0]; num[10.0]
-end; 0
-tbl; REC_LID
-atr; BASIS_VERSION; LI_NR; STR_LI_VAR; BEREICH_NR
-frm; num[10.0]; num[10.0]; num[10.0]; num[10.0]
-end; 0
-tbl; LID_VERLAUF
-atr; BASIS_VERSION; LI_NR; STR_LI_VAR; LI_LFD_NR; ONR_TYP_NR; ORT_NR
-frm; num[10.0]; num[10.0]; num[10.0]; num[10.0]; num[10.0]; num[10.0]
-end; 0
-tbl; REC_FRT
-atr; BASIS_VERSION; FRT_FID; FRT_START; LI_NR; TAGESART_NR; FAHRTART_NR; FGR_NR; STR_LI_VAR; UM_UID
-frm; num[10.0]; num[10.0]; num[10.0]; num[10.0]; num[10.0]; num[10.0]; num[10.0]; num[10.0]; num[10.0]
-end; 0
-tbl; UEB_FZT
-atr; BASIS_VERSION; BEREICH_NR; FGR_NR; ONR_TYP_NR; ORT_NR; UEB_ZIEL_TYP; UEB_ZIEL; UEB_FAHRZEIT
-frm; num[10.0]; num[10.0]; num[10.0]; num[10.0]; num[10.0]; num[10.0]; num[10.0]; num[10.0]
-end; 0
-tbl; MENGE_FZG_TYP
-atr; BASIS_VERSION; FZG_TYP_NR
-frm; num[10.0]; num[10.0]
-end; 0
-tbl; X_PLAN
-atr; UEB_BEREICH_NR; UEB_FGR_NR; WENDE_SEK; MAX_WARTE_SEK; UEBERGABE_SEK
-frm; num[10.0]; num[10.0]; num[10.0]; num[10.0]; num[10.0]
-rec; 1; 1; 300; 7200; 300
-end; 1
-tbl; X_HOF
-atr; HOF_NR; ONR_TYP_NR; ORT_NR; FZG_TYP_NR; ANZAHL; FIX_KOSTEN; LEER_SATZ; STAND_SATZ
-frm; num[10.0]; num[10.0]; num[10.0]; num[10.0]; num[10.0]; num[10.0]; num[10.0]; num[10.0]
-end; 0
-tbl; X_WEG
-atr; ONR_TYP_NR; ORT_NR; ZIEL_TYP; ZIEL_NR; WEG_SEK
-frm; num[10.0]; num[10.0]; num[10.0]; num[10.0]; num[10.0]
-rec; 1; 2; 2; 9; 1200
-rec; 2; 9; 1; 2; 1200
-end; 2
-tbl; X_FAHRER
-atr; GRUPPE_NR; ONR_TYP_NR; ORT_NR; ANZAHL; FIX_KOSTEN; SATZ; ANMELDE_SEK; ABMELDE_SEK; ZEHN_STD; KURZE_RUHE
-frm; num[10.0]; num[10.0]; num[10.0]; num[10.0]; num[10.0]; num[10.0]; num[10.0]; num[10.0]; num[10.0]; num[10.0]
-rec; 1; 2; 9; 2; 500; 1; 600; 300; 0; 0
-end; 1
-eof; 14
-";
+/// The one group of drivers.
+const GROUP: Rows = &["1; 2; 9; 2; 500; 1; 600; 300; 0; 0"];
 
-/// The settings of a text.
-fn settings_of(alloc: Global, text: &[u8]) -> Result<Params, Fail>
-    ensures { IfOk result HaveRanges }
-{
-    let tables = read_file(alloc, text, 100_000)?;
-    let net = read_tables(alloc, tables.as_slice(), Needs::All)?;
-    Ok(read_params(alloc, &net, 1)?)
-}
-
-/// The settings of all tests. The text stands here alone, so that no other proof carries it along.
+/// The settings of all tests.
 pub(crate) fn settings(alloc: Global) -> Result<Params, Fail>
     ensures { IfOk result HaveRanges }
 {
-    settings_of(alloc, SETTINGS)
+    driver_settings(alloc, GROUP)
 }
-
-const DEPOT: Point = Point { typ: 2, nr: 9 };
-
-const STOP: Point = Point { typ: 1, nr: 2 };
 
 /// How long a piece lasts.
 fn duration(begin: i64, end: i64) -> i64

@@ -3,123 +3,24 @@
 ghost use Rattle.std.specs.Prelude.{◌<◌, ◌^◌, ◌↔◌, All, IsTrue, length};
 ghost use Rattle.price_rounds.specs.Efforts.{IsEffort};
 
-use day_calendar::DayKind;
 use day_maker::make_tables;
-use day_model::{Day, build_day};
+use day_model::Day;
 use plan_cert::read_cert;
 use plan_certify::{certificate_text, day_is_certified_once};
 use plan_command::{Method, plan_day};
 use plan_core::{Bytes, NoGate};
 use price_rounds::Effort;
+use small_networks::{DEMO, day_in, day_over};
 use std::alloc::Global;
 use std::test::Fail;
 use std::thread::Threads;
 use vdv451_text::{Table, read_file};
 use vdv452_tables::{Needs, read_tables};
 
-/// The example day: two trips, from 1 to 2 and back, one depot with two vehicles and one group of two drivers.
-const NETWORK: &[u8] = b"mod; DD.MM.YYYY; HH:MM:SS; free
-src; \"demo\"; \"01.01.2000\"; \"00:00:00\"
-chs; \"ISO8859-1\"
-ver; \"1.4\"
-ifv; \"1.4\"
-dve; \"1.4\"
-fft; \"\"
-tbl; BASIS_VER_GUELTIGKEIT
-atr; VER_GUELTIGKEIT; BASIS_VERSION
-frm; num[10.0]; num[10.0]
-rec; 20260101; 1
-end; 1
-tbl; FIRMENKALENDER
-atr; BASIS_VERSION; BETRIEBSTAG; TAGESART_NR
-frm; num[10.0]; num[10.0]; num[10.0]
-rec; 1; 20260302; 1
-end; 1
-tbl; REC_ORT
-atr; BASIS_VERSION; ONR_TYP_NR; ORT_NR
-frm; num[10.0]; num[10.0]; num[10.0]
-rec; 1; 1; 1
-rec; 1; 1; 2
-rec; 1; 2; 9
-end; 3
-tbl; REC_SEL
-atr; BASIS_VERSION; BEREICH_NR; ONR_TYP_NR; ORT_NR; SEL_ZIEL; SEL_ZIEL_TYP; SEL_LAENGE
-frm; num[10.0]; num[10.0]; num[10.0]; num[10.0]; num[10.0]; num[10.0]; num[10.0]
-rec; 1; 1; 1; 1; 2; 1; 60000
-rec; 1; 1; 1; 2; 1; 1; 60000
-end; 2
-tbl; SEL_FZT_FELD
-atr; BASIS_VERSION; BEREICH_NR; FGR_NR; ONR_TYP_NR; ORT_NR; SEL_ZIEL; SEL_ZIEL_TYP; SEL_FZT
-frm; num[10.0]; num[10.0]; num[10.0]; num[10.0]; num[10.0]; num[10.0]; num[10.0]; num[10.0]
-rec; 1; 1; 1; 1; 1; 2; 1; 3600
-rec; 1; 1; 1; 1; 2; 1; 1; 3600
-end; 2
-tbl; REC_LID
-atr; BASIS_VERSION; LI_NR; STR_LI_VAR; BEREICH_NR
-frm; num[10.0]; num[10.0]; char[6]; num[10.0]
-rec; 1; 1; \"H\"; 1
-rec; 1; 1; \"R\"; 1
-end; 2
-tbl; LID_VERLAUF
-atr; BASIS_VERSION; LI_LFD_NR; LI_NR; STR_LI_VAR; ONR_TYP_NR; ORT_NR
-frm; num[10.0]; num[10.0]; num[10.0]; char[6]; num[10.0]; num[10.0]
-rec; 1; 1; 1; \"H\"; 1; 1
-rec; 1; 2; 1; \"H\"; 1; 2
-rec; 1; 1; 1; \"R\"; 1; 2
-rec; 1; 2; 1; \"R\"; 1; 1
-end; 4
-tbl; REC_FRT
-atr; BASIS_VERSION; FRT_FID; FRT_START; LI_NR; TAGESART_NR; FAHRTART_NR; FGR_NR; STR_LI_VAR; UM_UID
-frm; num[10.0]; num[10.0]; num[10.0]; num[10.0]; num[10.0]; num[10.0]; num[10.0]; char[6]; num[10.0]
-rec; 1; 1; 28800; 1; 1; 1; 1; \"H\"; NULL
-rec; 1; 2; 33000; 1; 1; 1; 1; \"R\"; NULL
-end; 2
-tbl; UEB_FZT
-atr; BASIS_VERSION; BEREICH_NR; FGR_NR; ONR_TYP_NR; ORT_NR; UEB_ZIEL_TYP; UEB_ZIEL; UEB_FAHRZEIT
-frm; num[10.0]; num[10.0]; num[10.0]; num[10.0]; num[10.0]; num[10.0]; num[10.0]; num[10.0]
-rec; 1; 1; 1; 2; 9; 1; 1; 600
-rec; 1; 1; 1; 1; 1; 2; 9; 600
-rec; 1; 1; 1; 2; 9; 1; 2; 900
-rec; 1; 1; 1; 1; 2; 2; 9; 900
-end; 4
-tbl; MENGE_FZG_TYP
-atr; BASIS_VERSION; FZG_TYP_NR
-frm; num[10.0]; num[10.0]
-rec; 1; 1
-end; 1
-tbl; X_PLAN
-atr; UEB_BEREICH_NR; UEB_FGR_NR; WENDE_SEK; MAX_WARTE_SEK; UEBERGABE_SEK
-frm; num[10.0]; num[10.0]; num[10.0]; num[10.0]; num[10.0]
-rec; 1; 1; 300; 7200; 300
-end; 1
-tbl; X_HOF
-atr; HOF_NR; ONR_TYP_NR; ORT_NR; FZG_TYP_NR; ANZAHL; FIX_KOSTEN; LEER_SATZ; STAND_SATZ
-frm; num[10.0]; num[10.0]; num[10.0]; num[10.0]; num[10.0]; num[10.0]; num[10.0]; num[10.0]
-rec; 1; 2; 9; 1; 2; 1000; 1; 0
-end; 1
-tbl; X_ABLOESE
-atr; ONR_TYP_NR; ORT_NR
-frm; num[10.0]; num[10.0]
-rec; 1; 2
-end; 1
-tbl; X_WEG
-atr; ONR_TYP_NR; ORT_NR; ZIEL_TYP; ZIEL_NR; WEG_SEK
-frm; num[10.0]; num[10.0]; num[10.0]; num[10.0]; num[10.0]
-rec; 1; 2; 2; 9; 1200
-rec; 2; 9; 1; 2; 1200
-end; 2
-tbl; X_FAHRER
-atr; GRUPPE_NR; ONR_TYP_NR; ORT_NR; ANZAHL; FIX_KOSTEN; SATZ; ANMELDE_SEK; ABMELDE_SEK
-frm; num[10.0]; num[10.0]; num[10.0]; num[10.0]; num[10.0]; num[10.0]; num[10.0]; num[10.0]
-rec; 1; 2; 9; 2; 500; 1; 600; 300
-end; 1
-eof; 15
-";
-
-/// The text of its certificate, worked out by hand. Prices of 500 each, for which the first trip or piece has a value of 500 and both have
-/// one of 0, show that a block and a duty are needed; blocks cost 2,200 and duties 10,400, and half of that is the price of each trip and
-/// piece. The second trip alone is no mark, since with the first one before it a block costs less and has driven less since the cut. The
-/// second piece alone is one, since its driver signs on later.
+/// The text of the certificate of the demo network's day, worked out by hand. Prices of 500 each, for which the first trip or piece has a
+/// value of 500 and both have one of 0, show that a block and a duty are needed; blocks cost 2,200 and duties 10,400, and half of that is the
+/// price of each trip and piece. The second trip alone is no mark, since with the first one before it a block costs less and has driven less
+/// since the cut. The second piece alone is one, since its driver signs on later.
 const CERT: &[u8] = b"mod; DD.MM.YYYY; HH:MM:SS; free\r
 src; \"planner\"; \"01.01.2000\"; \"00:00:00\"\r
 chs; \"ISO8859-1\"\r
@@ -180,13 +81,7 @@ fn day_of_tables(alloc: Global, tables: &[Table]) -> Result<Day, Fail>
     requires { All (λ table. length table.rows < 2 ^ 32) tables.now }
 {
     let net = read_tables(alloc, tables, Needs::All)?;
-    let kind = DayKind {
-        version: 1,
-        kind: 1,
-        day: 20_260_302,
-        weekday: 1,
-    };
-    Ok(build_day(alloc, &net, &kind)?)
+    day_over(alloc, &net, 1)
 }
 
 /// The day of planning tables.
@@ -198,15 +93,9 @@ fn day_of(alloc: Global, tables: &[Table]) -> Result<Day, Fail> {
     }
 }
 
-/// The day of a text of planning files.
-fn day_in(alloc: Global, text: &[u8]) -> Result<Day, Fail> {
-    let tables = read_file(alloc, text, 100_000)?;
-    day_of_tables(alloc, tables.as_slice())
-}
-
-/// The example day. The texts stand in functions of their own, so that no other proof carries them along.
+/// The day of the demo network. The texts stand in functions of their own, so that no other proof carries them along.
 fn example_day(alloc: Global) -> Result<Day, Fail> {
-    day_in(alloc, NETWORK)
+    day_in(alloc, DEMO.as_bytes(), 1)
 }
 
 fn is_cert(text: &[u8]) -> bool {

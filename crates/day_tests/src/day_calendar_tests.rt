@@ -1,7 +1,7 @@
 //! The calendar and the trips of a small network.
 
-use crate::networks::{TableRows, network};
 use day_calendar::{DayFault, DayKind, day_rows, kind_of};
+use small_networks::{TableRows, network};
 use std::alloc::Global;
 use std::test::Fail;
 use vdv452_tables::{Needs, Network};

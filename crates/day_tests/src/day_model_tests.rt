@@ -1,9 +1,8 @@
 //! Small days: two trips, from 1 to 2 and back, and a depot at 9.
 
-use crate::networks::{TableRows, network};
-use day_calendar::DayKind;
 use day_model::{Day, DayModelFault, Link, build_day};
 use plan_core::Point;
+use small_networks::{TableRows, day_kind, day_over, network};
 use std::alloc::Global;
 use std::test::Fail;
 use trip_times::TripFault;
@@ -70,18 +69,9 @@ const NETWORK: &[TableRows] = &[
     ("X_ABLOESE", &["1; 2"]),
 ];
 
-fn kind(kind: u32) -> DayKind {
-    DayKind {
-        version: 1,
-        kind,
-        day: 20_260_302,
-        weekday: 1,
-    }
-}
-
 fn day_of(alloc: Global, given: &[TableRows], number: u32) -> Result<Day, Fail> {
     let net = network(alloc, given, Needs::All)?;
-    Ok(build_day(alloc, &net, &kind(number))?)
+    day_over(alloc, &net, number)
 }
 
 fn has_pulls(day: &Day) -> bool {
@@ -95,7 +85,7 @@ fn has_parts(day: &Day) -> bool {
     if day.trips().len() != 2 {
         return false;
     }
-    day.rows() == [0, 1].as_slice() && *day.kind() == kind(1) && day.trip(1).fid == 2
+    day.rows() == [0, 1].as_slice() && *day.kind() == day_kind(1) && day.trip(1).fid == 2
 }
 
 fn has_link(day: &Day, link: Option<Link>) -> bool {
@@ -171,7 +161,7 @@ fn is_tenth(fault: &DayModelFault) -> bool {
 
 fn lacks_a_run_time(alloc: Global, given: &[TableRows], day: u32) -> Result<bool, Fail> {
     let net = network(alloc, given, Needs::All)?;
-    Ok(match build_day(alloc, &net, &kind(day)) {
+    Ok(match build_day(alloc, &net, &day_kind(day)) {
         Ok(_) => false,
         Err(fault) => is_tenth(&fault),
     })

@@ -1,10 +1,10 @@
 //! The tables of a small day.
 
-use crate::networks::{TableRows, network};
 use day_calendar::kind_of;
 use day_model::build_day;
 use day_tables::tables_of_day;
 use plan_core::Bytes;
+use small_networks::{TableRows, network};
 use std::alloc::Global;
 use std::test::Fail;
 use vdv451_text::write_tables;

@@ -1,8 +1,8 @@
 //! Moves over a small network.
 
-use crate::networks::{TableRows, network};
 use deadheads::Deadheads;
 use plan_core::{Memory, Point};
+use small_networks::{TableRows, network};
 use std::alloc::Global;
 use std::test::Fail;
 use vdv452_tables::{Needs, Network};

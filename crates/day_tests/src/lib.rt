@@ -13,8 +13,6 @@ mod day_tables_tests;
 #[cfg(test)]
 mod deadheads_tests;
 #[cfg(test)]
-mod networks;
-#[cfg(test)]
 mod place_net_tests;
 #[cfg(test)]
 mod plan_params_tests;

@@ -1,7 +1,7 @@
 //! Stop sequences of a small network.
 
-use crate::networks::{TableRows, network};
 use place_net::route_length;
+use small_networks::{TableRows, network};
 use std::alloc::Global;
 use std::test::Fail;
 use vdv452_tables::{Needs, Network};

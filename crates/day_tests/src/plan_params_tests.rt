@@ -1,8 +1,8 @@
 //! The settings of a small plan, right and with one fault.
 
-use crate::networks::{TableRows, network};
 use plan_core::Point;
 use plan_params::{Group, ParamKind, Params, Pool, Settings, read_params};
+use small_networks::{TableRows, network};
 use std::alloc::Global;
 use std::test::Fail;
 use vdv452_tables::{Needs, Network};

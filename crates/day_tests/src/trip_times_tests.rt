@@ -1,7 +1,7 @@
 //! Trips over a small network.
 
-use crate::networks::{TableRows, network};
 use plan_core::{Point, Sec};
+use small_networks::{TableRows, network};
 use std::alloc::Global;
 use std::test::Fail;
 use trip_times::{Trip, TripFault, time_trip};

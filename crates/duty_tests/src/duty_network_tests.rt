@@ -2,16 +2,17 @@
 
 ghost use Rattle.plan_params.specs.Limits.{HaveRanges};
 
-use crate::duty_nets::{DEPOT, GROUPS, STOP, net_of, round, settings};
-use crate::searches::{are_there, worth_of};
+use crate::duty_nets::{GROUPS, net_of, round};
 use cover_core::{Columns, Worth};
 use duty_network::DutyNet;
 use eu561_rules::Verdict;
 use plan_core::{Memory, Piece, Point, Sec};
 use plan_params::Params;
+use small_networks::{DEPOT, STOP, driver_settings};
 use std::alloc::Global;
 use std::marker::{Send, Sync};
 use std::test::Fail;
+use tried_lists::{are_there, worth_of};
 
 /// A point from which drivers have no way.
 const FAR: Point = Point { typ: 1, nr: 1 };
@@ -138,7 +139,7 @@ fn answers_under(alloc: Global, params: &Params) -> Result<bool, Fail>
 }
 
 fn is_right(alloc: Global) -> Result<bool, Fail> {
-    let params = settings(alloc, GROUPS)?;
+    let params = driver_settings(alloc, GROUPS)?;
     answers_under(alloc, &params)
 }
 

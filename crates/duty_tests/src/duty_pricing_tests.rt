@@ -2,17 +2,18 @@
 
 ghost use Rattle.plan_params.specs.Limits.{HaveRanges};
 
-use crate::duty_nets::{GROUPS, STOP, net_of, round, settings};
-use crate::searches::{agrees, prices_of, searched};
+use crate::duty_nets::{GROUPS, net_of, round};
 use cover_core::Worth;
 use duty_network::DutyNet;
 use duty_pricing::{DutyLabels, DutyPricer};
 use label_search::{Found, search};
 use plan_core::{Memory, Piece};
 use plan_params::Params;
+use small_networks::{STOP, driver_settings};
 use std::alloc::Global;
 use std::marker::{Send, Sync};
 use std::test::Fail;
+use tried_lists::{agrees, prices_of, searched};
 
 /// A piece from the depot to the stop, one of another block from there to the depot, and the next one of the first block, where the later
 /// two are put off.
@@ -85,7 +86,7 @@ fn has_best_under(alloc: Global, params: &Params, case: &Case) -> Result<bool, F
 }
 
 fn is_right(alloc: Global, case: &Case) -> Result<bool, Fail> {
-    let params = settings(alloc, GROUPS)?;
+    let params = driver_settings(alloc, GROUPS)?;
     has_best_under(alloc, &params, case)
 }
 
@@ -172,7 +173,7 @@ fn have_firsts_under(alloc: Global, params: &Params) -> Result<bool, Fail>
 }
 
 fn have_firsts(alloc: Global) -> Result<bool, Fail> {
-    let params = settings(alloc, GROUPS)?;
+    let params = driver_settings(alloc, GROUPS)?;
     have_firsts_under(alloc, &params)
 }
 

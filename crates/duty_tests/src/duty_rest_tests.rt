@@ -6,24 +6,24 @@ ghost use Rattle.plan_params.specs.Limits.{HaveRanges};
 ghost use Rattle.cover_rest.specs.Keeping.{AreHeads};
 ghost use Rattle.duty_rest.specs.Rest.{begun_of};
 
-use crate::duty_nets::{net_of, round, settings};
-use crate::searches::{agrees, worth_of};
+use crate::duty_nets::{net_of, round};
 use cover_core::{Column, Columns, Items, Plan, Worth};
 use cover_rest::rest_is_kept;
 use duty_network::DutyNet;
 use duty_rest::{DutyHead, DutyRest, duty_heads, heads_are_heads, kept_leaves_none_begun};
 use plan_core::{Memory, Piece, Seq};
 use plan_params::Params;
+use small_networks::{Rows, driver_settings};
 use std::alloc::Global;
 use std::test::Fail;
+use tried_lists::{agrees, worth_of};
 use umlauf_write::{DutyRow, PlanText};
 
 /// Two groups of drivers, 7 and 8, sign on for 60 seconds and off for 100. A duty costs 500 and 1 a second.
-const PAIR: &[u8] = b"rec; 7; 2; 9; 2; 500; 1; 60; 100; 0; 0
-rec; 8; 2; 9; 2; 500; 1; 60; 100; 0; 0
-end; 2
-eof; 14
-";
+const PAIR: Rows = &[
+    "7; 2; 9; 2; 500; 1; 60; 100; 0; 0",
+    "8; 2; 9; 2; 500; 1; 60; 100; 0; 0",
+];
 
 fn pieces(alloc: Global) -> Result<Vec<Piece>, Memory> {
     Ok(vec![in alloc;
@@ -249,7 +249,7 @@ fn are_right_under(alloc: Global, params: &Params) -> Result<bool, Fail>
 }
 
 fn are_right(alloc: Global) -> Result<bool, Fail> {
-    let params = settings(alloc, PAIR)?;
+    let params = driver_settings(alloc, PAIR)?;
     are_right_under(alloc, &params)
 }
 

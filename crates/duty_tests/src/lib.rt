@@ -14,6 +14,4 @@ mod duty_rest_tests;
 #[cfg(test)]
 mod eu561_rules_tests;
 #[cfg(test)]
-mod searches;
-#[cfg(test)]
 mod umlauf_write_tests;

@@ -1,7 +1,7 @@
 use Rattle.std.proofs.Common.{◌≡◌, pos, neg_ℤ, ◌≤ℤ◌, List, [], ◌∷◌, ◌++◌, sym, subst}
 use Rattle.plan_core.specs.declared.Price.{Price}
 use Rattle.cover_core.specs.FirstLeast.{AllWithin}
-use Rattle.block_tests.proofs.searches.prices_of.Goals as goal
+use Rattle.tried_lists.proofs.searches.prices_of.Goals as goal
 
 within-push : (xs : List Price) (x : Price) → AllWithin 10000000000000 xs → neg_ℤ (pos 10000000000000) ≤ℤ x.0 → x.0 ≤ℤ pos 10000000000000 →
     AllWithin 10000000000000 (xs ++ x ∷ [])

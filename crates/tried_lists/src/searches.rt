@@ -31,8 +31,11 @@ const LISTS: [&[u32]; 15] = [
 /// A list with its worth and its value.
 #[derive(Clone, Copy)]
 pub struct Found {
+    /// What is left of its worth once the prices of its items are paid.
     pub value: i64,
+    /// Its worth.
     pub worth: u64,
+    /// The items.
     pub list: &'static [u32],
 }
 

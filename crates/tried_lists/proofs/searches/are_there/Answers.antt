@@ -1,7 +1,7 @@
 use Rattle.std.proofs.Common.{ℕ, ◌<◌, List, [], ◌∷◌, All, subst}
 use Rattle.std.proofs.lemmas.List.Elements.{All-head, All-tail}
 use Rattle.cover_core.specs.Cover.{AllBelow}
-use Rattle.duty_tests.proofs.searches.are_there.Goals as goal
+use Rattle.tried_lists.proofs.searches.are_there.Goals as goal
 
 below-from : (n : ℕ) (items : List ℕ) → All (λ item. item < n) items → AllBelow n items
 below-from n [] each = tt

@@ -1,5 +1,0 @@
-use Rattle.cover_core.specs.FirstLeast.{AllWithin}
-use Rattle.block_tests.proofs.searches.prices_of.Given as goal
-
-abbrev pub invariant-loop-value : goal.invariant-loop-value
-invariant-loop-value l = AllWithin 10000000000000 l.items
