@@ -26,7 +26,8 @@ use Rattle.vdv452_rows.specs.Schema as schema
 use Rattle.vdv452_tables.specs.Calendar.{begun, kind_on, later, latest, net_of, rows_as, version_on}
 use Rattle.vdv452_rows.specs.Cells.{is_empty_field, long_up_to, number_up_to, value_in, whole_number}
 use Rattle.vdv452_tables.specs.Keys.{line_key_eq, stop_key_of}
-use Rattle.vdv452_tables.specs.LookUps.{area_on, course_on, in_order, links_from, put_in_order}
+use Rattle.vdv452_tables.specs.LookUps.{area_on, course_on, links_from, stops_in_order}
+use Rattle.vdv452_tables.specs.Order.{put_in_order}
 use Rattle.vdv452_tables.specs.Ranges.{Fits, HasRanges, greatest_in}
 use Rattle.vdv452_rows.specs.Rows.{cell_at, cell_in, cells, field_at, rows_in, table_of}
 use Rattle.vdv452_rows.specs.TypedRows.{calendar_row, stop_row, typed, version_row}
@@ -41,7 +42,7 @@ use Rattle.plan_params.specs.declared.rows.group.Group.{Group}
 use Rattle.plan_params.specs.declared.rows.pool.Pool.{Pool}
 use Rattle.plan_params.specs.declared.rows.ParamRows.{ParamRows}
 use Rattle.plan_params.specs.Settings.{group_of, params_of, pool_of}
-use Rattle.plan_params.proofs.OrderLemmas.{order_all}
+use Rattle.vdv452_tables.proofs.OrderLemmas.{order_all}
 use Rattle.day_model.specs.declared.fault.DayModelFault.{DayModelFault}
 use Rattle.day_model.specs.Building.{IsDayOf, joined, named, rows_at, timed_rows}
 use Rattle.day_model.specs.Facts.{DayFacts}
@@ -196,18 +197,18 @@ abbrev IsAtPlace : StopRow → Type 0
 IsAtPlace row = IsPlace row.at
 
 put_each : (row : StopRow) (rows : List StopRow) → IsAtPlace row → AllByRecursion IsAtPlace rows →
-    AllByRecursion IsAtPlace (put_in_order row rows)
+    AllByRecursion IsAtPlace (put_in_order (λ (stop : StopRow). stop.number) row rows)
 put_each row [] h all = (h, tt)
 put_each row (next ∷ rows) h all = by (nat_lt next.number row.number) (put_each row rows h all.1)
   where
-    by : (b : Bool) → AllByRecursion IsAtPlace (put_in_order row rows) →
-        AllByRecursion IsAtPlace (if b then next ∷ put_in_order row rows else row ∷ next ∷ rows)
+    by : (b : Bool) → AllByRecursion IsAtPlace (put_in_order (λ (stop : StopRow). stop.number) row rows) →
+        AllByRecursion IsAtPlace (if b then next ∷ put_in_order (λ (stop : StopRow). stop.number) row rows else row ∷ next ∷ rows)
     by true later = (all.0, later)
     by false later = (h, all)
 
-order_each : (rows : List StopRow) → AllByRecursion IsAtPlace rows → AllByRecursion IsAtPlace (in_order rows)
+order_each : (rows : List StopRow) → AllByRecursion IsAtPlace rows → AllByRecursion IsAtPlace (stops_in_order rows)
 order_each [] all = tt
-order_each (row ∷ rows) all = put_each row (in_order rows) all.0 (order_each rows all.1)
+order_each (row ∷ rows) all = put_each row (stops_in_order rows) all.0 (order_each rows all.1)
 
 at_each : (rows : List StopRow) → AllByRecursion IsAtPlace rows → AllByRecursion IsPlace (map (λ (row : StopRow). row.at) rows)
 at_each [] all = tt
@@ -221,7 +222,7 @@ course_each tables version line variant =
     (at_most table row (schema.number (codes "ONR_TYP_NR")), at_most table row (schema.number (codes "ORT_NR")))) tables in
     let key : LineKey = record { version = version; line = line; variant = variant } in
     let test : StopRow → Bool = λ row. line_key_eq (stop_key_of row) key in
-    at_each (filter test (in_order net.stops)) (filter_each IsAtPlace test (in_order net.stops) (order_each net.stops rows))
+    at_each (filter test (stops_in_order net.stops)) (filter_each IsAtPlace test (stops_in_order net.stops) (order_each net.stops rows))
 
 last_each : (at : Point) (course : List Point) → IsPlace at → AllByRecursion IsPlace course → IsPlace (last_from at course)
 last_each at [] h all = h

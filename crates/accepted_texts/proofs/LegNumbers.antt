@@ -15,7 +15,7 @@ use Rattle.vdv452_tables.specs.Ranges.{IsTime}
 use Rattle.trip_times.specs.declared.trip.Trip.{Trip as TheTrip}
 use Rattle.plan_params.specs.declared.rows.pool.Pool.{Pool}
 use Rattle.plan_params.specs.Limits.{IsPool}
-use Rattle.plan_params.proofs.OrderLemmas.{order_all}
+use Rattle.vdv452_tables.proofs.OrderLemmas.{order_all}
 use Rattle.day_model.specs.declared.link.Link.{Link}
 use Rattle.day_model.specs.declared.link.Link.TheVariants.{Direct, Depot}
 use Rattle.day_model.specs.Blocks.{all_admitted, block_cost, block_worth, cost_from, dead_seconds, link_cost, rises, stand_seconds, trips_at}

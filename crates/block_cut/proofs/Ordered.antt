@@ -12,7 +12,7 @@ use Rattle.plan_core.specs.declared.types.Piece.{Piece}
 use Rattle.cover_core.specs.declared.Column.{Column}
 use Rattle.plan_params.specs.declared.rows.pool.Pool.{Pool}
 use Rattle.plan_params.specs.Settings.{in_order, put_in_order}
-use Rattle.plan_params.proofs.OrderLemmas.{order_all, put_all}
+use Rattle.vdv452_tables.proofs.OrderLemmas.{order_all, put_all}
 use Rattle.day_model.specs.Facts.{DayFacts}
 use Rattle.day_model.specs.Links.{with_pool}
 use Rattle.day_model.specs.Pieces.{legs_of, parts, piece_of, pieces_from, pieces_of}

@@ -21,7 +21,7 @@ use Rattle.plan_params.specs.declared.rows.group.Group.{Group}
 use Rattle.plan_params.specs.declared.rows.pool.Pool.{Pool}
 use Rattle.plan_params.specs.declared.rows.ParamRows.{ParamRows}
 use Rattle.plan_params.specs.Settings.{group_of, groups_of, params_of}
-use Rattle.plan_params.proofs.OrderLemmas.{order_all}
+use Rattle.vdv452_tables.proofs.OrderLemmas.{order_all}
 use Rattle.day_model.specs.Building.{IsDayOf}
 use Rattle.day_model.specs.Facts.{DayFacts}
 use Rattle.check_answers.specs.Checkable.{HasShortMoves}

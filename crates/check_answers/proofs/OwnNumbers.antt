@@ -33,7 +33,7 @@ use Rattle.trip_times.specs.Timing.{dwell_at, first_missing, run_seconds_of, run
 use Rattle.plan_params.specs.declared.rows.group.Group.{Group}
 use Rattle.plan_params.specs.declared.rows.pool.Pool.{Pool}
 use Rattle.plan_params.specs.Settings.{group_of, groups_of, in_order, pool_of, pools_of}
-use Rattle.plan_params.proofs.OrderLemmas.{order_rises}
+use Rattle.vdv452_tables.proofs.OrderLemmas.{order_rises}
 use Rattle.day_model.specs.declared.fault.DayModelFault.{DayModelFault}
 use Rattle.day_model.specs.Building.{IsDayOf, joined, named, rows_at, timed_rows}
 use Rattle.day_model.specs.Facts.{DayFacts}

@@ -9,7 +9,7 @@ use Rattle.plan_core.specs.declared.types.Piece.{Piece}
 use Rattle.cover_core.specs.declared.Column.{Column}
 use Rattle.cover_core.specs.Plans.{IsPlan}
 use Rattle.plan_params.specs.declared.rows.pool.Pool.{Pool}
-use Rattle.plan_params.proofs.OrderLemmas.{order_length}
+use Rattle.vdv452_tables.proofs.OrderLemmas.{order_length}
 use Rattle.day_model.specs.Facts.{DayFacts}
 use Rattle.day_model.specs.Pieces.{legs_of, parts, piece_of, pieces_from, pieces_of}
 use Rattle.depot_network.specs.Listed.{blocks_listed}

@@ -14,7 +14,7 @@ use Rattle.cover_core.specs.Plans.{AreColumns, HasListedColumns}
 use Rattle.trip_times.specs.declared.trip.Trip.{Trip}
 use Rattle.plan_params.specs.declared.rows.group.Group.{Group}
 use Rattle.plan_params.specs.declared.rows.pool.Pool.{Pool}
-use Rattle.plan_params.proofs.OrderLemmas.{order_all, order_length}
+use Rattle.vdv452_tables.proofs.OrderLemmas.{order_all, order_length}
 use Rattle.eu561_rules.specs.Lawful.{is_lawful, limits_for, regular}
 use Rattle.day_model.specs.Blocks.{block_cost, block_worth, rises, trips_at}
 use Rattle.day_model.specs.Facts.{DayFacts}

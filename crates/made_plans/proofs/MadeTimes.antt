@@ -6,7 +6,7 @@ use Rattle.std.proofs.lemmas.Bool.{le-leb}
 use Rattle.plan_core.specs.declared.types.Point.{Point}
 use Rattle.vdv452_rows.specs.declared.rows.TripRow.{TripRow}
 use Rattle.vdv452_tables.specs.Keys.{group_dwell_key_eq, group_dwell_key_of, line_key_eq, line_key_of, move_key_eq, named, run_key_of, trip_dwell_key_eq, trip_dwell_key_of, value_at}
-use Rattle.vdv452_tables.specs.LookUps.{area_on, course_on, group_dwell_on, in_order, points_of, run_time_on}
+use Rattle.vdv452_tables.specs.LookUps.{area_on, course_on, group_dwell_on, points_of, run_time_on, stops_in_order}
 use Rattle.trip_times.specs.declared.trip.Trip.{Trip}
 use Rattle.trip_times.specs.declared.trip.TripFault.{TripFault}
 use Rattle.trip_times.specs.declared.trip.TripFault.TheVariants.{PastEnd}
@@ -37,7 +37,7 @@ end_of out l = cond out (l + 1) l
 
 pub record HasCourse (l : ℕ) (out : Bool) : Type 0 where
   pub area : value_at line_key_eq line_key_of (λ row. row.area) (rows_each line_rows lines) (named 1 l (variant_name out)) ≡ Some 1
-  pub course : points_of (named 1 l (variant_name out)) (in_order (rows_each stop_rows lines)) ≡ point (start_of out l) ∷ point (10 + l)
+  pub course : points_of (named 1 l (variant_name out)) (stops_in_order (rows_each stop_rows lines)) ≡ point (start_of out l) ∷ point (10 + l)
       ∷ point (end_of out l) ∷ []
   pub first : value_at move_key_eq run_key_of (λ row. row.time) (rows_each run_rows lines)
       (record { version = 1; area = 1; group = 1; from = point (start_of out l); to = point (10 + l) }) ≡ Some (2400 + 60 * l)
@@ -111,7 +111,7 @@ module _ (seed trips : ℕ) (row : TripRow) (made : IsMadeRow row) where
   points_are =
       ap (λ n. course_on (made_net seed trips) 1 n row.variant) made.line_is
       ∙ ap (λ v. course_on (made_net seed trips) 1 l v) made.variant_is
-      ∙ ap (λ rows. points_of (named 1 l (variant_name out)) (in_order rows)) (stops_are seed trips) ∙ course_is.course
+      ∙ ap (λ rows. points_of (named 1 l (variant_name out)) (stops_in_order rows)) (stops_are seed trips) ∙ course_is.course
 
   run_is : (from to : Point) (s : ℕ) →
       value_at move_key_eq run_key_of (λ row. row.time) (rows_each run_rows lines)

@@ -1,4 +1,3 @@
 pub mod FaultLemmas
 pub mod IndexLemmas
-pub mod OrderLemmas
 pub mod RangeLemmas

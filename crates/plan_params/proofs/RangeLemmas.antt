@@ -10,7 +10,7 @@ use Rattle.plan_params.specs.declared.rows.pool.Pool.{Pool}
 use Rattle.plan_params.specs.declared.rows.way.Way.{Way}
 use Rattle.plan_params.specs.Limits.{IsGroup, IsPool}
 use Rattle.plan_params.specs.Settings.{group_of, groups_of, in_order, pool_of, pools_of, way_of}
-use Rattle.plan_params.proofs.OrderLemmas.{order_all, order_length, order_rises}
+use Rattle.vdv452_tables.proofs.OrderLemmas.{order_all, order_length, order_rises}
 
 map_all : {A B : Type 0} (P : A → Type 0) (Q : B → Type 0) (f : A → B) → ((x : A) → P x → Q (f x)) → (xs : List A) →
     All P xs → All Q (map f xs)

@@ -1,11 +1,12 @@
 -- Promise: what the tables of this project say, by the names of their columns.
-use Rattle.std.specs.Prelude.{ℕ, ◌==◌, nat_lt, List, [], ◌∷◌, map, slice_index, if◌then◌else◌, codes}
+use Rattle.std.specs.Prelude.{ℕ, ◌==◌, List, [], ◌∷◌, map, slice_index, codes}
 use Rattle.plan_core.specs.declared.types.Point.{Point}
 use Rattle.vdv452_rows.specs.declared.schema.Schema.{Schema}
 use Rattle.vdv452_rows.specs.Schema as schema
 use Rattle.vdv452_rows.specs.Values.{schema_place}
 use Rattle.vdv452_tables.specs.declared.net.Net.{Net}
 use Rattle.vdv452_tables.specs.LookUps.{extra_of}
+pub use Rattle.vdv452_tables.specs.Order.{in_order, put_in_order}
 use Rattle.plan_params.specs.declared.rows.ParamRows.{ParamRows}
 use Rattle.plan_params.specs.declared.rows.admission.Admission.{Admission}
 use Rattle.plan_params.specs.declared.rows.group.Group.{Group}
@@ -84,17 +85,6 @@ way_of row = record {
 abbrev pub settings_in : List (List ℕ) → Settings
 settings_in [] = settings_of []
 settings_in (row ∷ rows) = settings_of row
-
--- an item before the first one whose number is not below its own
-abbrev pub put_in_order : {A : Type 0} → (A → ℕ) → A → List A → List A
-put_in_order number item [] = item ∷ []
-put_in_order number item (next ∷ items) =
-    if nat_lt (number next) (number item) then next ∷ put_in_order number item items else item ∷ next ∷ items
-
--- the items by their numbers; of two with one number the earlier item first
-abbrev pub in_order : {A : Type 0} → (A → ℕ) → List A → List A
-in_order number [] = []
-in_order number (item ∷ items) = put_in_order number item (in_order number items)
 
 -- the rows of X_HOF by HOF_NR
 abbrev pub pools_of : Net → List Pool

@@ -29,6 +29,16 @@ pub enum ParamKind {
     Memory,
 }
 
+/// The first fault of the settings. Rows count from 1, and those past 4,294,967,295 count as that one.
+/// The row is 0 where the fault is about the table as a whole. For running out of memory the table is empty
+/// and the row is 0.
+#[derive(Debug, Drop)]
+pub struct ParamFault {
+    pub kind: ParamKind,
+    pub table: Bytes,
+    pub row: u32,
+}
+
 impl ParamKind {
     /// The kind's name, as it is printed.
     pub fn name(self) -> &'static [u8]
@@ -42,16 +52,6 @@ impl ParamKind {
             ParamKind::Memory => b"Memory",
         }
     }
-}
-
-/// The first fault of the settings. Rows count from 1, and those past 4,294,967,295 count as that one.
-/// The row is 0 where the fault is about the table as a whole. For running out of memory the table is empty
-/// and the row is 0.
-#[derive(Debug, Drop)]
-pub struct ParamFault {
-    pub kind: ParamKind,
-    pub table: Bytes,
-    pub row: u32,
 }
 
 impl ParamFault {

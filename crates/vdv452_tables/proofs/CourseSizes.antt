@@ -1,24 +1,12 @@
 -- A stop sequence has no more points than there are rows.
-use Rattle.std.proofs.Common.{◌≡◌, ℕ, ◌<◌, ◌≤◌, ◌^◌, Bool, true, false, if◌then◌else◌, List, [], ◌∷◌, length, map, filter, nat_lt, refl, ap, ◌∙◌, arith, suc}
+use Rattle.std.proofs.Common.{ℕ, ◌<◌, ◌≤◌, ◌^◌, Bool, true, false, if◌then◌else◌, List, [], ◌∷◌, length, map, filter, arith, suc}
 use Rattle.vdv452_tables.specs.Calendar.{Net}
 use Rattle.vdv452_tables.specs.declared.keys.LineKey.{LineKey}
 use Rattle.vdv452_rows.specs.declared.rows.lines.StopRow.{StopRow}
 use Rattle.vdv452_tables.specs.Keys.{line_key_eq, named, stop_key_of}
-use Rattle.vdv452_tables.specs.LookUps.{course_on, in_order, points_of, put_in_order}
+use Rattle.vdv452_tables.specs.LookUps.{course_on, points_of, stops_in_order}
 use Rattle.vdv452_tables.specs.Ranges.{HasRanges}
-
-put_length : (row : StopRow) (rows : List StopRow) → length (put_in_order row rows) ≡ suc (length rows)
-put_length row [] = refl
-put_length row (next ∷ rows) = by (nat_lt next.number row.number) (put_length row rows)
-  where
-    by : (b : Bool) → length (put_in_order row rows) ≡ suc (length rows) →
-        length (if b then next ∷ put_in_order row rows else row ∷ next ∷ rows) ≡ suc (suc (length rows))
-    by true more = ap suc more
-    by false more = refl
-
-order_length : (rows : List StopRow) → length (in_order rows) ≡ length rows
-order_length [] = refl
-order_length (row ∷ rows) = put_length row (in_order rows) ∙ ap suc (order_length rows)
+use Rattle.vdv452_tables.proofs.OrderLemmas.{order_length}
 
 points_few : (key : LineKey) (rows : List StopRow) → length (points_of key rows) ≤ length rows
 points_few key [] = omega arith
@@ -37,6 +25,6 @@ points_few key (row ∷ rows) = by (line_key_eq (stop_key_of row) key) (points_f
 pub course_few : (net : Net) (version line : ℕ) (variant : List ℕ) → HasRanges net → length (course_on net version line variant) < 2 ^ 32
 course_few net version line variant ranges =
     let stops = ranges.few_stops in
-    let most = points_few (named version line variant) (in_order net.stops) in
-    let same = order_length net.stops in
+    let most = points_few (named version line variant) (stops_in_order net.stops) in
+    let same = order_length (λ (row : StopRow). row.number) net.stops in
     omega (arith, stops, most, same)

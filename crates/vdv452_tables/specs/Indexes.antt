@@ -10,7 +10,7 @@ use Rattle.vdv452_tables.specs.declared.indexes.Lines.{Lines}
 use Rattle.vdv452_tables.specs.declared.indexes.Moves.{Moves}
 use Rattle.vdv452_tables.specs.declared.indexes.Places.{Places}
 use Rattle.vdv452_tables.specs.declared.net.Net.{Net}
-use Rattle.vdv452_tables.specs.LookUps.{in_order, points_of}
+use Rattle.vdv452_tables.specs.LookUps.{points_of, stops_in_order}
 use Rattle.vdv452_tables.specs.Keys.{IsIndex, day_key_eq, day_key_of, point_key_eq, point_key_of, type_key_eq, type_key_of, section_key_eq, section_key_of, move_key_eq, run_key_of, group_dwell_key_eq, group_dwell_key_of, trip_dwell_key_eq, trip_dwell_key_of, line_key_eq, line_key_of}
 
 -- what an index of stop sequences gives at a key that may be absent
@@ -34,7 +34,7 @@ pub record ArePlaces (net : Net) (places : Places) : Type 0 where
 
 pub record AreLines (net : Net) (lines : Lines) : Type 0 where
   pub areas : IsIndex line_key_eq line_key_of (λ row. row.area) net.lines lines.areas
-  pub courses : AreCourses (in_order net.stops) lines.courses
+  pub courses : AreCourses (stops_in_order net.stops) lines.courses
 
 pub record AreMoves (net : Net) (moves : Moves) : Type 0 where
   pub lengths : IsIndex section_key_eq section_key_of (λ row. row.length) net.sections moves.lengths

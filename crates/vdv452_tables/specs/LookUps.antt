@@ -1,10 +1,11 @@
 -- Promise: what the rows of a network tell at a key.
-use Rattle.std.specs.Prelude.{ℕ, Bool, List, [], ◌∷◌, Option, Some, None, map, filter, nat_lt, if◌then◌else◌, is_some, codes}
+use Rattle.std.specs.Prelude.{ℕ, Bool, List, [], ◌∷◌, Option, Some, None, map, filter, if◌then◌else◌, is_some, codes}
 use Rattle.std.specs.Str.{bytes_eq}
 use Rattle.plan_core.specs.declared.types.Point.{Point}
 use Rattle.vdv452_tables.specs.declared.keys.LineKey.{LineKey}
 use Rattle.vdv452_tables.specs.declared.net.Net.{Net}
 use Rattle.vdv452_rows.specs.declared.rows.lines.StopRow.{StopRow}
+use Rattle.vdv452_tables.specs.Order.{in_order}
 use Rattle.vdv452_tables.specs.Keys.{value_at, point_key_eq, point_key_of, type_key_eq, type_key_of, section_key_eq, section_key_of, move_key_eq, run_key_of, dead_key_of, group_dwell_key_eq, group_dwell_key_of, trip_dwell_key_eq, trip_dwell_key_of, line_key_eq, line_key_of, stop_key_of, move_key, named}
 
 -- REC_ORT has the point
@@ -51,15 +52,9 @@ length_on net version area from to =
     known (value_at section_key_eq section_key_of (λ row. row.length) net.sections
     (record { version = version; area = area; from = from; to = to }))
 
--- a row before the first one whose LI_LFD_NR is not below its own
-abbrev pub put_in_order : StopRow → List StopRow → List StopRow
-put_in_order row [] = row ∷ []
-put_in_order row (next ∷ rows) = if nat_lt next.number row.number then next ∷ put_in_order row rows else row ∷ next ∷ rows
-
 -- the rows by LI_LFD_NR; of two with one number the earlier row first
-abbrev pub in_order : List StopRow → List StopRow
-in_order [] = []
-in_order (row ∷ rows) = put_in_order row (in_order rows)
+abbrev pub stops_in_order : List StopRow → List StopRow
+stops_in_order rows = in_order (λ (row : StopRow). row.number) rows
 
 -- the points of the rows with a key
 abbrev pub points_of : LineKey → List StopRow → List Point
@@ -67,7 +62,7 @@ points_of key rows = map (λ row. row.at) (filter (λ row. line_key_eq (stop_key
 
 -- the points of a variant of a line, by LI_LFD_NR
 abbrev pub course_on : Net → ℕ → ℕ → List ℕ → List Point
-course_on net version line variant = points_of (named version line variant) (in_order net.stops)
+course_on net version line variant = points_of (named version line variant) (stops_in_order net.stops)
 
 -- the sections of a stop sequence that begins at a point: each pair of neighbouring points
 abbrev pub links_from : Point → List Point → List (Point × Point)

@@ -4,7 +4,7 @@ ghost use Rattle.std.specs.Prelude.{◌≡◌, false, IfOk, OnOk};
 ghost use Rattle.indexmap.specs.IndexMap.{get};
 ghost use Rattle.vdv452_tables.specs.Indexes.{AreCourses, CourseGrows, course_or_none};
 ghost use Rattle.vdv452_tables.specs.Keys.{line_key_eq, stop_key_of};
-ghost use Rattle.vdv452_tables.specs.LookUps.{in_order};
+ghost use Rattle.vdv452_tables.specs.LookUps.{stops_in_order};
 ghost use Rattle.vdv452_tables.specs.declared.keys.LineKey.{LineKey};
 
 use crate::keys::{LineKey, LineName};
@@ -37,7 +37,7 @@ fn copied_stops(alloc: Global, rows: &[StopRow]) -> Result<Vec<StopRow>, Memory>
 
 /// The rows in the order of LI_LFD_NR.
 fn ordered_stops(alloc: Global, rows: &[StopRow]) -> Result<Vec<StopRow>, Memory>
-    ensures { IfOk result (λ ordered. ordered.items ≡ in_order rows.now) }
+    ensures { IfOk result (λ ordered. ordered.items ≡ stops_in_order rows.now) }
 {
     let mut ordered = copied_stops(alloc, rows)?;
     ordered.sort_by_key(|row| row.number)?;
@@ -99,7 +99,7 @@ pub(crate) fn courses_of(
     alloc: Global,
     rows: &[StopRow],
 ) -> Result<IndexMap<LineKey, Seq<Point>>, Memory>
-    ensures { IfOk result (λ courses. AreCourses (in_order rows.now) courses) }
+    ensures { IfOk result (λ courses. AreCourses (stops_in_order rows.now) courses) }
 {
     let ordered = ordered_stops(alloc, rows)?;
     grouped_stops(alloc, ordered.as_slice())

@@ -1,6 +1,6 @@
 use Rattle.std.proofs.Common.{ap, ◌∙◌, rules}
 use Rattle.std.proofs.lemmas.List.Sorted.{IsNonDecreasingBy-from_sort_by_key, answers_always}
-use Rattle.plan_params.proofs.OrderLemmas.{sorted_items}
+use Rattle.vdv452_tables.proofs.OrderLemmas.{sorted_items}
 use Rattle.plan_params.specs.Settings.{in_order}
 use Rattle.block_cut.specs.Cuts.{moment}
 use Rattle.block_cut.proofs.cutting.in_order.Goals as goal

@@ -2,7 +2,7 @@ use Rattle.std.proofs.Common.{ap, ◌∙◌, map, rules}
 use Rattle.std.proofs.lemmas.List.Sorted.{IsNonDecreasingBy-from_sort_by_key, answers_always}
 use Rattle.plan_params.specs.declared.rows.group.Group.{Group}
 use Rattle.plan_params.specs.Settings.{in_order, group_of}
-use Rattle.plan_params.proofs.OrderLemmas.{sorted_items}
+use Rattle.vdv452_tables.proofs.OrderLemmas.{sorted_items}
 use Rattle.plan_params.proofs.RangeLemmas.{groups_all}
 use Rattle.plan_params.proofs.reading.read_groups.Goals as goal
 

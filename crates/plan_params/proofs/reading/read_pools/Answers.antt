@@ -2,7 +2,7 @@ use Rattle.std.proofs.Common.{ap, ◌∙◌, map, rules}
 use Rattle.std.proofs.lemmas.List.Sorted.{IsNonDecreasingBy-from_sort_by_key, answers_always}
 use Rattle.plan_params.specs.declared.rows.pool.Pool.{Pool}
 use Rattle.plan_params.specs.Settings.{in_order, pool_of}
-use Rattle.plan_params.proofs.OrderLemmas.{sorted_items}
+use Rattle.vdv452_tables.proofs.OrderLemmas.{sorted_items}
 use Rattle.plan_params.proofs.RangeLemmas.{pools_all}
 use Rattle.plan_params.proofs.reading.read_pools.Goals as goal
 

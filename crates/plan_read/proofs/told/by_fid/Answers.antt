@@ -1,7 +1,7 @@
 use Rattle.std.proofs.Common.{List, ap, sym, subst, ◌∙◌, rules}
 use Rattle.std.proofs.lemmas.List.Sorted.{IsNonDecreasingBy-from_sort_by_key, answers_always}
 use Rattle.plan_params.specs.Settings.{in_order}
-use Rattle.plan_params.proofs.OrderLemmas.{sorted_items}
+use Rattle.vdv452_tables.proofs.OrderLemmas.{sorted_items}
 use Rattle.plan_read.specs.declared.told.Told.{Told}
 use Rattle.plan_read.specs.Told.{DoesNotFall, fid_of}
 use Rattle.plan_read.proofs.told.by_fid.Goals as goal

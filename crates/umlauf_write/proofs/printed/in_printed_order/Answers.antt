@@ -3,7 +3,7 @@ use Rattle.std.proofs.lemmas.List.Sorted.{IsNonDecreasingBy-from_sort_by_key, an
 use Rattle.cover_core.specs.declared.Column.{Column}
 use Rattle.cover_core.specs.FirstLeast.{AreCheap}
 use Rattle.cover_core.specs.Plans.{IsPlan}
-use Rattle.plan_params.proofs.OrderLemmas.{sorted_items}
+use Rattle.vdv452_tables.proofs.OrderLemmas.{sorted_items}
 use Rattle.umlauf_write.specs.Printed.{first_of_column, printed}
 use Rattle.umlauf_write.proofs.Order.{order_cheap, order_plan}
 use Rattle.umlauf_write.proofs.printed.in_printed_order.Goals as goal
