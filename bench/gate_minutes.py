@@ -37,7 +37,8 @@ def processes(session):
         if "--crate-name" not in words:
             continue
         name = words[words.index("--crate-name") + 1]
-        crate = re.sub(r"_tests$", "", name)
+        # (the tests of a crate are built under its name with `_tests` behind it, and some crates have such a name themselves)
+        crate = name if os.path.isdir(os.path.join(TOP, "crates", name)) else re.sub(r"_tests$", "", name)
         if not folder.startswith(TOP + os.sep):
             kind = "edits"
         else:
