@@ -1,10 +1,11 @@
 -- Promise: tables of whole numbers as they are read and written: their outlines, the numbers of their rows, and the first place where a
 -- table is wrong.
-use Rattle.std.specs.Prelude.{ℕ, ℤ, pos, negsuc, zero, suc, ◌+◌, ◌||◌, not, Bool, true, false, nat_lt, nat_le, nat_eq, List, [], ◌∷◌, ◌++◌, length, map, filter, Option, Some, None, option_and_then, is_none, if◌then◌else◌}
+use Rattle.std.specs.Prelude.{ℕ, ℤ, pos, negsuc, zero, suc, ◌+◌, ◌||◌, not, Bool, true, false, nat_lt, nat_le, nat_eq, List, [], ◌∷◌, ◌++◌, length, map, filter, Option, Some, None, option_and_then, is_none, if◌then◌else◌, slice_get}
 use Rattle.std.specs.Option.{option_map}
 use Rattle.std.specs.List.{list_any, filter_map}
 use Rattle.vdv451_text.specs.declared.table.Field.{Field}
 use Rattle.vdv451_text.specs.declared.table.Field.TheVariants.{Num}
+use Rattle.vdv451_text.specs.declared.table.Head.{Head}
 use Rattle.vdv451_text.specs.declared.table.Table.{Table}
 use Rattle.vdv452_rows.specs.Cells.{whole_number}
 use Rattle.vdv452_rows.specs.Rows.{field_at, has_name, place_of, when, first}
@@ -15,9 +16,17 @@ pub record Outline : Type 0 where
   pub name : List ℕ
   pub columns : List (List ℕ)
 
+-- the number that a row spells at a place
+abbrev pub number_at : List Field → ℕ → Option ℤ
+number_at row place = option_and_then whole_number (slice_get row place)
+
+-- the number that a row spells in a column
+abbrev pub number_in : List Head → List Field → List ℕ → Option ℤ
+number_in heads row name = option_and_then whole_number (field_at heads row name)
+
 -- the numbers of a row in these columns, where they are numbers
 abbrev pub numbers : List (List ℕ) → Table → List Field → List (Option ℤ)
-numbers columns table row = map (λ name. option_and_then whole_number (field_at table.columns row name)) columns
+numbers columns table row = map (λ name. number_in table.columns row name) columns
 
 -- the first table of a name
 abbrev pub named : Outline → List Table → Option Table

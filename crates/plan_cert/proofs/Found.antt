@@ -7,12 +7,12 @@ use Rattle.std.specs.List.{cons_option, filter_map, list_all, position_from, ran
 use Rattle.std.specs.Prelude.{Option, Some, None, is_some, int_le, if◌then◌else◌}
 use Rattle.std.proofs.lemmas.Option.{same_Some}
 use Rattle.vdv451_text.specs.declared.table.Field.{Field}
-use Rattle.number_tables.specs.Outlines.{up_to}
+use Rattle.number_tables.specs.Outlines.{number_at, up_to}
 use Rattle.plan_cert.specs.declared.cert.Pass.{Pass}
 use Rattle.plan_cert.specs.declared.columns.PriceColumns.{PriceColumns}
 use Rattle.plan_cert.specs.declared.shape.Shape.{Shape}
 use Rattle.plan_cert.specs.declared.slots.Entry.{Entry}
-use Rattle.plan_cert.specs.Numbers.{◌>>=◌, any_pass, class_among, counted, from_one, moderate, natural, number_at, place_in}
+use Rattle.plan_cert.specs.Numbers.{◌>>=◌, any_pass, class_among, counted, from_one, moderate, natural, place_in}
 use Rattle.plan_cert.specs.Prices.{all_there, found_price, is_of, item_entry}
 use Rattle.plan_cert.specs.Shapes.{items_of}
 

@@ -4,7 +4,7 @@ use Rattle.std.specs.List.{cons_option, filter_map}
 use Rattle.std.specs.Prelude.{Some, None, if◌then◌else◌}
 use Rattle.std.proofs.lemmas.Option.{same_Some}
 use Rattle.vdv451_text.specs.declared.table.Field.{Field}
-use Rattle.number_tables.specs.Outlines.{word}
+use Rattle.number_tables.specs.Outlines.{number_at, word}
 use Rattle.plan_cert.specs.declared.cert.Pass.{Pass}
 use Rattle.plan_cert.specs.declared.cert.Pass.TheVariants.{BlockNumber, BlockCost, DutyNumber, DutyCost}
 use Rattle.plan_cert.specs.declared.columns.BlockColumns.{BlockColumns}
@@ -17,7 +17,7 @@ use Rattle.plan_cert.specs.declared.shape.Shape.{Shape}
 use Rattle.plan_cert.specs.Entries.{block_entry, BlockEntry, block_place, driven_at, duty_entry, DutyEntry, duty_place, pass_from, place_at}
 use Rattle.plan_cert.specs.Laws.{IsBlockMarkOf, IsMarkOf}
 use Rattle.plan_cert.specs.Marks.{marks_in_pass}
-use Rattle.plan_cert.specs.Numbers.{class_among, counted, number_at, same_pass, truth}
+use Rattle.plan_cert.specs.Numbers.{class_among, counted, same_pass, truth}
 use Rattle.plan_cert.specs.Shapes.{items_of, numbers_in}
 use Rattle.plan_cert.proofs.Found.{Each, bound, class-below, counted-below, said-each, up_to-most}
 

@@ -1,7 +1,7 @@
 -- Promise: what the rows of marks say.
 use Rattle.std.specs.Prelude.{ℕ, ℤ, ◌+◌, ◌==◌, List, Option, Some, None, if◌then◌else◌}
 use Rattle.vdv451_text.specs.declared.table.Field.{Field}
-use Rattle.number_tables.specs.Outlines.{word}
+use Rattle.number_tables.specs.Outlines.{number_at, word}
 use Rattle.cover_core.specs.declared.marks.Mark.{Mark}
 use Rattle.cover_core.specs.declared.marks.BlockMark.{BlockMark}
 use Rattle.plan_cert.specs.declared.cert.Pass.{Pass}
@@ -14,7 +14,7 @@ use Rattle.plan_cert.specs.declared.duties.Driven.{Driven}
 use Rattle.plan_cert.specs.declared.entries.MarkPlace.{MarkPlace}
 use Rattle.plan_cert.specs.declared.marks.PassMark.{PassMark}
 use Rattle.plan_cert.specs.declared.shape.Shape.{Shape}
-use Rattle.plan_cert.specs.Numbers.{◌>>=◌, class_among, counted, number_at, truth}
+use Rattle.plan_cert.specs.Numbers.{◌>>=◌, class_among, counted, truth}
 use Rattle.plan_cert.specs.Shapes.{items_of, numbers_in}
 
 -- one of two passes by its number: that of the first, or the next

@@ -1,8 +1,6 @@
 -- Promise: the numbers that the fields of a certificate spell, each in its range.
-use Rattle.std.specs.Prelude.{ℕ, ℤ, pos, negsuc, neg_ℤ, ◌-◌, ◌&&◌, ◌||◌, ◌==◌, Bool, int_le, List, Option, Some, None, if◌then◌else◌, option_and_then, slice_get, position}
+use Rattle.std.specs.Prelude.{ℕ, ℤ, pos, negsuc, neg_ℤ, ◌-◌, ◌&&◌, ◌||◌, ◌==◌, Bool, int_le, List, Option, Some, None, if◌then◌else◌, position}
 use Rattle.plan_core.specs.Limits.{most_kept_price}
-use Rattle.vdv451_text.specs.declared.table.Field.{Field}
-use Rattle.vdv452_rows.specs.Cells.{whole_number}
 use Rattle.number_tables.specs.Outlines.{up_to, word}
 use Rattle.plan_cert.specs.declared.cert.Pass.{Pass}
 use Rattle.plan_cert.specs.declared.cert.Pass.TheVariants.{BlockNumber, BlockCost, DutyNumber, DutyCost}
@@ -12,10 +10,6 @@ infixl 10 ◌>>=◌
 abbrev pub ◌>>=◌ : {A B : Type 0} → Option A → (A → Option B) → Option B
 None >>= f = None
 (Some x) >>= f = f x
-
--- the number that a row spells at a place
-abbrev pub number_at : List Field → ℕ → Option ℤ
-number_at row place = option_and_then whole_number (slice_get row place)
 
 -- a number from 1 to a greatest one, counted from 0
 abbrev pub from_one : ℕ → Option ℕ

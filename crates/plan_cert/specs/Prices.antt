@@ -12,7 +12,8 @@ use Rattle.plan_cert.specs.declared.prices.Priced.TheVariants.{Items, Classes}
 use Rattle.plan_cert.specs.declared.shape.Shape.{Shape}
 use Rattle.plan_cert.specs.declared.slots.Entry.{Entry}
 use Rattle.plan_cert.specs.declared.slots.Slots.{Slots}
-use Rattle.plan_cert.specs.Numbers.{◌>>=◌, any_pass, class_among, counted, moderate, number_at, same_pass}
+use Rattle.number_tables.specs.Outlines.{number_at}
+use Rattle.plan_cert.specs.Numbers.{◌>>=◌, any_pass, class_among, counted, moderate, same_pass}
 use Rattle.plan_cert.specs.Shapes.{items_of, numbers_in}
 
 -- the table of prices of items or of classes, and the column that numbers these

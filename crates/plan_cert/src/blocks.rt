@@ -9,9 +9,9 @@ use crate::columns::{BlockColumns, block_columns};
 use crate::entries::block_place;
 use crate::fault::CertTable;
 use crate::marks::{MarkRow, MarkTable, PassMark};
-use crate::numbers::{number_at, word};
 use crate::shape::Shape;
 use cover_core::BlockMark;
+use number_tables::{number_at, word};
 use vdv451_text::{Field, Head};
 
 impl MarkRow for BlockMark {

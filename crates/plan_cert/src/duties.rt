@@ -10,9 +10,10 @@ use crate::columns::{DrivingColumns, DutyColumns, duty_columns};
 use crate::entries::duty_place;
 use crate::fault::CertTable;
 use crate::marks::{MarkRow, MarkTable, PassMark};
-use crate::numbers::{number_at, truth, word};
+use crate::numbers::truth;
 use crate::shape::Shape;
 use cover_core::Mark;
+use number_tables::{number_at, word};
 use plan_core::Sec;
 use vdv451_text::{Field, Head};
 

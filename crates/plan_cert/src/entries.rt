@@ -6,8 +6,9 @@ ghost use Rattle.plan_cert.specs.Shapes.{HaveFew};
 
 use crate::cert::Pass;
 use crate::columns::PlaceColumns;
-use crate::numbers::{class_among, number_at, place_of_number, word};
+use crate::numbers::{class_among, place_of_number};
 use crate::shape::Shape;
+use number_tables::{number_at, word};
 use vdv451_text::Field;
 
 /// Where a mark stands.

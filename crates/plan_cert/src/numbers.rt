@@ -1,60 +1,20 @@
 //! The numbers that the fields of a certificate spell, each in its range.
 
 ghost use Rattle.std.specs.Prelude.{◌≡◌, ◌≤◌, ◌<◌, ◌==◌, IfSome, length, position};
-ghost use Rattle.vdv452_rows.specs.Cells.{whole_number as whole_number_spec};
-ghost use Rattle.number_tables.specs.Outlines.{up_to as up_to_spec, word as word_spec};
 ghost use Rattle.plan_cert.specs.Numbers as spec;
 
 use crate::cert::Pass;
-use vdv451_text::{Field, spelled_number};
+use number_tables::{word, word_up_to};
 
 /// The greatest kept price, and minus the least, in thousandths of a cost unit.
 const MOST_PRICE: i64 = 3_000_000_000_000_000;
-
-/// The number that a field spells.
-fn whole_number(field: &Field) -> Option<i64>
-    ensures { result ≡ whole_number_spec field.now }
-{
-    match field {
-        Field::Num(number) => Some(*number),
-        Field::Text(text) => spelled_number(text.as_slice()),
-        Field::Raw(bytes) => spelled_number(bytes.as_slice()),
-        Field::Empty => None,
-    }
-}
-
-/// The number that a row spells at a place.
-pub(crate) fn number_at(row: &[Field], place: usize) -> Option<i64>
-    ensures { result ≡ spec.number_at row.now place }
-{
-    whole_number(row.get(place)?)
-}
-
-/// A number from 0 to a greatest one.
-fn up_to(most: u32, number: Option<i64>) -> Option<u32>
-    ensures value { result ≡ up_to_spec most number }
-    ensures bound { IfSome result (λ n. n ≤ most) }
-{
-    let number = number?;
-    if number < 0 || number > most as i64 {
-        return None;
-    }
-    Some(number as u32)
-}
-
-/// A number of 32 bits.
-pub(crate) fn word(number: Option<i64>) -> Option<u32>
-    ensures { result ≡ word_spec number }
-{
-    up_to(4_294_967_295, number)
-}
 
 /// A number from 1 to a greatest one, counted from 0.
 pub(crate) fn place_of_number(most: u32, number: Option<i64>) -> Option<u32>
     ensures value { result ≡ spec.counted most number }
     ensures bound { IfSome result (λ n. n < most) }
 {
-    let number = up_to(most, number)?;
+    let number = word_up_to(most, number)?;
     if number == 0 { None } else { Some(number - 1) }
 }
 
@@ -62,7 +22,7 @@ pub(crate) fn place_of_number(most: u32, number: Option<i64>) -> Option<u32>
 pub(crate) fn truth(number: Option<i64>) -> Option<bool>
     ensures { result ≡ spec.truth number }
 {
-    let number = up_to(1, number)?;
+    let number = word_up_to(1, number)?;
     Some(number == 1)
 }
 

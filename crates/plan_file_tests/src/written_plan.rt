@@ -4,7 +4,6 @@
 
 ghost use Rattle.std.specs.Prelude.{◌<◌, ◌≤◌, ◌≡◌, ◌^◌, ◌↔◌, All, IsTrue, count_by, length};
 ghost use Rattle.plan_core.specs.Limits.{most_items, most_worth};
-ghost use Rattle.vdv452_rows.specs.Cells.{whole_number as whole_number_spec};
 ghost use Rattle.cover_core.specs.Cover.{AllBelow};
 ghost use Rattle.cover_core.specs.FirstLeast.{AreCheap};
 ghost use Rattle.umlauf_write.specs.Answers.{IsPiece};
@@ -14,14 +13,14 @@ ghost use Rattle.umlauf_write.specs.Trips.{HasOneRow};
 use crate::small_day::{TRIP_TABLE, network};
 use cover_core::{Column, Items, Plan};
 use day_model::Day;
+use number_tables::number_in;
 use plan_core::{Memory, Piece, Point, Sec, Seq};
 use std::alloc::Global;
 use std::slice;
 use std::test::Fail;
 use trip_times::Trip;
 use umlauf_write::{Answer, plan_tables};
-use vdv451_text::{Field, Head, Table, is_plain, spelled_number};
-use vdv452_tables::column_place;
+use vdv451_text::{Field, Head, Table, is_plain};
 
 const DEPOT: Point = Point { typ: 2, nr: 9 };
 
@@ -76,26 +75,6 @@ fn answer(alloc: Global) -> Result<Answer, Memory> {
         duties: one_column(alloc, 10_400)?,
         bounds: bounds(alloc)?,
     })
-}
-
-/// The number that a field spells.
-fn whole_number(field: &Field) -> Option<i64>
-    ensures { result ≡ whole_number_spec field.now }
-{
-    match field {
-        Field::Num(number) => Some(*number),
-        Field::Text(text) => spelled_number(text.as_slice()),
-        Field::Raw(bytes) => spelled_number(bytes.as_slice()),
-        Field::Empty => None,
-    }
-}
-
-/// The number that a row has in a column.
-fn number_in(heads: &[Head], row: &[Field], name: &[u8]) -> Option<i64>
-    ensures { result ≡ spec.number_in heads.now row.now name.now }
-{
-    let place = column_place(heads, name)?;
-    whole_number(row.get(place)?)
 }
 
 fn is_number(number: u64, found: Option<i64>) -> bool

@@ -18,7 +18,7 @@ use Rattle.plan_params.specs.declared.rows.pool.Pool.{Pool}
 use Rattle.day_model.specs.Facts.{DayFacts}
 use Rattle.number_tables.specs.Numbers.{number_row}
 use Rattle.number_tables.specs.Signed.{signed_row}
-use Rattle.number_tables.specs.Outlines.{Place as At, entry_faults, given_of, numbers, place, place_in, rows_of}
+use Rattle.number_tables.specs.Outlines.{Place as At, entry_faults, given_of, number_in, numbers, place, place_in, rows_of}
 use Rattle.umlauf_write.specs.declared.answer.Answer.{Answer}
 use Rattle.umlauf_write.specs.declared.text.DutyRow.{DutyRow}
 use Rattle.umlauf_write.specs.declared.text.PlanFault.{PlanFault}
@@ -27,7 +27,7 @@ use Rattle.umlauf_write.specs.Answers.{bound_table, duty_row, duty_table, group_
 use Rattle.umlauf_write.specs.Reading as reading
 use Rattle.umlauf_write.specs.Reading.{Numbers, Part, block_said, duty_said, entries_from, read_of, read_or, two}
 use Rattle.umlauf_write.specs.Tables.{block_of, block_table, cost_row, cost_table, numbered, pool_of}
-use Rattle.umlauf_write.specs.Trips.{found_row, is_number, is_row_of, number_in, row_of}
+use Rattle.umlauf_write.specs.Trips.{found_row, is_number, is_row_of, row_of}
 use Rattle.umlauf_write.proofs.FoundPlain.{row_long}
 use Rattle.umlauf_write.proofs.Plain.{place_there}
 use Rattle.plan_read.specs.Numbers.{known}

@@ -1,7 +1,7 @@
 -- Inner: the numbers of a row at places among its fields.
-use Rattle.std.specs.Prelude.{ℕ, ℤ, Bool, List, [], ◌∷◌, Option, option_and_then, slice_get, map, is_some}
+use Rattle.std.specs.Prelude.{ℕ, ℤ, Bool, List, [], ◌∷◌, Option, map, is_some}
 use Rattle.vdv451_text.specs.declared.table.Field.{Field}
-use Rattle.vdv452_rows.specs.Cells.{whole_number}
+use Rattle.number_tables.specs.Outlines.{number_at}
 use Rattle.trip_times.specs.declared.trip.Trip.{Trip}
 use Rattle.plan_params.specs.declared.rows.group.Group.{Group}
 use Rattle.plan_params.specs.declared.rows.pool.Pool.{Pool}
@@ -10,10 +10,6 @@ use Rattle.umlauf_write.specs.Reading.{Numbers, own_number}
 use Rattle.plan_read.specs.declared.rows.Counts.{Counts}
 use Rattle.plan_read.specs.declared.table.Pair.{Pair}
 use Rattle.plan_read.specs.declared.table.Triple.{Triple}
-
--- the number that a row spells at a place
-abbrev pub number_at : List Field → ℕ → Option ℤ
-number_at row place = option_and_then whole_number (slice_get row place)
 
 -- whether a number is that of its row, which is counted from 0
 abbrev pub is_own : ℕ → Option ℤ → Bool

@@ -7,9 +7,10 @@ ghost use Rattle.plan_read.specs.Places.{Gives, said};
 ghost use Rattle.plan_read.specs.declared.fault.PlanTable.TheVariants as tables;
 
 use crate::fault::{PlanTable, ReadFault};
-use crate::numbers::{is_own, not_below, number_at};
+use crate::numbers::{is_own, not_below};
 use crate::rows::at_row;
 use crate::table::{Pair, PairRows};
+use number_tables::number_at;
 use plan_core::Seq;
 use std::alloc::Global;
 use vdv451_text::Field;

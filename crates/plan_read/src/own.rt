@@ -8,10 +8,11 @@ ghost use Rattle.plan_read.specs.Numbers.{pair_at};
 ghost use Rattle.plan_read.specs.Places.{Gives, said};
 
 use crate::fault::{PlanTable, ReadFault};
-use crate::numbers::{is_own, not_below, number_at, word};
+use crate::numbers::{is_own, not_below};
 use crate::rows::at_row;
 use crate::table::{Pair, PairRows};
 use day_model::Day;
+use number_tables::{number_at, word};
 use plan_core::Seq;
 use plan_params::{Group, Pool};
 use std::alloc::Global;

@@ -7,9 +7,9 @@ ghost use Rattle.plan_read.specs.Places.{Gives, said};
 ghost use Rattle.plan_read.specs.declared.fault.PlanTable.TheVariants as tables;
 
 use crate::fault::{PlanTable, ReadFault};
-use crate::numbers::{number_at, place_of_number, word};
 use crate::rows::{Counts, at_row};
 use crate::table::{Triple, TripleRows};
+use number_tables::{counted, number_at, word};
 use plan_core::Seq;
 use std::alloc::Global;
 use vdv451_text::Field;
@@ -18,8 +18,8 @@ use vdv451_text::Field;
 fn part_entry(counts: &Counts, columns: &Triple, row: &[Field]) -> Option<(u32, (u32, u32))>
     ensures { result ≡ spec.part_entry counts.now (triple_at columns.now row.now) }
 {
-    let duty = place_of_number(counts.duties, number_at(row, columns.first))?;
-    let block = place_of_number(counts.blocks, number_at(row, columns.second))?;
+    let duty = counted(counts.duties, number_at(row, columns.first))?;
+    let block = counted(counts.blocks, number_at(row, columns.second))?;
     let index = word(number_at(row, columns.third))?;
     Some((duty, (block + 1, index)))
 }

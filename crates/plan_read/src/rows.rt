@@ -8,9 +8,10 @@ ghost use Rattle.plan_read.specs.Told as told_spec;
 ghost use Rattle.plan_read.specs.declared.fault.PlanTable.TheVariants as tables;
 
 use crate::fault::{Place, PlanTable, ReadFault};
-use crate::numbers::{not_below, number_at, place_of_number};
+use crate::numbers::not_below;
 use crate::table::{Pair, PairRows};
 use crate::told::{Told, trip_of};
+use number_tables::{counted, number_at};
 use plan_core::Seq;
 use std::alloc::Global;
 use vdv451_text::Field;
@@ -50,7 +51,7 @@ fn trip_entry(told: &[Told], counts: &Counts, columns: &Pair, row: &[Field]) -> 
     ensures { result ≡ spec.trip_entry told.now counts.now (pair_at columns.now row.now) }
 {
     let trip = trip_among(told, number_at(row, columns.first))?;
-    let block = place_of_number(counts.blocks, number_at(row, columns.second))?;
+    let block = counted(counts.blocks, number_at(row, columns.second))?;
     Some((trip, block))
 }
 

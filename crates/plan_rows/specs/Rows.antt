@@ -1,13 +1,11 @@
 -- Promise: what the rows of a plan say.
-use Rattle.std.specs.Prelude.{ℕ, ℤ, pos, negsuc, ◌+◌, ◌-◌, ◌*◌, ◌/◌, ◌==◌, nat_le, nat_lt, List, Option, Some, None, option_and_then, if◌then◌else◌, position, codes}
+use Rattle.std.specs.Prelude.{ℕ, ℤ, pos, negsuc, ◌+◌, ◌-◌, ◌*◌, ◌/◌, ◌==◌, nat_le, nat_lt, List, Option, Some, None, if◌then◌else◌, position, codes}
 use Rattle.plan_core.specs.declared.types.LegKind.{LegKind}
 use Rattle.plan_core.specs.declared.types.LegKind.TheVariants.{PullOut, Trip, Deadhead, Stand, PullIn}
 use Rattle.plan_core.specs.declared.types.Point.{Point}
 use Rattle.vdv451_text.specs.declared.table.Field.{Field}
 use Rattle.vdv451_text.specs.declared.table.Head.{Head}
-use Rattle.vdv452_rows.specs.Cells.{whole_number}
-use Rattle.vdv452_rows.specs.Rows.{field_at}
-use Rattle.number_tables.specs.Outlines.{up_to, word}
+use Rattle.number_tables.specs.Outlines.{number_in, up_to, word}
 use Rattle.plan_rows.specs.declared.rows.TripRow.{TripRow}
 use Rattle.plan_rows.specs.declared.rows.VehicleRow.{VehicleRow}
 use Rattle.plan_rows.specs.declared.rows.BlockRow.{BlockRow}
@@ -28,10 +26,6 @@ infixl 10 ◌>>=◌
 abbrev pub ◌>>=◌ : {A B : Type 0} → Option A → (A → Option B) → Option B
 None >>= f = None
 (Some x) >>= f = f x
-
--- the number that a row has in a column
-abbrev pub number_in : List Head → List Field → List ℕ → Option ℤ
-number_in heads row name = option_and_then whole_number (field_at heads row name)
 
 -- a number of 32 bits in a column
 abbrev pub word_in : List Head → List Field → List ℕ → Option ℕ

@@ -1,18 +1,17 @@
 //! The rows of the tables of a plan, one by one: what each says, or none where it says nothing.
 
 ghost use Rattle.std.specs.Prelude.{◌≡◌, ◌≤◌, ◌==◌, IfSome, List, Option, position};
-ghost use Rattle.number_tables.specs.Outlines.{up_to as up_to_spec, word as word_spec};
 ghost use Rattle.vdv451_text.specs.declared.table.Field.{Field as FieldOf};
 ghost use Rattle.vdv451_text.specs.declared.table.Head.{Head as HeadOf};
-ghost use Rattle.vdv452_rows.specs.Cells.{whole_number as whole_number_spec};
 ghost use Rattle.plan_rows.specs.Rows as spec;
 
 use crate::rows::{
     BlockRow, BoundRow, DutyRow, Ends, LegRow, Named, Pass, PieceNumbers, PieceRow, Span, TripRow,
     VehicleRow, Work,
 };
+use number_tables::{number_in, up_to, word};
 use plan_core::{LegKind, Point};
-use vdv451_text::{Field, Head, spelled_number};
+use vdv451_text::{Field, Head};
 use vdv452_tables::column_place;
 
 /// The greatest number of a trip (FRT_FID).
@@ -32,45 +31,6 @@ pub(crate) trait Entries {
     /// What a row says, or none where it says nothing.
     fn entry(&self, heads: &[Head], row: &[Field]) -> Option<Self::Row>
         ensures { result ≡ said self.now heads.now row.now };
-}
-
-fn whole_number(field: &Field) -> Option<i64>
-    ensures { result ≡ whole_number_spec field.now }
-{
-    match field {
-        Field::Num(number) => Some(*number),
-        Field::Text(text) => spelled_number(text.as_slice()),
-        Field::Raw(bytes) => spelled_number(bytes.as_slice()),
-        Field::Empty => None,
-    }
-}
-
-fn number_in(heads: &[Head], row: &[Field], name: &[u8]) -> Option<i64>
-    ensures { result ≡ spec.number_in heads.now row.now name.now }
-{
-    let place = column_place(heads, name)?;
-    whole_number(row.get(place)?)
-}
-
-fn up_to(most: u64, number: Option<i64>) -> Option<u64>
-    ensures value { result ≡ up_to_spec most number }
-    ensures bound { IfSome result (λ n. n ≤ most) }
-{
-    let number = number?;
-    if number < 0 || number as u64 > most {
-        return None;
-    }
-    Some(number as u64)
-}
-
-fn word(number: Option<i64>) -> Option<u32>
-    ensures { result ≡ word_spec number }
-{
-    let number = number?;
-    if number < 0 || number > 4_294_967_295 {
-        return None;
-    }
-    Some(number as u32)
 }
 
 fn money(number: Option<i64>) -> Option<u64>

@@ -17,7 +17,7 @@ use Rattle.vdv452_rows.specs.declared.schema.Domain.TheVariants.{UpTo, LongUpTo}
 use Rattle.vdv452_rows.specs.Schema as schema
 use Rattle.vdv452_rows.specs.Cells.{cell_of, long_up_to, number_up_to, whole_number}
 use Rattle.vdv452_rows.specs.Rows.{cell_at, cell_fault, cell_faults, cell_in, field_at, first, key_of, missing_column, missing_columns, own_key, place_of, row_fault, row_faults, when}
-use Rattle.umlauf_write.specs.Trips.{number_in}
+use Rattle.number_tables.specs.Outlines.{number_in}
 
 pub first_none : {A : Type 0} (xs : List A) → first xs ≡ None → xs ≡ []
 first_none [] none = refl

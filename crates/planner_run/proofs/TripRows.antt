@@ -33,7 +33,8 @@ use Rattle.trip_times.specs.Timing.{dwell_at, first_missing, run_seconds_of, run
 use Rattle.day_model.specs.declared.fault.DayModelFault.{DayModelFault}
 use Rattle.day_model.specs.Building.{IsDayOf, joined, named, rows_at, timed_rows}
 use Rattle.day_model.specs.Facts.{DayFacts}
-use Rattle.umlauf_write.specs.Trips.{HasOneRow, is_number, is_row_of, number_in}
+use Rattle.number_tables.specs.Outlines.{number_in}
+use Rattle.umlauf_write.specs.Trips.{HasOneRow, is_number, is_row_of}
 use Rattle.planner_run.proofs.RowReads.{IsRead, first_none, front_empty, rest_empty, rows_read}
 
 -- no item passes where each that passes has the one key, which none has

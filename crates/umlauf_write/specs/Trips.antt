@@ -1,19 +1,15 @@
 -- Promise: REC_FRT with the numbers of blocks: its rows are found by the version and the trip's number.
-use Rattle.std.specs.Prelude.{◌≡◌, ℕ, ℤ, pos, negsuc, ◌==◌, ◌&&◌, Bool, false, List, [], length, filter, Option, Some, None, option_and_then, unwrap_or, codes}
+use Rattle.std.specs.Prelude.{◌≡◌, ℕ, ℤ, pos, negsuc, ◌==◌, ◌&&◌, Bool, false, List, [], length, filter, Option, Some, None, unwrap_or, codes}
 use Rattle.std.specs.List.{find}
 use Rattle.vdv451_text.specs.declared.table.Field.{Field}
 use Rattle.vdv451_text.specs.declared.table.Head.{Head}
 use Rattle.vdv451_text.specs.declared.table.Table.{Table}
-use Rattle.vdv452_rows.specs.Cells.{whole_number}
-use Rattle.vdv452_rows.specs.Rows.{field_at, place_of}
+use Rattle.vdv452_rows.specs.Rows.{place_of}
+use Rattle.number_tables.specs.Outlines.{number_in}
 use Rattle.cover_core.specs.declared.Column.{Column}
 use Rattle.trip_times.specs.declared.trip.Trip.{Trip}
 use Rattle.day_model.specs.Facts.{DayFacts}
 use Rattle.umlauf_write.specs.Tables.{block_of, numbered, with_uid}
-
--- the number that a row has in a column
-abbrev pub number_in : List Head → List Field → List ℕ → Option ℤ
-number_in heads row name = option_and_then whole_number (field_at heads row name)
 
 abbrev pub is_number : ℕ → Option ℤ → Bool
 is_number n None = false

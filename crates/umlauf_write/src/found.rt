@@ -5,38 +5,18 @@ ghost use Rattle.std.specs.List.{find};
 ghost use Rattle.plan_core.specs.Limits.{most_items};
 ghost use Rattle.cover_core.specs.Cover.{AllBelow};
 ghost use Rattle.vdv451_text.specs.Plain.{is_plain_table};
-ghost use Rattle.vdv452_rows.specs.Cells.{whole_number as whole_number_of};
 ghost use Rattle.umlauf_write.specs.Tables.{numbered};
-ghost use Rattle.umlauf_write.specs.Trips.{HasOneRow, found_row, found_table as found_table_of, is_number as is_number_of, is_row_of as is_row_of_spec, number_in as number_in_spec, row_of as row_of_spec};
+ghost use Rattle.umlauf_write.specs.Trips.{HasOneRow, found_row, found_table as found_table_of, is_number as is_number_of, is_row_of as is_row_of_spec, row_of as row_of_spec};
 
 use crate::numbers::block_numbers;
 use crate::trips::with_uid;
 use cover_core::Column;
 use day_model::Day;
+use number_tables::number_in;
 use plan_core::{Memory, Seq};
 use std::alloc::Global;
-use vdv451_text::{Field, Head, Table, copied_columns, spelled_number};
+use vdv451_text::{Field, Head, Table, copied_columns};
 use vdv452_tables::column_place;
-
-/// The whole number of a field, if it has one.
-fn whole_number(field: &Field) -> Option<i64>
-    ensures { result ≡ whole_number_of field.now }
-{
-    match field {
-        Field::Num(number) => Some(*number),
-        Field::Text(text) => spelled_number(text.as_slice()),
-        Field::Raw(bytes) => spelled_number(bytes.as_slice()),
-        Field::Empty => None,
-    }
-}
-
-/// The whole number that a row has in a column, if it has one.
-fn number_in(heads: &[Head], row: &[Field], name: &[u8]) -> Option<i64>
-    ensures { result ≡ number_in_spec heads.now row.now name.now }
-{
-    let place = column_place(heads, name)?;
-    whole_number(row.get(place)?)
-}
 
 /// Whether a number is there and is this one.
 fn is_number(number: u64, found: Option<i64>) -> bool

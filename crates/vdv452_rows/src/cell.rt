@@ -29,7 +29,8 @@ pub fn bytes_of(alloc: Global, bytes: &[u8]) -> Result<Bytes, Memory>
     Ok(Bytes::from_vec(Vec::from_slice(alloc, bytes)?))
 }
 
-fn whole_number(field: &Field) -> Option<i64>
+/// The whole number that a field spells: a number, or a text or bare bytes that spell one (VDV 451 allows both). None where it spells none.
+pub fn whole_number(field: &Field) -> Option<i64>
     ensures { result ≡ cells.whole_number field.now }
 {
     match field {

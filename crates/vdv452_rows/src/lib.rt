@@ -12,7 +12,7 @@ mod rows;
 mod schema;
 mod table;
 
-pub use cell::{Cell, bytes_of};
+pub use cell::{Cell, bytes_of, whole_number};
 pub use fault::{Refusal, TableFault, TableKind};
 pub use rows::lines::{LineRow, StopRow};
 pub use rows::places::{PointRow, TypeRow};

@@ -1,12 +1,12 @@
 //! Where the columns of the roster's table stand.
 
-ghost use Rattle.std.specs.Prelude.{◌≡◌, slice_get};
-ghost use Rattle.vdv452_rows.specs.Cells as cells;
+ghost use Rattle.std.specs.Prelude.{◌≡◌};
 ghost use Rattle.week_check.specs.Roster as spec;
 
 use crate::column::{COLUMNS, RosterColumn, column_name};
 use crate::entry::Entry;
-use vdv451_text::{Field, Head, spelled_number};
+use number_tables::number_at;
+use vdv451_text::{Field, Head};
 use vdv452_tables::{TableKind, column_place};
 
 /// The places of the columns among those of a table, from 0.
@@ -72,28 +72,6 @@ fn place_of(places: &Places, column: RosterColumn) -> usize
         RosterColumn::End => places.end,
         RosterColumn::Driving => places.driving,
         RosterColumn::Pause => places.pause,
-    }
-}
-
-/// The number that a field spells.
-fn whole_number(field: &Field) -> Option<i64>
-    ensures { result ≡ cells.whole_number field.now }
-{
-    match field {
-        Field::Num(number) => Some(*number),
-        Field::Text(text) => spelled_number(text.as_slice()),
-        Field::Raw(bytes) => spelled_number(bytes.as_slice()),
-        Field::Empty => None,
-    }
-}
-
-/// The number at a place of a row, if there is one.
-fn number_at(row: &[Field], place: usize) -> Option<i64>
-    ensures { result ≡ spec.number_of (slice_get row.now place) }
-{
-    match row.get(place) {
-        Some(field) => whole_number(field),
-        None => None,
     }
 }
 
