@@ -3,10 +3,8 @@
 
 ghost use Rattle.std.specs.Prelude.{◌≡◌, ◌<◌, ◌≤◌, ◌+◌, ◌*◌, ◌≤ℤ◌, ◌-ℤ◌, ◌+ℤ◌, neg_ℤ, pos, true, IfSome, Some, length, slice_get};
 ghost use Rattle.std.specs.Option.{option_map};
-ghost use Rattle.plan_core.specs.Limits.{most_rate};
 ghost use Rattle.cover_core.specs.Plans.{price_at};
 ghost use Rattle.plan_params.specs.Limits.{IsPool};
-ghost use Rattle.day_model.specs.Blocks as blocks;
 ghost use Rattle.day_model.specs.Links.{admits_at, link_at, pull_in_at};
 ghost use Rattle.day_model.specs.Ranges.{IsDaily, IsShort};
 ghost use Rattle.depot_network.specs.BlockMarks as rules;
@@ -15,44 +13,15 @@ ghost use Rattle.depot_network.specs.Open.{first_scaled, scaled};
 ghost use Rattle.block_cover.specs.Seen.{seen_mark};
 
 use crate::made::OpenMark;
-use cover_core::BlockMark;
+use cover_core::{BlockMark, price_or_zero};
 use day_model::{Day, Link};
+use depot_network::{cost_at_rate, link_cost};
 use plan_core::{Point, Price};
 use plan_params::Pool;
 use trip_times::Trip;
 
 /// The greatest driving of a piece in seconds: four and a half hours, after which a driver has a break (Regulation (EC) 561/2006, article 7).
 const LONGEST_DRIVING: u64 = 16_200;
-
-/// What seconds cost at a rate.
-fn cost_at_rate(rate: u32, seconds: u32) -> u64
-    requires rate { rate ≤ most_rate }
-    requires seconds { seconds ≤ 345600 }
-    ensures value { result ≡ rate * seconds }
-    ensures bound { result ≤ 3456000000 }
-{
-    u64::from(rate) * u64::from(seconds)
-}
-
-/// What a connection to a trip costs.
-fn link_cost(pool: &Pool, next: &Trip, link: Link) -> u64
-    requires pool { IsPool pool.now }
-    requires short { IsShort link }
-    ensures value { result ≡ blocks.link_cost pool.now next.now link }
-    ensures bound { result ≤ 6912000000 }
-{
-    match link {
-        Link::Direct { dead, stand } => {
-            let stood = if next.from == pool.depot { 0 } else { stand };
-            cost_at_rate(pool.dead_rate, dead) + cost_at_rate(pool.stand_rate, stood)
-        }
-        Link::Depot {
-            inward,
-            outward,
-            ..
-        } => cost_at_rate(pool.dead_rate, inward + outward),
-    }
-}
 
 /// What a pull-out to a first trip costs, with the fixed cost.
 fn first_cost(pool: &Pool, out: u32) -> u64
@@ -94,17 +63,6 @@ fn scale_first(counts: bool, cost: u64) -> i128
     if counts { 1000 } else { 1000 * cost as i128 }
 }
 
-/// The price of a trip, 0 where there is none.
-fn price(prices: &[Price], item: u32) -> i64
-    ensures { result ≡ price_at prices.now item }
-{
-    if (item as usize) < prices.len() {
-        prices[item as usize].0
-    } else {
-        0
-    }
-}
-
 /// A value less a price.
 fn less(value: i128, price: i64) -> i128
     requires low { neg_ℤ (pos 1000000000000000000000) ≤ℤ value }
@@ -120,7 +78,7 @@ fn first_value(counts: bool, cost: u64, prices: &[Price], item: u32) -> i128
     ensures { result ≡ first_scaled counts cost -ℤ price_at prices.now item }
 {
     let begun = scale_first(counts, cost);
-    less(begun, price(prices, item))
+    less(begun, price_or_zero(prices, item))
 }
 
 /// A value with a cost more.
@@ -140,7 +98,7 @@ fn next_value(value: i64, counts: bool, cost: u64, prices: &[Price], item: u32) 
     ensures { result ≡ value +ℤ scaled counts cost -ℤ price_at prices.now item }
 {
     let total = with_cost(value, counts, cost);
-    less(total, price(prices, item))
+    less(total, price_or_zero(prices, item))
 }
 
 /// How long a trip is driven.

@@ -12,8 +12,7 @@ ghost use Rattle.climb_rounds.specs.Settings.{IsSetting};
 ghost use Rattle.climb_rounds.specs.Walks.{IsOffered};
 
 use crate::setting::Setting;
-use crate::walk::price_at;
-use cover_core::{Column, Columns, Pricer, Prices};
+use cover_core::{Column, Columns, Pricer, Prices, price_at};
 use dual_bound::Kept;
 use offer_estimate::{Estimate, best_guess};
 use plan_core::{Gate, Memory, Seq};

@@ -1,12 +1,10 @@
 //! How far the prices have come.
 
-ghost use Rattle.std.specs.Prelude.{◌≡◌, ◌<◌, ◌≤◌, ◌≤ℤ◌, pos, neg_ℤ, length, IfOk, OnOk};
+ghost use Rattle.std.specs.Prelude.{◌≡◌, ◌<◌, ◌≤◌, ◌≤ℤ◌, pos, neg_ℤ, IfOk};
 ghost use Rattle.plan_core.specs.Limits.{most_price};
-ghost use Rattle.cover_core.specs.FirstLeast.{AllWithin};
 ghost use Rattle.worker_price.specs.Work.{ArePricesFor};
-ghost use Rattle.climb_rounds.specs.Walks.{IsWalk};
 
-use cover_core::{Columns, Prices};
+use cover_core::{Columns, Prices, price_at};
 use dual_bound::Kept;
 use plan_core::{Memory, Price, Seq};
 use plan_dive::Course;
@@ -49,16 +47,6 @@ fn half_way(one: i64, other: i64) -> i64
     ensures high { result ≤ℤ pos most_price }
 {
     (one + other).div_euclid(2)
-}
-
-/// The price of an item.
-pub(crate) fn price_at(prices: &Prices, item: usize) -> i64
-    requires inside { item < length prices.now.items }
-    requires moderate { AllWithin most_price prices.now.items }
-    ensures low { neg_ℤ (pos most_price) ≤ℤ result }
-    ensures high { result ≤ℤ pos most_price }
-{
-    prices.items.as_slice()[item].0
 }
 
 /// The prices half way between two vectors of prices, rounded down.

@@ -14,7 +14,7 @@ ghost use Rattle.column_weave.specs.Woven.{AreWoven, IsGain, IsWoven};
 use crate::links::ClassLinks;
 use crate::sums::{Least, is_less, least_at, no_list};
 use crate::web::Web;
-use cover_core::{Column, Columns, Items, Prices, value};
+use cover_core::{Column, Columns, Items, Prices, price_at, value};
 use plan_core::{Memory, Seq};
 use std::alloc::Global;
 
@@ -49,21 +49,11 @@ fn next_least(least: &[Least], links: &ClassLinks, prices: &Prices, fixed: &[boo
     if fixed[item] {
         return no_list();
     }
-    let price = price_of(prices, item);
+    let price = price_at(prices, item);
     let single = links.single.as_slice()[item];
     let into = links.into.as_slice();
     let list = &into[item];
     least_at(least, list.as_slice(), single, price)
-}
-
-/// The price of an item.
-fn price_of(prices: &Prices, item: usize) -> i64
-    requires inside { item < length prices.now.items }
-    requires moderate { AllWithin most_price prices.now.items }
-    ensures low { neg_ℤ (pos most_price) ≤ℤ result }
-    ensures high { result ≤ℤ pos most_price }
-{
-    prices.items.as_slice()[item].0
 }
 
 /// The least lists of a class that end in each item.

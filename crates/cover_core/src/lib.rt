@@ -16,15 +16,19 @@ ghost use Rattle.cover_core.specs.Ranges.{HasFewPlaces, HasModestWorths};
 ghost use Rattle.cover_core.specs.FirstLeast.{value, AreCheap, AllWithin};
 ghost use Rattle.cover_core.specs.Best.{best_of, within};
 
+mod item_prices;
 mod items;
 mod laws;
 mod marks;
+mod tally;
 
+pub use item_prices::{price, price_at, price_or_zero};
 pub use items::Items;
 pub use laws::{backward_order, best_is_first_least, least_is_paid, plan_sizes, weak_duality};
 pub use marks::{BlockCover, BlockMark, Cover, CoverFault, Gap, Mark};
 use plan_core::{Memory, Price, Seq};
 use std::alloc::Global;
+pub use tally::add_items;
 
 /// A list of items of a class, and what it is worth.
 #[derive(Drop)]
@@ -140,13 +144,13 @@ pub fn value(column: &Column, prices: &Prices) -> i64
 {
     let mut rest = 1000 * column.worth as i64;
     for item in column.items.as_slice() {
-        rest -= price(prices, *item);
+        rest -= own_price(prices, *item);
     }
     rest
 }
 
-/// The price of an item.
-fn price(prices: &Prices, item: u32) -> i64
+/// The price of an item of a column.
+fn own_price(prices: &Prices, item: u32) -> i64
     requires { item < length prices.now.items }
     ensures { result ≡ price_at prices.now.items item }
 {

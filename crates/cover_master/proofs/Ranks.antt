@@ -53,11 +53,6 @@ and-false : (a b : Bool) → b ≡ false → (a && b) ≡ false
 and-false true b e = e
 and-false false b e = refl
 
-not-less : (o : Ordering) → is_lt o ≡ true → o ≡ Less
-not-less Less e = refl
-not-less Equal e = absurd (let h : false ≡ true = e in cc)
-not-less Greater e = absurd (let h : false ≡ true = e in cc)
-
 -- not below, and not equal: the other one is below
 below-other : (o q : Ordering) → o ≡ ordering_reverse q → is_lt q ≡ false → (q ≡ Equal → ⊥) → is_lt o ≡ true
 below-other o Less e n d = absurd (let h : true ≡ false = n in cc)

@@ -16,7 +16,7 @@ ghost use Rattle.cover_master.specs.Fitting.{key_cmp, is_before, is_gain};
 use crate::clamps::clamp;
 use crate::key::Key;
 use crate::selection::{candidates, limits};
-use cover_core::{Column, Prices, value};
+use cover_core::{Column, Prices, add_items, value};
 use plan_core::{Memory, Price, Seq, zeros};
 use std::alloc::Global;
 use std::cmp::Ordering;
@@ -66,20 +66,6 @@ fn sort(keys: &mut Vec<Key>) -> Result<(), Memory>
     ) {
         Ok(()) => Ok(()),
         Err(_) => Err(Memory),
-    }
-}
-
-/// Counts each item of a list once more.
-fn add_items(cover: &mut Seq<u32>, list: &[u32])
-    requires items { AllBelow (length cover.old) list.now }
-    requires small { (i : ℕ) → slice_index cover.old i ≤ 1000000 }
-    requires short { length list.now ≤ most_items }
-    ensures added { (i : ℕ) → slice_index cover.new i ≡ slice_index cover.old i + times i list.now }
-    ensures len { length cover.new ≡ length cover.old }
-{
-    for item in list {
-        let count = cover.as_slice()[*item as usize];
-        cover.set(*item as usize, count + 1);
     }
 }
 

@@ -101,9 +101,6 @@ module _ (day : DayFacts) (pool : Pool) where
   abbrev rest : ℕ → List Leg → Bool
   rest d legs = keep d (parts day pool (shown legs))
 
-  rest_low : (d : ℕ) (legs : List Leg) → rest d legs ≡ (nat_le d longest_driving && rest d legs)
-  rest_low d legs = keep_low d (parts day pool (shown legs))
-
   -- A leg that is no stand is driven: it belongs to the first part, and its seconds join the driving so far. A move between equal
   -- points is left out of a block's legs, which makes no difference as it takes no time.
   moved : (d : ℕ) (l : Leg) (legs : List Leg) → is_stand l.kind ≡ false → (is_shown l ≡ false → duration l ≡ 0) →

@@ -579,9 +579,3 @@ module _ (day : DayFacts) (counts : Bool) (prices : List Price) (pool : Pool) wh
         let P : OpenBlock → Type 0 = OpenFits (length day.trips) in
         subst P same fits;
   }
-
--- there is no price past the end
-pub price_at-none : (prices : List Price) (k : ℕ) → length prices ≤ k → price_at prices k ≡ pos 0
-price_at-none [] k h = refl
-price_at-none (x ∷ xs) zero h = absurd (omega arith)
-price_at-none (x ∷ xs) (suc k) h = price_at-none xs k (omega arith)

@@ -69,6 +69,10 @@ pub record IsCheapUntil (day : DayFacts) (t cost : ℕ) : Type 0 where
   pub so_far : pos cost ≤ℤ (pos most_fixed_cost +ℤ (pos most_rate *ℤ end_of day t))
   pub in_time : end_of day t ≤ℤ pos 172800
 
+-- no connection of a pool's vehicles, pull-out with its fixed cost or pull-in costs more
+abbrev pub dear_of : Pool → ℕ
+dear_of pool = pool.fixed + 345600 * (pool.dead_rate + pool.stand_rate)
+
 -- the seconds of a connection that may cost something
 abbrev pub seconds_of : Link → ℕ
 seconds_of (Direct move stand) = move + stand

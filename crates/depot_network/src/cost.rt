@@ -12,6 +12,7 @@ ghost use Rattle.depot_network.specs.Driving as driving;
 ghost use Rattle.depot_network.specs.Network.{is_count};
 ghost use Rattle.depot_network.specs.Walk as walks;
 
+use crate::rates::{cost_at_rate, link_cost};
 use crate::step::Step;
 use cover_core::Worth;
 use day_model::{Day, Link};
@@ -20,36 +21,6 @@ use trip_times::Trip;
 
 /// The greatest driving of a piece in seconds: four and a half hours.
 const LONGEST_DRIVING: u32 = 16_200;
-
-/// What seconds cost at a rate.
-fn cost_at_rate(rate: u32, seconds: u32) -> u64
-    requires rate { rate ≤ most_rate }
-    requires seconds { seconds ≤ 345600 }
-    ensures value { result ≡ rate * seconds }
-    ensures bound { result ≤ most_rate * seconds }
-{
-    u64::from(rate) * u64::from(seconds)
-}
-
-/// What a connection to a trip costs.
-fn link_cost(pool: &Pool, next: &Trip, link: Link) -> u64
-    requires pool { IsPool pool.now }
-    requires short { IsShort link }
-    ensures value { result ≡ blocks.link_cost pool.now next.now link }
-    ensures bound { result ≤ most_rate * walks.seconds_of link }
-{
-    match link {
-        Link::Direct { dead, stand } => {
-            let stood = if next.from == pool.depot { 0 } else { stand };
-            cost_at_rate(pool.dead_rate, dead) + cost_at_rate(pool.stand_rate, stood)
-        }
-        Link::Depot {
-            inward,
-            outward,
-            ..
-        } => cost_at_rate(pool.dead_rate, inward + outward),
-    }
-}
 
 /// Whether a stand before a trip, at its first point, is a cut.
 fn is_cut_before(day: &Day, pool: &Pool, next: &Trip, u: u32, stand: u32) -> bool
@@ -153,35 +124,6 @@ pub(crate) fn first_step(day: &Day, class: u32, pool: &Pool, t: u32) -> Option<S
         cost: u64::from(pool.fixed) + cost_at_rate(pool.dead_rate, out),
         driving,
     })
-}
-
-/// What a later trip adds to the cost of a block, if it may follow another one as far as connections go.
-pub(crate) fn cost_of_following(day: &Day, class: u32, pool: &Pool, t: u32, u: u32) -> Option<u64>
-    requires pool { slice_get day.now.params.pools class ≡ Some pool.now }
-    requires ranges { IsPool pool.now }
-    requires trip { t < length day.now.trips }
-    requires next { u < length day.now.trips }
-    ensures value { result ≡ walks.added day.now pool.now t u }
-    ensures few { IfSome result (λ cost. cost ≤ 3456000000) }
-{
-    let next = day.trip(u);
-    if !day.admits(class, u) || u <= t {
-        return None;
-    }
-    let link = day.connect(class, t, u)?;
-    Some(link_cost(pool, next, link))
-}
-
-/// What the pull-in adds, if there is one.
-pub(crate) fn cost_of_pull_in(day: &Day, class: u32, pool: &Pool, t: u32) -> Option<u64>
-    requires pool { slice_get day.now.params.pools class ≡ Some pool.now }
-    requires ranges { IsPool pool.now }
-    requires trip { t < length day.now.trips }
-    ensures value { result ≡ walks.ended day.now pool.now t }
-    ensures few { IfSome result (λ cost. cost ≤ 1728000000) }
-{
-    let seconds = day.pull_in(class, t)?;
-    Some(cost_at_rate(pool.dead_rate, seconds))
 }
 
 /// A later trip of a block, if it may follow another one, from the driving at the end of that.

@@ -7,10 +7,11 @@ mod laws;
 mod network;
 mod open;
 mod opening;
+mod rates;
 mod step;
 
 pub use laws::counted_blocks;
 pub use network::PoolNet;
 pub use open::OpenBlock;
-pub use opening::price;
+pub use rates::{cost_at_rate, cost_of_following, cost_of_pull_in, link_cost};
 pub use step::Step;

@@ -3,15 +3,16 @@
 ghost use Rattle.std.specs.Prelude.{◌≡◌, ◌<◌, ◌≤◌, ◌≤ℤ◌, ◌-ℤ◌, ◌+ℤ◌, neg_ℤ, pos, IfSome, Some, length, slice_get};
 ghost use Rattle.plan_core.specs.Limits.{most_price};
 ghost use Rattle.cover_core.specs.FirstLeast.{AllWithin};
-ghost use Rattle.cover_core.specs.Plans.{price_at};
 ghost use Rattle.plan_params.specs.Limits.{IsPool};
 ghost use Rattle.std.specs.Option.{option_map};
 ghost use Rattle.depot_network.specs.Walk.{added, ended};
 ghost use Rattle.depot_network.specs.Open.{OpenFits, closed_open, extended_open, first_open, first_scaled, scaled};
 
-use crate::cost::{cost_of_following, cost_of_pull_in, first_step, last_step, next_step};
+use crate::cost::{first_step, last_step, next_step};
 use crate::network::PoolNet;
 use crate::open::OpenBlock;
+use crate::rates::{cost_of_following, cost_of_pull_in};
+use cover_core::price;
 use plan_core::Price;
 use plan_params::Pool;
 
@@ -55,20 +56,6 @@ fn less(value: i64, price: i64) -> i64
     ensures { result ≡ value -ℤ price }
 {
     value - price
-}
-
-/// The price of a trip, 0 where there is none.
-pub fn price(prices: &[Price], item: u32) -> i64
-    requires { AllWithin most_price prices.now }
-    ensures value { result ≡ price_at prices.now item }
-    ensures low { neg_ℤ (pos most_price) ≤ℤ result }
-    ensures high { result ≤ℤ pos most_price }
-{
-    if (item as usize) < prices.len() {
-        prices[item as usize].0
-    } else {
-        0
-    }
 }
 
 impl PoolNet<'_> {

@@ -13,8 +13,3 @@ pub at-none : {A : Type 0} (xs : List A) (k : ℕ) → length xs ≤ k → slice
 at-none [] k h = refl
 at-none (x ∷ xs) zero h = absurd (omega arith)
 at-none (x ∷ xs) (suc k) h = at-none xs k (omega arith)
-
-pub price_at-none : (prices : List Price) (k : ℕ) → length prices ≤ k → price_at prices k ≡ pos 0
-price_at-none [] k h = refl
-price_at-none (x ∷ xs) zero h = absurd (omega arith)
-price_at-none (x ∷ xs) (suc k) h = price_at-none xs k (omega arith)

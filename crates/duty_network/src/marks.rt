@@ -4,7 +4,6 @@ ghost use Rattle.std.specs.Prelude.{◌≡◌, ◌<◌, ◌≤◌, ◌≤ℤ◌,
 ghost use Rattle.std.specs.Option.{option_map};
 ghost use Rattle.plan_core.specs.Limits.{most_price, most_rate, most_fixed_cost};
 ghost use Rattle.cover_core.specs.FirstLeast.{AllWithin};
-ghost use Rattle.cover_core.specs.Plans.{price_at};
 ghost use Rattle.plan_core.specs.declared.types.Piece.{Piece};
 ghost use Rattle.vdv452_tables.specs.Ranges.{IsTime};
 ghost use Rattle.plan_params.specs.Limits.{IsGroup};
@@ -15,7 +14,7 @@ ghost use Rattle.duty_network.specs.Marks.{closed_value, closes_lawfully, extend
 ghost use Rattle.duty_network.specs.Ranges.{IsShift, MarkFits, off_value, on_value};
 
 use crate::net::{DutyNet, both};
-use cover_core::Mark;
+use cover_core::{Mark, price};
 use eu561_rules::Limits;
 use plan_core::{Piece, Price, Sec};
 use plan_params::Group;
@@ -25,20 +24,6 @@ pub(crate) fn limits(group: &Group) -> Limits
     ensures { result ≡ limits_of group.now }
 {
     Limits::of(group.ten, group.reduced)
-}
-
-/// The price of an item, 0 where there is none.
-fn price(prices: &[Price], item: u32) -> i64
-    requires { AllWithin most_price prices.now }
-    ensures value { result ≡ price_at prices.now item }
-    ensures low { neg_ℤ (pos most_price) ≤ℤ result }
-    ensures high { result ≤ℤ pos most_price }
-{
-    if (item as usize) < prices.len() {
-        prices[item as usize].0
-    } else {
-        0
-    }
 }
 
 /// A rate times a number of seconds.

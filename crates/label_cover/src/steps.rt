@@ -15,10 +15,10 @@ ghost use Rattle.duty_network.specs.Ranges.{IsShift};
 ghost use Rattle.label_cover.specs.Opened.{less_price, seen_mark};
 
 use crate::open_mark::OpenMark;
-use cover_core::{Mark, Prices};
+use cover_core::{Mark, Prices, price_or_zero};
 use duty_network::DutyNet;
 use eu561_rules::Limits;
-use plan_core::{Piece, Price};
+use plan_core::Piece;
 use plan_params::Group;
 
 /// The limits of a group.
@@ -28,22 +28,11 @@ fn limits(group: &Group) -> Limits
     Limits::of(group.ten, group.reduced)
 }
 
-/// The price at a place, 0 where there is none.
-fn price(prices: &[Price], item: u32) -> i64
-    ensures { result ≡ price_at prices.now item }
-{
-    if (item as usize) < prices.len() {
-        prices[item as usize].0
-    } else {
-        0
-    }
-}
-
 /// The price of an item, 0 where there is none.
 fn price_of(prices: &Prices, item: u32) -> i64
     ensures { result ≡ price_at prices.now.items item }
 {
-    price(prices.items.as_slice(), item)
+    price_or_zero(prices.items.as_slice(), item)
 }
 
 /// One of two numbers.

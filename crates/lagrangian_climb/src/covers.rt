@@ -7,23 +7,9 @@ ghost use Rattle.cover_core.specs.Fitting.{AreFit};
 ghost use Rattle.cover_core.specs.Plans.{times};
 
 use crate::choosing::zero_counts;
-use cover_core::Column;
+use cover_core::{Column, add_items};
 use plan_core::{Memory, Seq};
 use std::alloc::Global;
-
-/// Counts each item of a list once more.
-fn add_items(cover: &mut Seq<u32>, list: &[u32])
-    requires items { AllBelow (length cover.old) list.now }
-    requires small { (i : ℕ) → slice_index cover.old i ≤ 1000000 }
-    requires short { length list.now ≤ most_items }
-    ensures added { (i : ℕ) → slice_index cover.new i ≡ slice_index cover.old i + times i list.now }
-    ensures len { length cover.new ≡ length cover.old }
-{
-    for item in list {
-        let count = cover.as_slice()[*item as usize];
-        cover.set(*item as usize, count + 1);
-    }
-}
 
 /// How often each item stands in the columns at some places of a pool.
 pub fn covers(

@@ -7,7 +7,7 @@ ghost use Rattle.cover_core.specs.Plans.{price_at, number_at};
 ghost use Rattle.lagrangian_climb.specs.Climbs.{AreNear, AreSpans};
 
 use crate::numbers::{direction, lack, price_after_move, square};
-use cover_core::Prices;
+use cover_core::{Prices, price_at};
 use plan_core::{Memory, Price, Seq};
 use std::alloc::Global;
 
@@ -38,17 +38,6 @@ fn direction_at(directions: &[i64], item: usize) -> i64
     ensures high { result ≤ℤ pos 1600000 }
 {
     directions[item]
-}
-
-/// The price of an item.
-fn price_at(prices: &Prices, item: usize) -> i64
-    requires inside { item < length prices.now.items }
-    requires moderate { AllWithin most_price prices.now.items }
-    ensures value { result ≡ price_at prices.now.items item }
-    ensures low { neg_ℤ (pos most_price) ≤ℤ result }
-    ensures high { result ≤ℤ pos most_price }
-{
-    prices.items.as_slice()[item].0
 }
 
 /// Between which numbers the price of an item is kept.

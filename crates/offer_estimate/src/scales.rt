@@ -8,7 +8,7 @@ ghost use Rattle.cover_master.specs.Method.{clamped};
 ghost use Rattle.offer_estimate.specs.Scales.{IsScale};
 ghost use Rattle.offer_estimate.specs.Estimates.{scaled_price, scaled_prices};
 
-use cover_core::Prices;
+use cover_core::{Prices, price_at};
 use plan_core::{Memory, Price, Seq};
 use std::alloc::Global;
 
@@ -78,19 +78,8 @@ pub fn scaled(alloc: Global, prices: &Prices, scale: Scale) -> Result<Prices, Me
 {
     let mut items = Seq::new(alloc);
     for item in 0..prices.items.len() {
-        let price = price_of(prices, item);
+        let price = price_at(prices, item);
         items.push(Price(price_scaled(price, scale.part, scale.whole)))?;
     }
     Ok(Prices { items })
-}
-
-/// The price of an item.
-fn price_of(prices: &Prices, item: usize) -> i64
-    requires inside { item < length prices.now.items }
-    requires moderate { AllWithin most_price prices.now.items }
-    ensures value { result ≡ price_at prices.now.items item }
-    ensures low { neg_ℤ (pos most_price) ≤ℤ result }
-    ensures high { result ≤ℤ pos most_price }
-{
-    prices.items.as_slice()[item].0
 }

@@ -5,7 +5,8 @@ use Rattle.std.proofs.lemmas.Bool.{cases_lt}
 use Rattle.std.proofs.lemmas.Bool.Decides.{nat_tests}
 use Rattle.plan_params.specs.declared.rows.pool.Pool.{Pool}
 use Rattle.day_model.specs.Facts.{DayFacts}
-use Rattle.one_pool_flow.specs.DayNets.{IsLaid, IsLaidRow, arc_of, dear_of}
+use Rattle.depot_network.specs.Walk.{dear_of}
+use Rattle.one_pool_flow.specs.DayNets.{IsLaid, IsLaidRow, arc_of}
 use Rattle.one_pool_flow.specs.Paths.{is_flow_day, is_flow_of}
 
 front : {A : Type 0} → (xs : List A) (y d : A) (k : ℕ) → k < length xs → get_or (xs ++ y ∷ []) k d ≡ get_or xs k d

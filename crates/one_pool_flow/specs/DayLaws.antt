@@ -9,9 +9,9 @@ use Rattle.plan_params.specs.declared.rows.pool.Pool.{Pool}
 use Rattle.day_model.specs.Facts.{DayFacts, admits}
 use Rattle.day_model.specs.Blocks.{link_cost}
 use Rattle.day_model.specs.Links.{given, link}
-use Rattle.depot_network.specs.Walk.{added}
+use Rattle.depot_network.specs.Walk.{added, dear_of}
 use Rattle.path_cover.specs.Nets.{IsCheap, IsRising}
-use Rattle.one_pool_flow.specs.DayNets.{IsLaid, arc_of, dear_of, net_of}
+use Rattle.one_pool_flow.specs.DayNets.{IsLaid, arc_of, net_of}
 
 added_not : (day : DayFacts) (pool : Pool) (t u : ℕ) → nat_lt t u ≡ false → added day pool t u ≡ None
 added_not day pool t u test = go (slice_get day.trips t) (slice_get day.trips u)

@@ -2,7 +2,7 @@
 use Rattle.std.specs.Prelude.{◌≡◌, ℕ, ◌+◌, ◌*◌, nat_lt, cond, length, List, [], ◌∷◌, Option, Some, None, ◌<◌, ◌≤◌, slice_index_or}
 use Rattle.plan_params.specs.declared.rows.pool.Pool.{Pool}
 use Rattle.day_model.specs.Facts.{DayFacts}
-use Rattle.depot_network.specs.Walk.{added, begun, ended}
+use Rattle.depot_network.specs.Walk.{added, begun, dear_of, ended}
 use Rattle.path_cover.specs.Nets.{Net, IsCover, cover_cost}
 use Rattle.one_pool_flow.specs.Paths.{IsPathPlan, plan_cost}
 
@@ -12,10 +12,6 @@ arc_of day pool x v =
     cond (nat_lt x (length day.trips))
     (cond (nat_lt v (length day.trips)) (added day pool x v) (ended day pool x))
     (cond (nat_lt v (length day.trips)) (begun day pool v) (Some 0))
-
--- no arc costs more
-abbrev pub dear_of : Pool → ℕ
-dear_of pool = pool.fixed + 345600 * (pool.dead_rate + pool.stand_rate)
 
 abbrev pub net_of : DayFacts → Pool → Net
 net_of day pool = record { nodes = length day.trips; most = pool.cap; arc = arc_of day pool }

@@ -2,7 +2,8 @@
 
 ghost use Rattle.std.specs.Prelude.{◌≡◌, ◌≤◌, ◌+◌, ◌*◌, length};
 ghost use Rattle.plan_core.specs.Limits.{most_items, most_places};
-ghost use Rattle.one_pool_flow.specs.DayNets.{IsLaid, dear_of};
+ghost use Rattle.depot_network.specs.Walk.{dear_of};
+ghost use Rattle.one_pool_flow.specs.DayNets.{IsLaid};
 
 use day_model::Day;
 use path_cover::Arcs;

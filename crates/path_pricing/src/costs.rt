@@ -8,20 +8,11 @@ ghost use Rattle.day_model.specs.Ranges.{IsDaily};
 ghost use Rattle.depot_network.specs.Open.{scaled};
 ghost use Rattle.path_pricing.specs.Points.{stand_rate_at};
 
+use depot_network::cost_at_rate;
 use plan_params::Pool;
 use trip_times::Trip;
 
-/// What seconds cost at a rate.
-fn cost_at_rate(rate: u32, seconds: u32) -> u64
-    requires rate { rate ≤ most_rate }
-    requires seconds { seconds ≤ 345600 }
-    ensures value { result ≡ rate * seconds }
-    ensures bound { result ≤ most_rate * seconds }
-{
-    u64::from(rate) * u64::from(seconds)
-}
-
-/// A thousand times that, or nothing where blocks are counted.
+/// A thousand times what seconds cost at a rate, or nothing where blocks are counted.
 pub(crate) fn charge(counts: bool, rate: u32, seconds: u32) -> i64
     requires rate { rate ≤ most_rate }
     requires seconds { seconds ≤ 345600 }

@@ -11,7 +11,8 @@ ghost use Rattle.depot_network.specs.Open.{closed_open, extended_open, first_ope
 ghost use Rattle.path_pricing.specs.Blocks.{AreBoundsFrom, AllWithin-prop, IsInRange, block_labels, floor_of};
 ghost use Rattle.path_pricing.specs.Laws.{labels_hide, labels_kept, labels_safe, labels_stepwise, labels_valued};
 
-use depot_network::{OpenBlock, PoolNet, price};
+use cover_core::price;
+use depot_network::{OpenBlock, PoolNet};
 use label_dive::Floors;
 use label_search::{Labels, rest};
 use plan_core::Price;

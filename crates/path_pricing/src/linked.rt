@@ -13,7 +13,8 @@ ghost use Rattle.path_pricing.specs.Lows.{AreLows};
 
 use crate::behind::{FAR, blank, with_pull_in};
 use crate::rows::lower;
-use depot_network::{PoolNet, price};
+use cover_core::price;
+use depot_network::PoolNet;
 use label_search::rest;
 use plan_core::{Memory, Price};
 use plan_params::Pool;

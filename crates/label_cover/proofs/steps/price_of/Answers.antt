@@ -6,5 +6,5 @@ use Rattle.label_cover.proofs.steps.price_of.Goals as goal
 
 pub returns : goal.returns
 returns c =
-    let fits : FitsSigned w64 c.price.result = search rules in
-    rw (to_z-of_z w64 c.price.result fits) (c.price.ensures ∙ ap (λ prices. price_at prices c.args.item) c.as_slice.ensures)
+    let fits : FitsSigned w64 c.price_or_zero.result = search rules in
+    rw (to_z-of_z w64 c.price_or_zero.result fits) (c.price_or_zero.ensures ∙ ap (λ prices. price_at prices c.args.item) c.as_slice.ensures)

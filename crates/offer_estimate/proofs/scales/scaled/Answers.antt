@@ -27,15 +27,15 @@ loop-item-preserved c =
     let high : z ≤ℤ pos 10000000000000 = omega (arith, ints) in
     let within : IsWithin 10000000000000 x.0 = record { low = low; high = high } in
     let fits : FitsSigned w64 c.price_scaled.result = search rules in
-    let price_fits : FitsSigned w64 c.price_of-price.result = search rules in
-    let price_is : to_z w64 (of_z w64 c.price_of-price.result) ≡ price_at prices item =
-    to_z-of_z price_fits ∙ c.price_of-price.ensures.value in
+    let price_fits : FitsSigned w64 c.price_at-price.result = search rules in
+    let price_is : to_z w64 (of_z w64 c.price_at-price.result) ≡ price_at prices item =
+    to_z-of_z price_fits ∙ c.price_at-price.ensures.value in
     let part_is : to_z w64 (of_z w64 part) ≡ part = omega (arith, ints) in
     let whole_is : to_z w64 (of_z w64 whole) ≡ whole = omega (arith, ints) in
     let is : x.0 ≡ scaled_price part whole (price_at prices item) =
     to_z-of_z fits ∙ c.price_scaled.ensures.value
-    ∙ ap (λ (y : ℤ). scaled_price y (to_z w64 (of_z w64 whole)) (to_z w64 (of_z w64 c.price_of-price.result))) part_is ∙
-    ap (λ (y : ℤ). scaled_price part y (to_z w64 (of_z w64 c.price_of-price.result))) whole_is
+    ∙ ap (λ (y : ℤ). scaled_price y (to_z w64 (of_z w64 whole)) (to_z w64 (of_z w64 c.price_at-price.result))) part_is ∙
+    ap (λ (y : ℤ). scaled_price part y (to_z w64 (of_z w64 c.price_at-price.result))) whole_is
     ∙ ap (λ (y : ℤ). scaled_price part whole y) price_is in
     let long = c.len-item-end.ensures in
     let test = c.loop-item-test.true in

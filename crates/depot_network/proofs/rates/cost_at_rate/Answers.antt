@@ -1,5 +1,5 @@
 use Rattle.std.proofs.Common.{ℕ, ◌*◌, ◌≤◌, zero, suc, arith}
-use Rattle.one_pool_flow.proofs.costs.cost_at_rate.Goals as goal
+use Rattle.depot_network.proofs.rates.cost_at_rate.Goals as goal
 
 times_low : (rate seconds : ℕ) → seconds ≤ 345600 → rate * seconds ≤ 345600 * rate
 times_low zero seconds few = omega arith

@@ -1,9 +1,8 @@
 use Rattle.std.proofs.Common.{pos, get_or, sym, rules, w64, subst, ℤ, ◌≤ℤ◌, neg_ℤ}
 use Rattle.std.proofs.lemmas.Int.{to_z-of_z}
 use Rattle.std.specs.Prelude.{FitsSigned}
-use Rattle.cover_core.proofs.Values.{price_at-get, price_at-within}
-use Rattle.duty_network.proofs.Places.{price_at-none}
-use Rattle.duty_network.proofs.marks.price.Goals as goal
+use Rattle.cover_core.proofs.Values.{price_at-get, price_at-none, price_at-within}
+use Rattle.cover_core.proofs.item_prices.price.Goals as goal
 
 pub returns-then-item-prices-clause-value : goal.returns-then-item-prices-clause-value
 returns-then-item-prices-clause-value c =

@@ -2,7 +2,7 @@ use Rattle.std.proofs.Common.{◌≡◌, ◌<◌, ◌+◌, length, get_or, arith
 use Rattle.std.proofs.Math.ListN.{length-set}
 use Rattle.cover_core.proofs.Values.{AllBelow-get}
 use Rattle.cover_core.proofs.Times.{times-front, added-more}
-use Rattle.cover_master.proofs.turns.add_items.Goals as goal
+use Rattle.cover_core.proofs.tally.add_items.Goals as goal
 
 pub bounds-as_slice-item : goal.bounds-as_slice-item
 bounds-as_slice-item c =

@@ -1,7 +1,7 @@
 use Rattle.std.proofs.Common.{◌≡◌, ℕ, ◌+◌, take, length}
 use Rattle.std.specs.Prelude.{slice_index}
 use Rattle.cover_core.specs.Plans.{times}
-use Rattle.cover_master.proofs.turns.add_items.Given as goal
+use Rattle.cover_core.proofs.tally.add_items.Given as goal
 
 abbrev pub invariant-loop-item : goal.invariant-loop-item
 invariant-loop-item l = record {

@@ -1,9 +1,8 @@
 use Rattle.std.proofs.Common.{pos, get_or, sym, rules, w64}
 use Rattle.std.proofs.lemmas.Int.{to_z-of_z}
 use Rattle.std.specs.Prelude.{FitsSigned}
-use Rattle.cover_core.proofs.Values.{price_at-get}
-use Rattle.depot_network.proofs.Opens.{price_at-none}
-use Rattle.block_cover.proofs.moves.price.Goals as goal
+use Rattle.cover_core.proofs.Values.{price_at-get, price_at-none}
+use Rattle.cover_core.proofs.item_prices.price_or_zero.Goals as goal
 
 pub returns-then-item-prices : goal.returns-then-item-prices
 returns-then-item-prices c =
