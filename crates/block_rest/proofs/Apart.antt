@@ -42,15 +42,6 @@ kept-times day moment i t (u ∷ us) =
     ]
 
 module _ (day : DayFacts) (moment i : ℕ) where
-  -- a block has a head at its first trip alone
-  head-none : (first class : ℕ) (list : List ℕ) → ((t : ℕ) (ts : List ℕ) → list ≡ t ∷ ts → t ≢ first) →
-      head_at day moment first class list ≡ []
-  head-none first class [] other = refl
-  head-none first class (t ∷ ts) other =
-      let no : t ≢ first = other t ts refl in
-      let test : (t == first) ≡ false = grind (arith, nat_tests) in
-      rw test refl
-
   head-times : (first class : ℕ) (list : List ℕ) → held_times i (head_at day moment first class list) ≤ times i list
   head-times first class [] = omega arith
   head-times first class (t ∷ ts) =

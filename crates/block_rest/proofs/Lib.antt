@@ -3,5 +3,3 @@ pub mod Apart
 pub mod Kept
 pub mod Lows
 pub mod Same
-pub mod Stands
-pub mod Walking

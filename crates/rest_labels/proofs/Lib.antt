@@ -5,3 +5,6 @@ pub mod Grouped
 pub mod Spread
 pub mod Marked
 pub mod Ranges
+pub mod Stands
+pub mod Walking
+pub mod Worths

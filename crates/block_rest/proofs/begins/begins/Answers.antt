@@ -1,6 +1,6 @@
 use Rattle.std.proofs.Common.{ℕ, List, length, sym, subst, rules, slice_index_or}
 use Rattle.cover_core.specs.Cover.{AllBelow}
-use Rattle.block_rest.proofs.Stands.{body-below}
+use Rattle.rest_labels.proofs.Stands.{body-below}
 use Rattle.block_rest.proofs.begins.begins.Goals as goal
 
 pub leaves_later-requires-clause-trips : goal.leaves_later-requires-clause-trips

@@ -4,7 +4,7 @@ use Rattle.trip_times.specs.declared.trip.Trip.{Trip}
 use Rattle.day_model.specs.Ranges.{IsDaily}
 use Rattle.depot_network.specs.Open.{opening}
 use Rattle.depot_network.proofs.Opens.{opening_safe}
-use Rattle.block_rest.proofs.Walking.{after-more}
+use Rattle.rest_labels.proofs.Walking.{after-more}
 use Rattle.block_rest.proofs.walk.block_with_trips.Goals as goal
 
 pub next_open-requires-clause-item : goal.next_open-requires-clause-item

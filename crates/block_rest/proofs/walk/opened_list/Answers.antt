@@ -4,8 +4,8 @@ use Rattle.cover_core.specs.Labels.{label_after, label_of}
 use Rattle.cover_core.proofs.Values.{AllBelow-get}
 use Rattle.depot_network.specs.Open.{opening}
 use Rattle.cover_rest.specs.Rest.{written}
-use Rattle.block_rest.proofs.Stands.{body-below}
-use Rattle.block_rest.proofs.Walking.{after-none, first-walked, take-rest}
+use Rattle.rest_labels.proofs.Stands.{body-below}
+use Rattle.rest_labels.proofs.Walking.{after-none, first-walked, take-rest}
 use Rattle.block_rest.proofs.walk.opened_list.Goals as goal
 
 pub block_of_trips-requires-clause-list : goal.block_of_trips-requires-clause-list

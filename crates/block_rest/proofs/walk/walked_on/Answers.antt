@@ -3,8 +3,8 @@ use Rattle.cover_core.specs.Cover.{AllBelow}
 use Rattle.cover_core.specs.Labels.{label_after}
 use Rattle.depot_network.specs.Open.{opening}
 use Rattle.cover_rest.specs.Rest.{written}
-use Rattle.block_rest.proofs.Stands.{body-below}
-use Rattle.block_rest.proofs.Walking.{after-body, after-none}
+use Rattle.rest_labels.proofs.Stands.{body-below}
+use Rattle.rest_labels.proofs.Walking.{after-body, after-none}
 use Rattle.block_rest.proofs.walk.walked_on.Goals as goal
 
 pub block_with_trips-requires-clause-rest : goal.block_with_trips-requires-clause-rest

@@ -10,7 +10,8 @@ use Rattle.depot_network.specs.Open.{closed_open, opening}
 use Rattle.depot_network.proofs.Opens.{opening_tied}
 use Rattle.cover_rest.specs.Rest.{written}
 use Rattle.block_rest.specs.Low.{IsLow}
-use Rattle.block_rest.proofs.Lows.{opening_low, safe-of, tied-worth}
+use Rattle.rest_labels.proofs.Worths.{tied-worth}
+use Rattle.block_rest.proofs.Lows.{opening_low, safe-of}
 use Rattle.block_rest.proofs.walk.written_worth.Goals as goal
 
 pub driven_in-requires-clause-low : goal.driven_in-requires-clause-low

@@ -2,7 +2,7 @@ use Rattle.std.proofs.Common.{[], sym, ◌∙◌, rules}
 use Rattle.cover_core.proofs.Values.{AllBelow-get}
 use Rattle.duty_network.specs.Marks.{marking}
 use Rattle.duty_network.proofs.Sizes.{marking-safe}
-use Rattle.duty_rest.proofs.Walking.{after-more}
+use Rattle.rest_labels.proofs.Walking.{after-more}
 use Rattle.duty_rest.proofs.walk.mark_with_pieces.Goals as goal
 
 pub next-requires-clause-item : goal.next-requires-clause-item

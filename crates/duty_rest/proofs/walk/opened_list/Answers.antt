@@ -4,8 +4,8 @@ use Rattle.cover_core.specs.Labels.{label_after, label_of}
 use Rattle.cover_core.proofs.Values.{AllBelow-get}
 use Rattle.duty_network.specs.Marks.{marking}
 use Rattle.cover_rest.specs.Rest.{written}
-use Rattle.duty_rest.proofs.Stands.{body-below}
-use Rattle.duty_rest.proofs.Walking.{after-none, first-walked, take-rest}
+use Rattle.rest_labels.proofs.Stands.{body-below}
+use Rattle.rest_labels.proofs.Walking.{after-none, first-walked, take-rest}
 use Rattle.duty_rest.proofs.walk.opened_list.Goals as goal
 
 pub mark_of_pieces-requires-clause-list : goal.mark_of_pieces-requires-clause-list

@@ -3,8 +3,8 @@ use Rattle.cover_core.specs.Cover.{AllBelow}
 use Rattle.cover_core.specs.Labels.{label_after}
 use Rattle.duty_network.specs.Marks.{marking}
 use Rattle.cover_rest.specs.Rest.{written}
-use Rattle.duty_rest.proofs.Stands.{body-below}
-use Rattle.duty_rest.proofs.Walking.{after-body, after-none}
+use Rattle.rest_labels.proofs.Stands.{body-below}
+use Rattle.rest_labels.proofs.Walking.{after-body, after-none}
 use Rattle.duty_rest.proofs.walk.walked_on.Goals as goal
 
 pub mark_with_pieces-requires-clause-rest : goal.mark_with_pieces-requires-clause-rest

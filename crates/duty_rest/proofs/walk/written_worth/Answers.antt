@@ -9,7 +9,7 @@ use Rattle.duty_network.proofs.Sizes.{timed-from}
 use Rattle.duty_network.proofs.Tied.{marking-tied}
 use Rattle.cover_rest.specs.Rest.{written}
 use Rattle.duty_network.proofs.Modest.{duty-low}
-use Rattle.duty_rest.proofs.Worths.{tied-worth}
+use Rattle.rest_labels.proofs.Worths.{tied-worth}
 use Rattle.duty_rest.proofs.walk.written_worth.Goals as goal
 
 pub returns-in_err-mark-clause-value : goal.returns-in_err-mark-clause-value

@@ -24,7 +24,8 @@ abbrev thousandth_of : Option ℤ → Option ℕ
 thousandth_of o = option_map (λ v. unsigned_abs v / 1000) o
 
 -- Without prices a list closes with 1,000 times its worth, so its worth is a thousandth of that; where the label is lacking or does
--- not close there is no worth, by the tie. So one walk of the label along the written-out list finds its worth.
+-- not close there is no worth, by the tie. So the code need not cost a list by itself: one walk of the label along the written-out
+-- list, whose contract is there already, finds its worth.
 pub tied-worth : {L : Type 0} (w : Labelling L) (close : L → Option ℤ) (worth_of : List ℕ → Option ℕ) (list : List ℕ) →
     IsTied w close [] worth_of →
     worth_of list ≡ option_and_then (λ a. option_map (λ v. unsigned_abs v / 1000) (close a)) (label_of w list)

@@ -3,7 +3,7 @@ use Rattle.std.proofs.Common.{◌≡◌, ◌≢◌, ℕ, ◌+◌, ◌<◌, ◌�
 use Rattle.std.proofs.lemmas.List.{drop_more}
 use Rattle.cover_core.specs.Labels.{Labelling, label_after, label_of}
 use Rattle.cover_rest.specs.Rest.{body_at, written}
-use Rattle.duty_rest.proofs.Stands.{written-more}
+use Rattle.rest_labels.proofs.Stands.{written-more}
 
 pub after-none : {L : Type 0} (w : Labelling L) (xs : List ℕ) → label_after w None xs ≡ None
 after-none w [] = refl
@@ -23,7 +23,7 @@ pub after-more : {L : Type 0} (w : Labelling L) (a : L) (o : Option L) (list : L
 after-more w a o list i within is =
     ap (λ l. label_after w (Some a) l) (drop_more list i 0 within) ∙ ap (λ o. label_after w o (drop (i + 1) list)) (sym is)
 
--- An item of the rest stands for several pieces. The written-out list puts them before those of the items that follow, and a label
+-- An item of the rest stands for several trips or pieces. The written-out list puts them before those of the items that follow, and a label
 -- that goes along two lists one behind the other goes along both (`after-append`). So the walk may go item by item of the rest.
 pub after-body : {L : Type 0} (w : Labelling L) (a : L) (o : Option L) (bs : List (List ℕ)) (list : List ℕ) (i : ℕ) → i < length list →
     o ≡ label_after w (Some a) (body_at bs (slice_index_or list i 0)) →

@@ -12,7 +12,7 @@ below-back : (n : ℕ) (xs ys : List ℕ) → AllBelow n (xs ++ ys) → AllBelow
 below-back n [] ys below = below
 below-back n (x ∷ xs) ys below = below-back n xs ys below.1
 
--- the trips that an item stands for are there
+-- the trips or pieces that an item stands for are there
 pub body-below : (n : ℕ) (bs : List (List ℕ)) (x : ℕ) → AllBelow n (joined bs) → AllBelow n (body_at bs x)
 body-below n [] x below = tt
 body-below n (b ∷ bs) zero below = below-front n b (joined bs) below
