@@ -4,14 +4,13 @@ use Rattle.plan_core.specs.Outside.{Rose}
 use Rattle.input_files.specs.Taken.{TakesFront}
 use Rattle.input_files.specs.Lines.{IsLeft, IsTelling, IsTold}
 use Rattle.std.proofs.Math.Seq.{take-append-add, take-length}
-use Rattle.std.proofs.lemmas.List.{length-append, take-append-le}
-use Rattle.input_files.proofs.PieceLemmas.{append_nothing}
+use Rattle.std.proofs.lemmas.List.{append-nil, length-append, take-append-le}
 
 -- nothing of the line is written yet
 pub telling_begins : (old : Option (List ℕ)) (faults : ℕ) (line : List ℕ) → IsTelling old old faults faults line line true
 telling_begins None faults line = (record { done = []; all = refl; taken = tt }, omega arith)
 telling_begins (Some o) faults line =
-    (record { done = []; all = refl; taken = ap (λ (t : List ℕ). Some t) (sym (append_nothing o)) }, omega arith)
+    (record { done = []; all = refl; taken = ap (λ (t : List ℕ). Some t) (sym (append-nil o)) }, omega arith)
 
 -- a further part is written whole
 more_taken : (old now next : Option (List ℕ)) (done part : List ℕ) → IfSome old (λ bytes. now ≡ Some (bytes ++ done)) →
@@ -77,7 +76,7 @@ part_failed old now next before f g line part rest told front rose =
 whole_taken : (old new : Option (List ℕ)) (line done : List ℕ) → done ++ [] ≡ line → IfSome old (λ bytes. new ≡ Some (bytes ++ done)) →
     IfSome old (λ bytes. new ≡ Some (bytes ++ line))
 whole_taken None new line done all taken = tt
-whole_taken (Some o) new line done all taken = taken ∙ ap (λ (t : List ℕ). Some (o ++ t)) (sym (append_nothing done) ∙ all)
+whole_taken (Some o) new line done all taken = taken ∙ ap (λ (t : List ℕ). Some (o ++ t)) (sym (append-nil done) ∙ all)
 
 whole_front : (old new : Option (List ℕ)) (line : List ℕ) → IfSome old (λ bytes. new ≡ Some (bytes ++ line)) →
     IfSome old (λ bytes. TakesFront bytes new line)

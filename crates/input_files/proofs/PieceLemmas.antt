@@ -1,7 +1,7 @@
 -- A text that is read or written piece by piece.
 use Rattle.std.proofs.Common.{◌≡◌, ℕ, ◌+◌, ◌-◌, ◌<◌, ◌≤◌, List, [], ◌∷◌, ◌++◌, length, take, drop, Option, Some, None, IfSome, refl, sym, ap, ◌∙◌, append_assoc, arith, length-drop, Ok}
 use Rattle.std.proofs.Math.Seq.{take-add}
-use Rattle.std.proofs.lemmas.List.{take-append-drop, drop-drop}
+use Rattle.std.proofs.lemmas.List.{append-nil, drop-drop, take-append-drop}
 use Rattle.plan_core.specs.Outside.{ReadsAt, Takes}
 
 -- One more piece is taken. What was taken so far is the initial part of the text up to a place, and the piece stands there, so the bytes of
@@ -35,10 +35,6 @@ no_rest : (xs : List ℕ) → length xs ≡ 0 → xs ≡ []
 no_rest [] h = refl
 no_rest (x ∷ xs) h = absurd (omega (arith, h))
 
-pub append_nothing : (xs : List ℕ) → xs ++ [] ≡ xs
-append_nothing [] = refl
-append_nothing (x ∷ xs) = ap (λ (t : List ℕ). x ∷ t) (append_nothing xs)
-
 -- A read of no byte into room that is there says that the place is at or behind the file's end (`ends`). So of what was read so far
 -- and what the file holds from that place on, which together are all that it holds (`piece_read`), the latter is empty. So the loop of
 -- `read_pieces` may end there with the clause `bytes`.
@@ -50,7 +46,7 @@ all_read (Some held) now bytes buf at count e so_far reads none room =
     let piece : ReadsAt held at count buf = rw e at reads in
     let at_end : length held ≤ at = piece.ends none room in
     let nothing : drop at held ≡ [] = no_rest (drop at held) (omega (arith, length-drop at held)) in
-    sym (append_nothing bytes) ∙ ap (λ (t : List ℕ). bytes ++ t) (sym nothing) ∙ so_far
+    sym (append-nil bytes) ∙ ap (λ (t : List ℕ). bytes ++ t) (sym nothing) ∙ so_far
 
 -- a piece that goes above the greatest number is there
 pub too_many :

@@ -141,9 +141,6 @@ cut_lines (line ∷ lines) h =
 -- what the grammar asks of such a line (`name_spelled`, `names_spelled`, `formats_spelled`, `row_spelled`), and that it has no line
 -- end in it. `RightTable` holds both of a whole table, and the machine's run over all lines takes the one, the cut of the text the
 -- other.
-bares : List (List ℕ) → List Piece
-bares names = map (λ name. Bare name) names
-
 pub record RightTable (table : Table) : Type 0 where
   pub spells : SpellsTable (map line_of (table_lines table)) table
   pub no_feed : list_all has_no_feed (table_lines table) ≡ true

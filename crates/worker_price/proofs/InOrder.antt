@@ -82,10 +82,6 @@ range-split a (suc m) n =
     move x y = omega arith
 
 module _ (best : Best) (prices : List Price) (groups : ℕ) (least : List ℤ) where
-  -- the least value of a class
-  at_class : ℕ → ℤ
-  at_class k = get_or least k (pos 0)
-
   -- the tasks of a class, from a group on
   class_tasks : (k i n : ℕ) → i + n ≤ groups → filter_map (kept_at best prices groups least) (range_with_len (k * groups + i) n)
       ≡ filter (is_kept prices (get_or least k (pos 0))) (filter_map (best k) (range_with_len i n))
