@@ -89,9 +89,6 @@ few_blocks facts columns few plan =
     omega (arith, few, has_few_columns (blocks_of facts false) (blocks_listed (record { day = facts; counts = false })) columns plan)
 
 module _ (facts : DayFacts) (blocks : List Column) where
-  over : DutyFacts
-  over = record { pieces = pieces_of_plan facts blocks; params = facts.params; counts = false }
-
   listed : HasListedColumns (duties_over facts blocks false)
   listed = duties_listed (record { pieces = pieces_of_plan facts blocks; params = facts.params; counts = false })
 

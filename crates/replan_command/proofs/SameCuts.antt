@@ -37,14 +37,6 @@ HasSameCut day earlier blocks p =
     (x : ℕ × ℕ) × (part_of blocks earlier p ≡ Some x)
     × ((n : ℕ) × (q : Piece) × (slice_get (pieces_of_plan day earlier) n ≡ Some q) × (q.block ≡ x.0) × (q.index ≡ x.1))
 
-first-or : ℕ → List ℕ → ℕ
-first-or x [] = x
-first-or x (y ∷ ys) = y
-
-others-of : List ℕ → List ℕ
-others-of [] = []
-others-of (y ∷ ys) = ys
-
 -- the last of some trips
 abbrev last-in : ℕ → List ℕ → ℕ
 last-in x [] = x

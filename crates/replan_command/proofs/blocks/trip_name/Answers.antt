@@ -1,7 +1,7 @@
 use Rattle.std.proofs.Common.{ℕ, ◌<◌, List, length, sym, subst, slice_index_or}
 use Rattle.day_model.specs.Facts.{DayFacts}
 use Rattle.cover_rest.specs.Rest.{body_at}
-use Rattle.block_rest.proofs.Stands.{body-below}
+use Rattle.rest_labels.proofs.Stands.{body-below}
 use Rattle.replan_command.specs.Steps.{items_of_blocks}
 use Rattle.replan_command.proofs.Problems.{first-there}
 use Rattle.replan_command.proofs.blocks.trip_name.Goals as goal
