@@ -5,7 +5,7 @@ use Rattle.vdv451_text.specs.declared.table.Table.{Table}
 use Rattle.vdv451_text.specs.declared.fault.TextFault.{TextFault}
 use Rattle.vdv451_text.specs.declared.fault.TextKind.{TextKind}
 use Rattle.plan_command.specs.Planning.{Asked}
-use Rattle.planner_run.specs.Tasks.{Task, climbs}
+use Rattle.planner_run.specs.Tasks.{Task}
 use Rattle.planner_run.specs.Tasks.{Certify, Check, Day, Make, MakeRun, Plan, Replan, Trips, Week}
 use Rattle.planner_run.specs.declared.status.Status.{Status}
 use Rattle.planner_run.specs.declared.status.Status.TheVariants as statuses
@@ -15,7 +15,8 @@ use Rattle.input_files.specs.declared.fault.FileFault.TheVariants as files
 use Rattle.input_files.specs.Inputs.{HasTextFault, IsFileCause, IsUnread as IsUnreadFile, SpellTables, held_under, refused_text}
 use Rattle.input_files.specs.Parts.{joined}
 use Rattle.planner_run.specs.declared.outcome.Outcome.{Outcome}
-use Rattle.planner_run.specs.Run.{ArePartsRefused, IsAnswer, IsAnswerCause, IsPartsCause, IsRefusal, IsTablesRefusal, IsUnread, IsWhole, file_status, is_of_planning, is_open, names_for, stage_of, told_for}
+use Rattle.planner_run.specs.Endings.{HasCause, status_kind}
+use Rattle.planner_run.specs.Run.{ArePartsRefused, IsAnswer, IsAnswerCause, IsPartsCause, IsRefusal, IsTablesRefusal, IsUnread, IsWhole, climbs, file_status, is_of_planning, is_open, names_for, stage_of, told_for}
 use Rattle.input_files.proofs.InputLemmas.{if_told, of_told}
 use Rattle.planner_run.specs.Model.{IsModelCause}
 use Rattle.day_maker.specs.Made.{made_tables}
@@ -98,21 +99,13 @@ pub record IsOtherStatus (status : Status) : Type 0 where
 -- that are no refusals the second holds since they have no cause.
 pub parts_of : (status : Status) → IsTextStatus status ⊎ IsOtherStatus status
 parts_of (statuses.Input (inputs.Text file fault)) = inl (record { file = file; fault = fault; is = refl })
-parts_of (statuses.Input (inputs.Table fault)) = inr (record { names = λ names. refl; refusal = λ task contents day r. r })
-parts_of (statuses.Input (inputs.Trips count)) = inr (record { names = λ names. refl; refusal = λ task contents day r. r })
-parts_of (statuses.Input (inputs.Params fault)) = inr (record { names = λ names. refl; refusal = λ task contents day r. r })
-parts_of (statuses.Input (inputs.Days first last)) = inr (record { names = λ names. refl; refusal = λ task contents day r. r })
-parts_of (statuses.Input (inputs.Trip fid fault)) = inr (record { names = λ names. refl; refusal = λ task contents day r. r })
-parts_of (statuses.Day fault) = inr (record { names = λ names. refl; refusal = λ task contents day r. r })
-parts_of (statuses.NoPlan side bound places) = inr (record { names = λ names. refl; refusal = λ task contents day r. r })
-parts_of (statuses.NotPlaced side item name partial) = inr (record { names = λ names. refl; refusal = λ task contents day r. r })
-parts_of (statuses.OldPlan reason) = inr (record { names = λ names. refl; refusal = λ task contents day r. r })
 parts_of statuses.Memory = inr (record { names = λ names. refl; refusal = λ task contents day r. absurd r })
 parts_of statuses.Ok = inr (record { names = λ names. refl; refusal = λ task contents day r. absurd r })
 parts_of statuses.Usage = inr (record { names = λ names. refl; refusal = λ task contents day r. absurd r })
 parts_of (statuses.ReadFault file) = inr (record { names = λ names. refl; refusal = λ task contents day r. absurd r })
 parts_of statuses.WriteFault = inr (record { names = λ names. refl; refusal = λ task contents day r. absurd r })
 parts_of (statuses.CheckNo reason) = inr (record { names = λ names. refl; refusal = λ task contents day r. absurd r })
+parts_of _ = inr (record { names = λ names. refl; refusal = λ task contents day r. r })
 
 -- what all files tell is what the refusal of tables speaks of
 told_others : (held : List ℕ → Option (List ℕ)) (names contents : List (List ℕ)) (status : Status) → IsOtherStatus status →
@@ -120,42 +113,18 @@ told_others : (held : List ℕ → Option (List ℕ)) (names contents : List (Li
 told_others held names contents status other told = let P : List (List ℕ) → Type 0 = λ ns. held_under held ns ≡ Some contents in
     subst P (other.names names) told
 
--- the tables refuse by their first fault, the number of trips or the day, or by what they plan
+-- a status that tables are refused with: a refusal, but not one of a text
 abbrev IsTableStatus : Status → Type 0
-IsTableStatus (statuses.Input (inputs.Table fault)) = Unit {0}
-IsTableStatus (statuses.Input (inputs.Trips count)) = Unit {0}
-IsTableStatus (statuses.Input (inputs.Params fault)) = Unit {0}
-IsTableStatus (statuses.Input (inputs.Days first last)) = Unit {0}
-IsTableStatus (statuses.Input (inputs.Trip fid fault)) = Unit {0}
-IsTableStatus (statuses.Day fault) = Unit {0}
-IsTableStatus (statuses.NoPlan side bound places) = Unit {0}
-IsTableStatus (statuses.NotPlaced side item name partial) = Unit {0}
-IsTableStatus (statuses.OldPlan reason) = Unit {0}
 IsTableStatus (statuses.Input (inputs.Text file fault)) = ⊥
-IsTableStatus statuses.Memory = ⊥
-IsTableStatus statuses.Ok = ⊥
-IsTableStatus statuses.Usage = ⊥
-IsTableStatus (statuses.ReadFault file) = ⊥
-IsTableStatus statuses.WriteFault = ⊥
-IsTableStatus (statuses.CheckNo reason) = ⊥
+IsTableStatus status = HasCause (Unit {0}) (λ file. ⊥) ⊥ (status_kind status)
 
 model_is_of_tables : (tables : List Table) (day : ℕ) (status : Status) → IsModelCause tables day status → IsTableStatus status
 model_is_of_tables tables day (statuses.Input (inputs.Table fault)) c = tt
 model_is_of_tables tables day (statuses.Input (inputs.Trips count)) c = tt
 model_is_of_tables tables day (statuses.Input (inputs.Params fault)) c = tt
-model_is_of_tables tables day (statuses.Input (inputs.Days first last)) c = absurd c
 model_is_of_tables tables day (statuses.Input (inputs.Trip fid fault)) c = tt
 model_is_of_tables tables day (statuses.Day fault) c = tt
-model_is_of_tables tables day (statuses.Input (inputs.Text file fault)) c = c
-model_is_of_tables tables day (statuses.NoPlan side bound places) c = tt
-model_is_of_tables tables day (statuses.NotPlaced side item name partial) c = tt
-model_is_of_tables tables day statuses.Memory c = c
-model_is_of_tables tables day statuses.Ok c = c
-model_is_of_tables tables day statuses.Usage c = c
-model_is_of_tables tables day (statuses.ReadFault file) c = c
-model_is_of_tables tables day statuses.WriteFault c = c
-model_is_of_tables tables day (statuses.CheckNo reason) c = c
-model_is_of_tables tables day (statuses.OldPlan reason) c = tt
+model_is_of_tables tables day _ c = absurd c
 
 unplanned_is_of_tables : (fault : PlanFault) → fault ≢ faults.Memory → IsTableStatus (plan_status_of fault)
 unplanned_is_of_tables (faults.NoPlan side bound places) told = tt
@@ -175,20 +144,8 @@ roster_is_of_tables rosters.Memory told = absurd (told refl)
 trips_are_of_tables : (tables : List Table) (day : ℕ) (status : Status) → IsDayCause tables day status → IsTableStatus status
 trips_are_of_tables tables day (statuses.Input (inputs.Table fault)) c = tt
 trips_are_of_tables tables day (statuses.Input (inputs.Trips count)) c = tt
-trips_are_of_tables tables day (statuses.Input (inputs.Params fault)) c = absurd c
-trips_are_of_tables tables day (statuses.Input (inputs.Days first last)) c = absurd c
-trips_are_of_tables tables day (statuses.Input (inputs.Trip fid fault)) c = absurd c
 trips_are_of_tables tables day (statuses.Day fault) c = tt
-trips_are_of_tables tables day (statuses.NoPlan side bound places) c = absurd c
-trips_are_of_tables tables day (statuses.NotPlaced side item name partial) c = absurd c
-trips_are_of_tables tables day (statuses.Input (inputs.Text file fault)) c = c
-trips_are_of_tables tables day statuses.Memory c = c
-trips_are_of_tables tables day statuses.Ok c = c
-trips_are_of_tables tables day statuses.Usage c = c
-trips_are_of_tables tables day (statuses.ReadFault file) c = c
-trips_are_of_tables tables day statuses.WriteFault c = c
-trips_are_of_tables tables day (statuses.CheckNo reason) c = c
-trips_are_of_tables tables day (statuses.OldPlan reason) c = absurd c
+trips_are_of_tables tables day _ c = absurd c
 
 not_replanned_is_of_tables : (fault : ReplanFault) → fault ≢ replans.Plan faults.Memory → IsTableStatus (replan_status_of fault)
 not_replanned_is_of_tables (replans.OldPlan reason) told = tt
@@ -232,24 +189,6 @@ pub cause_of : (task : Task) (held : List ℕ → Option (List ℕ)) (names : Li
     → IsTableStatus status → IfSome (held_under held names) (λ contents. SpellTables (stage_of task) contents parts) →
     IsPartsCause task parts day status
     → IsAnswerCause (λ s. IfSome (told_for held names s) (λ contents. IsRefusal task contents day s)) R status
-cause_of task held names parts day R (statuses.Input (inputs.Table fault)) t spelled c =
-    tables_cause task held names parts day (statuses.Input (inputs.Table fault)) spelled c
-cause_of task held names parts day R (statuses.Input (inputs.Trips count)) t spelled c =
-    tables_cause task held names parts day (statuses.Input (inputs.Trips count)) spelled c
-cause_of task held names parts day R (statuses.Input (inputs.Params fault)) t spelled c =
-    tables_cause task held names parts day (statuses.Input (inputs.Params fault)) spelled c
-cause_of task held names parts day R (statuses.Input (inputs.Days first last)) t spelled c =
-    tables_cause task held names parts day (statuses.Input (inputs.Days first last)) spelled c
-cause_of task held names parts day R (statuses.Input (inputs.Trip fid fault)) t spelled c =
-    tables_cause task held names parts day (statuses.Input (inputs.Trip fid fault)) spelled c
-cause_of task held names parts day R (statuses.Day fault) t spelled c =
-    tables_cause task held names parts day (statuses.Day fault) spelled c
-cause_of task held names parts day R (statuses.NoPlan side bound places) t spelled c =
-    tables_cause task held names parts day (statuses.NoPlan side bound places) spelled c
-cause_of task held names parts day R (statuses.NotPlaced side item name partial) t spelled c =
-    tables_cause task held names parts day (statuses.NotPlaced side item name partial) spelled c
-cause_of task held names parts day R (statuses.OldPlan reason) t spelled c =
-    tables_cause task held names parts day (statuses.OldPlan reason) spelled c
 cause_of task held names parts day R (statuses.Input (inputs.Text file fault)) t spelled c = absurd t
 cause_of task held names parts day R statuses.Memory t spelled c = absurd t
 cause_of task held names parts day R statuses.Ok t spelled c = absurd t
@@ -257,6 +196,7 @@ cause_of task held names parts day R statuses.Usage t spelled c = absurd t
 cause_of task held names parts day R (statuses.ReadFault file) t spelled c = absurd t
 cause_of task held names parts day R statuses.WriteFault t spelled c = absurd t
 cause_of task held names parts day R (statuses.CheckNo reason) t spelled c = absurd t
+cause_of task held names parts day R status t spelled c = tables_cause task held names parts day status spelled c
 
 refused_cause : (task : Task) (held : List ℕ → Option (List ℕ)) (names : List (List ℕ)) (parts : List (List Table)) (day : ℕ)
     (R : ℕ → Type 0) (status : Status)

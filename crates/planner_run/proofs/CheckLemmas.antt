@@ -112,13 +112,7 @@ pub check_whole : (command : Command) (effort : Effort) (flow : Bool) (n : ℕ) 
     → IfOk r (λ o. IsWhole (task_for command effort flow n) parts day o.ending o.text)
 check_whole commands.Check effort flow n is parts planning plan cert tables day r are number same h =
     check_at (n - 2) parts planning plan cert tables day r are number same h
-check_whole commands.Trips effort flow n is parts planning plan cert tables day r are number same h = absurd (let bad = is in cc)
-check_whole commands.Day effort flow n is parts planning plan cert tables day r are number same h = absurd (let bad = is in cc)
-check_whole commands.Plan effort flow n is parts planning plan cert tables day r are number same h = absurd (let bad = is in cc)
-check_whole commands.Certify effort flow n is parts planning plan cert tables day r are number same h = absurd (let bad = is in cc)
-check_whole (commands.Make making) effort flow n is parts planning plan cert tables day r are number same h = absurd (let bad = is in cc)
-check_whole (commands.Replan moment) effort flow n is parts planning plan cert tables day r are number same h = absurd (let bad = is in cc)
-check_whole commands.Week effort flow n is parts planning plan cert tables day r are number same h = absurd (let bad = is in cc)
+check_whole _ effort flow n is parts planning plan cert tables day r are number same h = absurd (let bad = is in cc)
 
 pub check_refused : (command : Command) (effort : Effort) (flow : Bool) (n : ℕ) → is_check command ≡ true →
     (parts planning : List (List Table)) (plan cert tables : List Table) (day : ℕ) (r : Result Outcome Status)
@@ -127,14 +121,7 @@ pub check_refused : (command : Command) (effort : Effort) (flow : Bool) (n : ℕ
     → IfErr r (ArePartsRefused (task_for command effort flow n) parts day)
 check_refused commands.Check effort flow n is parts planning plan cert tables day r are number same h =
     check_refused_at (n - 2) parts planning plan cert tables day r are number same h
-check_refused commands.Trips effort flow n is parts planning plan cert tables day r are number same h = absurd (let bad = is in cc)
-check_refused commands.Day effort flow n is parts planning plan cert tables day r are number same h = absurd (let bad = is in cc)
-check_refused commands.Plan effort flow n is parts planning plan cert tables day r are number same h = absurd (let bad = is in cc)
-check_refused commands.Certify effort flow n is parts planning plan cert tables day r are number same h = absurd (let bad = is in cc)
-check_refused (commands.Make making) effort flow n is parts planning plan cert tables day r are number same h = absurd (let bad = is in cc)
-check_refused (commands.Replan moment) effort flow n is parts planning plan cert tables day r are number same h =
-    absurd (let bad = is in cc)
-check_refused commands.Week effort flow n is parts planning plan cert tables day r are number same h = absurd (let bad = is in cc)
+check_refused _ effort flow n is parts planning plan cert tables day r are number same h = absurd (let bad = is in cc)
 
 -- a text from planning tables alone is the task's whole answer, and ends with Ok
 made_whole : (run : Bool) (seed trips : ℕ) (asked : Asked) (parts : List (List Table)) (day : ℕ) (bytes : List ℕ) →
@@ -146,18 +133,13 @@ made_whole false seed trips asked parts day bytes h = (h, refl)
 text_whole : (command : Command) (effort : Effort) (flow : Bool) (n : ℕ) → reads_plan command ≡ false →
     (parts : List (List Table)) (tables : List Table) (day : ℕ) (bytes : List ℕ) → tables ≡ joined parts
     → IsText (task_for command effort flow n) tables day bytes → IsWhole (task_for command effort flow n) parts day statuses.Ok bytes
-text_whole commands.Trips effort flow n is parts tables day bytes same h = (subst (λ ts. IsText Trips ts day bytes) same h, refl)
-text_whole commands.Day effort flow n is parts tables day bytes same h = (subst (λ ts. IsText Day ts day bytes) same h, refl)
-text_whole commands.Plan effort flow n is parts tables day bytes same h =
-    (subst (λ ts. IsText (Plan (asked_by effort flow)) ts day bytes) same h, refl)
-text_whole commands.Certify effort flow n is parts tables day bytes same h =
-    (subst (λ ts. IsText (Certify (asked_by effort flow)) ts day bytes) same h, refl)
 text_whole commands.Check effort flow n is parts tables day bytes same h = absurd (let bad = is in cc)
 text_whole (commands.Make making) effort flow n is parts tables day bytes same h =
     let P : List Table → Type 0 = λ ts. IsText (make_task making.run making.seed making.trips (asked_by effort false)) ts day bytes in
     made_whole making.run making.seed making.trips (asked_by effort false) parts day bytes (subst P same h)
 text_whole (commands.Replan moment) effort flow n is parts tables day bytes same h = absurd (let bad = is in cc)
-text_whole commands.Week effort flow n is parts tables day bytes same h = (subst (λ ts. IsText Week ts day bytes) same h, refl)
+text_whole command effort flow n is parts tables day bytes same h =
+    let P : List Table → Type 0 = λ ts. IsText (task_for command effort flow n) ts day bytes in (subst P same h, refl)
 
 -- The text of a command that reads no plan is made of the tables of all files in one list, and so is its task's answer, which ends
 -- with Ok. `check_whole`, `replan_whole` and this are for the three ways of `outcome_of`, from where on no proof asks which command it
@@ -178,14 +160,10 @@ made_tables_all false seed trips asked parts = refl
 
 tables_all : (command : Command) (effort : Effort) (flow : Bool) (n : ℕ) → reads_plan command ≡ false → (parts : List (List Table)) →
     joined parts ≡ tables_in (task_for command effort flow n) parts
-tables_all commands.Trips effort flow n is parts = refl
-tables_all commands.Day effort flow n is parts = refl
-tables_all commands.Plan effort flow n is parts = refl
-tables_all commands.Certify effort flow n is parts = refl
 tables_all commands.Check effort flow n is parts = absurd (let bad = is in cc)
 tables_all (commands.Make making) effort flow n is parts = made_tables_all making.run making.seed making.trips (asked_by effort false) parts
 tables_all (commands.Replan moment) effort flow n is parts = absurd (let bad = is in cc)
-tables_all commands.Week effort flow n is parts = refl
+tables_all _ effort flow n is parts = refl
 
 made_refused : (run : Bool) (seed trips : ℕ) (asked : Asked) (parts : List (List Table)) (day : ℕ) (status : Status)
     → IsRefused (make_task run seed trips asked) (tables_in (make_task run seed trips asked) parts) day status →
@@ -197,15 +175,11 @@ parts_refused : (command : Command) (effort : Effort) (flow : Bool) (n : ℕ) �
     (parts : List (List Table)) (day : ℕ) (status : Status)
     → IsRefused (task_for command effort flow n) (tables_in (task_for command effort flow n) parts) day status →
     ArePartsRefused (task_for command effort flow n) parts day status
-parts_refused commands.Trips effort flow n is parts day status h = h
-parts_refused commands.Day effort flow n is parts day status h = h
-parts_refused commands.Plan effort flow n is parts day status h = h
-parts_refused commands.Certify effort flow n is parts day status h = h
 parts_refused commands.Check effort flow n is parts day status h = absurd (let bad = is in cc)
 parts_refused (commands.Make making) effort flow n is parts day status h =
     made_refused making.run making.seed making.trips (asked_by effort false) parts day status h
 parts_refused (commands.Replan moment) effort flow n is parts day status h = absurd (let bad = is in cc)
-parts_refused commands.Week effort flow n is parts day status h = h
+parts_refused _ effort flow n is parts day status h = h
 
 text_refused : (command : Command) (effort : Effort) (flow : Bool) (n : ℕ) → reads_plan command ≡ false →
     (parts : List (List Table)) (tables : List Table) (day : ℕ) (status : Status) → tables ≡ joined parts
@@ -229,14 +203,7 @@ ends_so : (task : Task) (parts : List (List Table)) (day : ℕ) (ending : Status
     IsEndingOf task ending
 ends_so (Check count) parts day ending bytes h =
     let P : Status → Type 0 = λ s. is_done s ≡ true in subst P (sym h.check.ends) (done_of h.check.answer)
-ends_so Trips parts day ending bytes h = h.1
-ends_so Day parts day ending bytes h = h.1
-ends_so (Plan asked) parts day ending bytes h = h.1
-ends_so (Certify asked) parts day ending bytes h = h.1
-ends_so (Make seed trips) parts day ending bytes h = h.1
-ends_so (MakeRun seed trips asked) parts day ending bytes h = h.1
-ends_so (Replan count moment numbers) parts day ending bytes h = h.1
-ends_so Week parts day ending bytes h = h.1
+ends_so _ parts day ending bytes h = h.1
 
 pub ends_well : (task : Task) (parts : List (List Table)) (day : ℕ) (r : Result Outcome Status) →
     IfOk r (λ o. IsWhole task parts day o.ending o.text) → IfOk r (λ o. IsEndingOf task o.ending)
@@ -248,14 +215,7 @@ ok_is_done status is = let P : Status → Type 0 = λ s. is_done s ≡ true in s
 
 pub is_done_so : (task : Task) (status : Status) → IsEndingOf task status → is_done status ≡ true
 is_done_so (Check count) status h = h
-is_done_so Trips status h = ok_is_done status h
-is_done_so Day status h = ok_is_done status h
-is_done_so (Plan asked) status h = ok_is_done status h
-is_done_so (Certify asked) status h = ok_is_done status h
-is_done_so (Make seed trips) status h = ok_is_done status h
-is_done_so (MakeRun seed trips asked) status h = ok_is_done status h
-is_done_so (Replan count moment numbers) status h = ok_is_done status h
-is_done_so Week status h = ok_is_done status h
+is_done_so _ status h = ok_is_done status h
 
 -- as many files are named as are read
 made_parts : (run : Bool) (seed trips : ℕ) (asked : Asked) (n : ℕ) → HasParts (make_task run seed trips asked) n
@@ -264,14 +224,10 @@ made_parts false seed trips asked n = tt
 
 pub has_parts : (command : Command) (effort : Effort) (flow : Bool) (n : ℕ) → HasNames command n →
     HasParts (task_for command effort flow n) n
-has_parts commands.Trips effort flow n names = tt
-has_parts commands.Day effort flow n names = tt
-has_parts commands.Plan effort flow n names = tt
-has_parts commands.Certify effort flow n names = tt
 has_parts commands.Check effort flow n names = let least = names.0 in omega (arith, least)
 has_parts (commands.Make making) effort flow n names = made_parts making.run making.seed making.trips (asked_by effort false) n
 has_parts (commands.Replan moment) effort flow n names = let least = names.0 in omega (arith, least)
-has_parts commands.Week effort flow n names = tt
+has_parts _ effort flow n names = tt
 
 pub are_few : (command : Command) (n : ℕ) → HasNames command n → n ≤ 66
 are_few commands.Trips n names = let most = names.1 in omega (arith, most)
@@ -286,13 +242,7 @@ are_few commands.Week n names = omega (arith, names)
 -- before a plan and a certificate there are all the other files
 pub least_of_check : (command : Command) (n : ℕ) → is_check command ≡ true → HasNames command n → 3 ≤ n
 least_of_check commands.Check n is names = names.0
-least_of_check commands.Trips n is names = absurd (let bad = is in cc)
-least_of_check commands.Day n is names = absurd (let bad = is in cc)
-least_of_check commands.Plan n is names = absurd (let bad = is in cc)
-least_of_check commands.Certify n is names = absurd (let bad = is in cc)
-least_of_check (commands.Make making) n is names = absurd (let bad = is in cc)
-least_of_check (commands.Replan moment) n is names = absurd (let bad = is in cc)
-least_of_check commands.Week n is names = absurd (let bad = is in cc)
+least_of_check _ n is names = absurd (let bad = is in cc)
 
 one_less : (n : ℕ) → 3 ≤ n → n - 3 ≡ n - 2 - 1
 one_less n least = omega (arith, least)
@@ -300,13 +250,7 @@ one_less n least = omega (arith, least)
 pub check_stage : (command : Command) (effort : Effort) (flow : Bool) (n : ℕ) → is_check command ≡ true → HasNames command n →
     stages.Planning (n - 3) most_bytes ≡ stage_of (task_for command effort flow n)
 check_stage commands.Check effort flow n is names = ap (λ m. stages.Planning m most_bytes) (one_less n names.0)
-check_stage commands.Trips effort flow n is names = absurd (let bad = is in cc)
-check_stage commands.Day effort flow n is names = absurd (let bad = is in cc)
-check_stage commands.Plan effort flow n is names = absurd (let bad = is in cc)
-check_stage commands.Certify effort flow n is names = absurd (let bad = is in cc)
-check_stage (commands.Make making) effort flow n is names = absurd (let bad = is in cc)
-check_stage (commands.Replan moment) effort flow n is names = absurd (let bad = is in cc)
-check_stage commands.Week effort flow n is names = absurd (let bad = is in cc)
+check_stage _ effort flow n is names = absurd (let bad = is in cc)
 
 made_stage : (run : Bool) (seed trips : ℕ) (asked : Asked) → stages.Planning 63 most_bytes ≡ stage_of (make_task run seed trips asked)
 made_stage true seed trips asked = refl
@@ -314,11 +258,7 @@ made_stage false seed trips asked = refl
 
 pub text_stage : (command : Command) (effort : Effort) (flow : Bool) (n : ℕ) → reads_plan command ≡ false →
     stages.Planning 63 most_bytes ≡ stage_of (task_for command effort flow n)
-text_stage commands.Trips effort flow n is = refl
-text_stage commands.Day effort flow n is = refl
-text_stage commands.Plan effort flow n is = refl
-text_stage commands.Certify effort flow n is = refl
 text_stage commands.Check effort flow n is = absurd (let bad = is in cc)
 text_stage (commands.Make making) effort flow n is = made_stage making.run making.seed making.trips (asked_by effort false)
 text_stage (commands.Replan moment) effort flow n is = absurd (let bad = is in cc)
-text_stage commands.Week effort flow n is = refl
+text_stage _ effort flow n is = refl

@@ -36,25 +36,16 @@ module _ (seed trips : ℕ) (few : trips ≤ 3000) where
       let same : ◌≡◌ {A = Option ℕ} None (Some 1) = sym wrong.1 ∙ (has_kind seed trips).kind_is in absurd (cc)
 
   no_input : (fault : InputFault) → IsModelCause (made_tables seed trips) 20260302 (statuses.Input fault) → ⊥
-  no_input (inputs.Text file fault) cause = cause
   no_input (inputs.Table fault) cause = no_table_fault fault cause
-  no_input (inputs.Days first last) cause = cause
   no_input (inputs.Trips count) cause = no_model_fault _ cause
   no_input (inputs.Params fault) cause = no_model_fault _ cause
   no_input (inputs.Trip fid fault) cause = no_model_fault _ cause
+  no_input _ cause = absurd cause
 
   no_model_cause : (status : Status) → IsModelCause (made_tables seed trips) 20260302 status → ⊥
   no_model_cause (statuses.Input fault) cause = no_input fault cause
   no_model_cause (statuses.Day fault) cause = no_fault_of_day fault cause.1
-  no_model_cause (statuses.NoPlan side bound places) cause = cause
-  no_model_cause (statuses.NotPlaced side item name partial) cause = cause
-  no_model_cause statuses.Memory cause = cause
-  no_model_cause statuses.Ok cause = cause
-  no_model_cause statuses.Usage cause = cause
-  no_model_cause (statuses.ReadFault file) cause = cause
-  no_model_cause statuses.WriteFault cause = cause
-  no_model_cause (statuses.CheckNo reason) cause = cause
-  no_model_cause (statuses.OldPlan reason) cause = cause
+  no_model_cause _ cause = absurd cause
 
   planned : (asked : Asked) (status : Status) → IsUnplanned asked (made_tables seed trips) 20260302 status → ⊥
   planned asked status un =

@@ -71,19 +71,9 @@ kinds_of : (tables : List Table) (day : ℕ) (status : Status) → IsModelCause 
 kinds_of tables day (statuses.Input (inputs.Table fault)) c = inl (fault, refl, c)
 kinds_of tables day (statuses.Input (inputs.Trips count)) c = inr (inr (models.TooManyTrips count, refl, c))
 kinds_of tables day (statuses.Input (inputs.Params fault)) c = inr (inr (models.Params fault, refl, c))
-kinds_of tables day (statuses.Input (inputs.Days first last)) c = absurd c
 kinds_of tables day (statuses.Input (inputs.Trip fid fault)) c = inr (inr (models.Trip fid fault, refl, c))
 kinds_of tables day (statuses.Day fault) c = inr (inl (fault, refl, c.0, c.1))
-kinds_of tables day (statuses.Input (inputs.Text file fault)) c = absurd c
-kinds_of tables day (statuses.NoPlan side bound places) c = absurd c
-kinds_of tables day (statuses.NotPlaced side item name partial) c = absurd c
-kinds_of tables day statuses.Memory c = absurd c
-kinds_of tables day statuses.Ok c = absurd c
-kinds_of tables day statuses.Usage c = absurd c
-kinds_of tables day (statuses.ReadFault file) c = absurd c
-kinds_of tables day statuses.WriteFault c = absurd c
-kinds_of tables day (statuses.CheckNo reason) c = absurd c
-kinds_of tables day (statuses.OldPlan reason) c = absurd c
+kinds_of tables day _ c = absurd c
 
 -- The causes come one after another: a fault of the tables, else no day type, else a reason against the trips or the settings.
 -- Each asks that those before it are absent, so two causes are of one place in this order, and at each place there is one

@@ -17,7 +17,7 @@ use Rattle.plan_command.specs.PlanText.{IsPlanTextOver}
 use Rattle.plan_command.proofs.AlikeDays.{same_short_texts, same_texts}
 use Rattle.trip_times.specs.declared.trip.Trip.{Trip}
 use Rattle.plan_command.specs.Planning.{Asked}
-use Rattle.planner_run.specs.Tasks.{Task, checks, climbs}
+use Rattle.planner_run.specs.Tasks.{Task}
 use Rattle.planner_run.specs.Tasks.{Certify, Check, Day, Make, MakeRun, Plan, Replan, Trips, Week}
 use Rattle.planner_run.specs.declared.status.Status.{Status}
 use Rattle.planner_run.specs.declared.status.Status.TheVariants as statuses
@@ -27,7 +27,7 @@ use Rattle.input_files.specs.Inputs.{SpellTables}
 use Rattle.input_files.specs.Parts.{joined}
 use Rattle.input_files.specs.Stages.{next_stage, room}
 use Rattle.planner_run.specs.Endings.{is_done}
-use Rattle.planner_run.specs.Run.{IsAnswer, IsWhole, IsWritten, stage_of}
+use Rattle.planner_run.specs.Run.{IsAnswer, IsWhole, IsWritten, checks, climbs, stage_of}
 use Rattle.planner_run.specs.MadeText.{IsShortText}
 use Rattle.planner_run.specs.PlanText.{IsPlanText}
 use Rattle.planner_run.specs.Trips.{IsTripsText, picked_table}

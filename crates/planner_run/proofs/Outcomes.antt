@@ -77,41 +77,17 @@ one_cause_from_table : (tables : List Table) (day : ℕ) (fault : TableFault) (t
 one_cause_from_table tables day fault (statuses.Input (inputs.Table other)) p q =
     ap (λ f. statuses.Input (inputs.Table f)) (some_same _ fault other p q)
 one_cause_from_table tables day fault (statuses.Input (inputs.Trips count)) p q = none_some _ fault q.day_is.faultless p
-one_cause_from_table tables day fault (statuses.Input (inputs.Params other)) p q = absurd q
-one_cause_from_table tables day fault (statuses.Input (inputs.Days first last)) p q = absurd q
-one_cause_from_table tables day fault (statuses.Input (inputs.Trip fid other)) p q = absurd q
 one_cause_from_table tables day fault (statuses.Day other) p q = none_some _ fault q.0 p
-one_cause_from_table tables day fault (statuses.NoPlan side bound places) p q = absurd q
-one_cause_from_table tables day fault (statuses.NotPlaced side item name partial) p q = absurd q
-one_cause_from_table tables day fault (statuses.Input (inputs.Text file other)) p q = absurd q
-one_cause_from_table tables day fault statuses.Memory p q = absurd q
-one_cause_from_table tables day fault statuses.Ok p q = absurd q
-one_cause_from_table tables day fault statuses.Usage p q = absurd q
-one_cause_from_table tables day fault (statuses.ReadFault file) p q = absurd q
-one_cause_from_table tables day fault statuses.WriteFault p q = absurd q
-one_cause_from_table tables day fault (statuses.CheckNo reason) p q = absurd q
-one_cause_from_table tables day fault (statuses.OldPlan reason) p q = absurd q
+one_cause_from_table tables day fault _ p q = absurd q
 
 one_cause_from_day : (tables : List Table) (day : ℕ) (fault : DayFault) (t : Status) → IsDayCause tables day (statuses.Day fault) →
     IsDayCause tables day t → statuses.Day fault ≡ t
 one_cause_from_day tables day fault (statuses.Input (inputs.Table other)) p q = none_some _ other p.0 q
 one_cause_from_day tables day fault (statuses.Input (inputs.Trips count)) p q =
     absurd (kind_no_fault (net_of needs.Calendar tables) day q.kind fault q.day_is.kind_is p.1)
-one_cause_from_day tables day fault (statuses.Input (inputs.Params other)) p q = absurd q
-one_cause_from_day tables day fault (statuses.Input (inputs.Days first last)) p q = absurd q
-one_cause_from_day tables day fault (statuses.Input (inputs.Trip fid other)) p q = absurd q
 one_cause_from_day tables day fault (statuses.Day other) p q =
     ap (λ f. statuses.Day f) (one_day_fault (net_of needs.Calendar tables) day fault other p.1 q.1)
-one_cause_from_day tables day fault (statuses.NoPlan side bound places) p q = absurd q
-one_cause_from_day tables day fault (statuses.NotPlaced side item name partial) p q = absurd q
-one_cause_from_day tables day fault (statuses.Input (inputs.Text file other)) p q = absurd q
-one_cause_from_day tables day fault statuses.Memory p q = absurd q
-one_cause_from_day tables day fault statuses.Ok p q = absurd q
-one_cause_from_day tables day fault statuses.Usage p q = absurd q
-one_cause_from_day tables day fault (statuses.ReadFault file) p q = absurd q
-one_cause_from_day tables day fault statuses.WriteFault p q = absurd q
-one_cause_from_day tables day fault (statuses.CheckNo reason) p q = absurd q
-one_cause_from_day tables day fault (statuses.OldPlan reason) p q = absurd q
+one_cause_from_day tables day fault _ p q = absurd q
 
 one_cause_from_crowd : (tables : List Table) (day count : ℕ) (t : Status) → HasTooMany tables day count → IsDayCause tables day t →
     statuses.Input (inputs.Trips count) ≡ t
@@ -119,21 +95,9 @@ one_cause_from_crowd tables day count (statuses.Input (inputs.Table other)) p q 
 one_cause_from_crowd tables day count (statuses.Input (inputs.Trips other)) p q =
     ap (λ n. statuses.Input (inputs.Trips n))
     (p.count_is ∙ day_count tables day p.kind q.kind p.places q.places p.day_is q.day_is ∙ sym q.count_is)
-one_cause_from_crowd tables day count (statuses.Input (inputs.Params fault)) p q = absurd q
-one_cause_from_crowd tables day count (statuses.Input (inputs.Days first last)) p q = absurd q
-one_cause_from_crowd tables day count (statuses.Input (inputs.Trip fid fault)) p q = absurd q
 one_cause_from_crowd tables day count (statuses.Day other) p q =
     absurd (kind_no_fault (net_of needs.Calendar tables) day p.kind other p.day_is.kind_is q.1)
-one_cause_from_crowd tables day count (statuses.NoPlan side bound places) p q = absurd q
-one_cause_from_crowd tables day count (statuses.NotPlaced side item name partial) p q = absurd q
-one_cause_from_crowd tables day count (statuses.Input (inputs.Text file other)) p q = absurd q
-one_cause_from_crowd tables day count statuses.Memory p q = absurd q
-one_cause_from_crowd tables day count statuses.Ok p q = absurd q
-one_cause_from_crowd tables day count statuses.Usage p q = absurd q
-one_cause_from_crowd tables day count (statuses.ReadFault file) p q = absurd q
-one_cause_from_crowd tables day count statuses.WriteFault p q = absurd q
-one_cause_from_crowd tables day count (statuses.CheckNo reason) p q = absurd q
-one_cause_from_crowd tables day count (statuses.OldPlan reason) p q = absurd q
+one_cause_from_crowd tables day count _ p q = absurd q
 
 -- A day of `trips` has one cause: a fault of the tables shuts out a day without kind, and both shut out too many trips, since each
 -- later cause asks that the earlier ones are absent. The number of trips is one, since version and day type alone pick them
@@ -141,20 +105,8 @@ one_cause_from_crowd tables day count (statuses.OldPlan reason) p q = absurd q
 pub one_cause : (tables : List Table) (day : ℕ) (s t : Status) → IsDayCause tables day s → IsDayCause tables day t → s ≡ t
 one_cause tables day (statuses.Input (inputs.Table fault)) t p q = one_cause_from_table tables day fault t p q
 one_cause tables day (statuses.Input (inputs.Trips count)) t p q = one_cause_from_crowd tables day count t p q
-one_cause tables day (statuses.Input (inputs.Params fault)) t p q = absurd p
-one_cause tables day (statuses.Input (inputs.Days first last)) t p q = absurd p
-one_cause tables day (statuses.Input (inputs.Trip fid fault)) t p q = absurd p
 one_cause tables day (statuses.Day fault) t p q = one_cause_from_day tables day fault t p q
-one_cause tables day (statuses.NoPlan side bound places) t p q = absurd p
-one_cause tables day (statuses.NotPlaced side item name partial) t p q = absurd p
-one_cause tables day (statuses.Input (inputs.Text file fault)) t p q = absurd p
-one_cause tables day statuses.Memory t p q = absurd p
-one_cause tables day statuses.Ok t p q = absurd p
-one_cause tables day statuses.Usage t p q = absurd p
-one_cause tables day (statuses.ReadFault file) t p q = absurd p
-one_cause tables day statuses.WriteFault t p q = absurd p
-one_cause tables day (statuses.CheckNo reason) t p q = absurd p
-one_cause tables day (statuses.OldPlan reason) t p q = absurd p
+one_cause tables day _ t p q = absurd p
 
 -- a day with a text is not refused
 pub text_no_cause : (tables : List Table) (day : ℕ) (bytes : List ℕ) (s : Status) → IsTripsText tables day bytes →
@@ -165,17 +117,5 @@ text_no_cause tables day bytes (statuses.Input (inputs.Trips count)) p q =
     let few = p.few in
     let many = q.many in
     absurd (omega (arith, same, few, many))
-text_no_cause tables day bytes (statuses.Input (inputs.Params fault)) p q = q
-text_no_cause tables day bytes (statuses.Input (inputs.Days first last)) p q = q
-text_no_cause tables day bytes (statuses.Input (inputs.Trip fid fault)) p q = q
 text_no_cause tables day bytes (statuses.Day fault) p q = kind_no_fault (net_of needs.Calendar tables) day p.kind fault p.day_is.kind_is q.1
-text_no_cause tables day bytes (statuses.NoPlan side bound places) p q = q
-text_no_cause tables day bytes (statuses.NotPlaced side item name partial) p q = q
-text_no_cause tables day bytes (statuses.Input (inputs.Text file fault)) p q = q
-text_no_cause tables day bytes statuses.Memory p q = q
-text_no_cause tables day bytes statuses.Ok p q = q
-text_no_cause tables day bytes statuses.Usage p q = q
-text_no_cause tables day bytes (statuses.ReadFault file) p q = q
-text_no_cause tables day bytes statuses.WriteFault p q = q
-text_no_cause tables day bytes (statuses.CheckNo reason) p q = q
-text_no_cause tables day bytes (statuses.OldPlan reason) p q = q
+text_no_cause tables day bytes _ p q = absurd q

@@ -142,13 +142,7 @@ replan_whole (commands.Replan at) effort flow n moment is parts planning old tab
     let P : ℕ → Type 0 = λ m. IfOk r (λ o. IsWhole (Replan (n - 1) m (numbers_of effort)) parts day o.ending o.text) in
     subst P (sym (moment_same at moment is))
     (replan_at (n - 1) moment (numbers_of effort) parts planning old tables day r are number same h)
-replan_whole commands.Trips effort flow n moment is parts planning old tables day r are number same h = absurd (let bad = is in cc)
-replan_whole commands.Day effort flow n moment is parts planning old tables day r are number same h = absurd (let bad = is in cc)
-replan_whole commands.Plan effort flow n moment is parts planning old tables day r are number same h = absurd (let bad = is in cc)
-replan_whole commands.Certify effort flow n moment is parts planning old tables day r are number same h = absurd (let bad = is in cc)
-replan_whole commands.Check effort flow n moment is parts planning old tables day r are number same h = absurd (let bad = is in cc)
-replan_whole (commands.Make making) effort flow n moment is parts planning old tables day r are number same h = absurd (let bad = is in cc)
-replan_whole commands.Week effort flow n moment is parts planning old tables day r are number same h = absurd (let bad = is in cc)
+replan_whole _ effort flow n moment is parts planning old tables day r are number same h = absurd (let bad = is in cc)
 
 pub replan_refused : (command : Command) (effort : Effort) (flow : Bool) (n moment : ℕ) → replan_moment command ≡ Some moment →
     (parts planning : List (List Table)) (old tables : List Table) (day : ℕ)
@@ -160,48 +154,25 @@ replan_refused (commands.Replan at) effort flow n moment is parts planning old t
     let P : ℕ → Type 0 = λ m. IfErr r (ArePartsRefused (Replan (n - 1) m (numbers_of effort)) parts day) in
     subst P (sym (moment_same at moment is))
     (replan_refused_at (n - 1) moment (numbers_of effort) parts planning old tables day r are number same h)
-replan_refused commands.Trips effort flow n moment is parts planning old tables day r are number same h = absurd (let bad = is in cc)
-replan_refused commands.Day effort flow n moment is parts planning old tables day r are number same h = absurd (let bad = is in cc)
-replan_refused commands.Plan effort flow n moment is parts planning old tables day r are number same h = absurd (let bad = is in cc)
-replan_refused commands.Certify effort flow n moment is parts planning old tables day r are number same h = absurd (let bad = is in cc)
-replan_refused commands.Check effort flow n moment is parts planning old tables day r are number same h = absurd (let bad = is in cc)
-replan_refused (commands.Make making) effort flow n moment is parts planning old tables day r are number same h =
-    absurd (let bad = is in cc)
-replan_refused commands.Week effort flow n moment is parts planning old tables day r are number same h = absurd (let bad = is in cc)
+replan_refused _ effort flow n moment is parts planning old tables day r are number same h = absurd (let bad = is in cc)
 
 -- an earlier plan is among the parts
 pub least_of_parts : (command : Command) (effort : Effort) (flow : Bool) (n moment count : ℕ) → replan_moment command ≡ Some moment →
     HasParts (task_for command effort flow n) count → 1 ≤ count
 least_of_parts (commands.Replan at) effort flow n moment count is number = omega (arith, number)
-least_of_parts commands.Trips effort flow n moment count is number = absurd (let bad = is in cc)
-least_of_parts commands.Day effort flow n moment count is number = absurd (let bad = is in cc)
-least_of_parts commands.Plan effort flow n moment count is number = absurd (let bad = is in cc)
-least_of_parts commands.Certify effort flow n moment count is number = absurd (let bad = is in cc)
-least_of_parts commands.Check effort flow n moment count is number = absurd (let bad = is in cc)
-least_of_parts (commands.Make making) effort flow n moment count is number = absurd (let bad = is in cc)
-least_of_parts commands.Week effort flow n moment count is number = absurd (let bad = is in cc)
+least_of_parts _ effort flow n moment count is number = absurd (let bad = is in cc)
 
 -- a command that neither checks nor plans anew reads no plan
 pub reads_none : (command : Command) → is_check command ≡ false → replan_moment command ≡ None → reads_plan command ≡ false
 reads_none (commands.Replan at) free none = absurd (let bad = none in cc)
-reads_none commands.Trips free none = refl
-reads_none commands.Day free none = refl
-reads_none commands.Plan free none = refl
-reads_none commands.Certify free none = refl
 reads_none commands.Check free none = absurd (let bad = free in cc)
-reads_none (commands.Make making) free none = refl
-reads_none commands.Week free none = refl
+reads_none _ free none = refl
 
 -- before an earlier plan there are all the other files
 pub least_of_replan : (command : Command) (n : ℕ) → is_check command ≡ false → reads_plan command ≡ true → HasNames command n → 2 ≤ n
 least_of_replan (commands.Replan at) n free is names = names.0
-least_of_replan commands.Trips n free is names = absurd (let bad = is in cc)
-least_of_replan commands.Day n free is names = absurd (let bad = is in cc)
-least_of_replan commands.Plan n free is names = absurd (let bad = is in cc)
-least_of_replan commands.Certify n free is names = absurd (let bad = is in cc)
 least_of_replan commands.Check n free is names = absurd (let bad = free in cc)
-least_of_replan (commands.Make making) n free is names = absurd (let bad = is in cc)
-least_of_replan commands.Week n free is names = absurd (let bad = is in cc)
+least_of_replan _ n free is names = absurd (let bad = is in cc)
 
 one_less : (n : ℕ) → 2 ≤ n → n - 2 ≡ n - 1 - 1
 one_less n least = omega (arith, least)
@@ -210,10 +181,5 @@ pub replan_stage : (command : Command) (effort : Effort) (flow : Bool) (n : ℕ)
     reads_plan command ≡ true → HasNames command n
     → stages.Planning (n - 2) most_bytes ≡ stage_of (task_for command effort flow n)
 replan_stage (commands.Replan at) effort flow n free is names = ap (λ m. stages.Planning m most_bytes) (one_less n names.0)
-replan_stage commands.Trips effort flow n free is names = absurd (let bad = is in cc)
-replan_stage commands.Day effort flow n free is names = absurd (let bad = is in cc)
-replan_stage commands.Plan effort flow n free is names = absurd (let bad = is in cc)
-replan_stage commands.Certify effort flow n free is names = absurd (let bad = is in cc)
 replan_stage commands.Check effort flow n free is names = absurd (let bad = free in cc)
-replan_stage (commands.Make making) effort flow n free is names = absurd (let bad = is in cc)
-replan_stage commands.Week effort flow n free is names = absurd (let bad = is in cc)
+replan_stage _ effort flow n free is names = absurd (let bad = is in cc)

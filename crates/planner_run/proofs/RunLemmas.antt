@@ -84,15 +84,7 @@ unread_memory : (refusal : Status → Type 0) (read : ℕ → Type 0) (s : Statu
     IsUnread s → s ≡ statuses.Memory
 unread_memory refusal read statuses.Memory cause none unread = refl
 unread_memory refusal read (statuses.ReadFault file) cause none unread = absurd (none file cause)
-unread_memory refusal read statuses.Ok cause none unread = absurd unread
-unread_memory refusal read statuses.Usage cause none unread = absurd unread
-unread_memory refusal read (statuses.Input fault) cause none unread = absurd unread
-unread_memory refusal read (statuses.Day fault) cause none unread = absurd unread
-unread_memory refusal read (statuses.NoPlan side bound places) cause none unread = absurd unread
-unread_memory refusal read (statuses.NotPlaced side item name partial) cause none unread = absurd unread
-unread_memory refusal read statuses.WriteFault cause none unread = absurd unread
-unread_memory refusal read (statuses.CheckNo reason) cause none unread = absurd unread
-unread_memory refusal read (statuses.OldPlan reason) cause none unread = absurd unread
+unread_memory refusal read _ cause none unread = absurd unread
 
 -- what a told content calls for
 record IsToldSo {A : Type 0} (o : Option A) (P : A → Type 0) : Type 0 where

@@ -7,6 +7,7 @@ pub mod Endings
 pub mod Model
 pub mod PlanText
 pub mod ReplanText
+pub mod Answering
 pub mod Run
 pub mod Tasks
 pub mod Trips

@@ -46,19 +46,6 @@ task_for (commands.Make making) effort flow files = make_task making.run making.
 abbrev pub task_of : Request → Task
 task_of request = task_for request.command request.effort request.flow (length request.names)
 
--- whether a plan is found by climbing
-abbrev pub climbs : Task → Bool
-climbs (Plan asked) = asked.numbers.climb
-climbs (Certify asked) = asked.numbers.climb
-climbs (Replan files moment numbers) = numbers.climb
-climbs (MakeRun seed trips asked) = asked.numbers.climb
-climbs _ = false
-
--- whether a plan and a certificate are checked
-abbrev pub checks : Task → Bool
-checks (Check files) = true
-checks _ = false
-
 -- whether a command checks a plan and a certificate
 abbrev pub is_check : Command → Bool
 is_check commands.Check = true

@@ -16,8 +16,8 @@ ghost use Rattle.input_files.specs.Inputs.{IsReadFault, NoneRose, held_under};
 ghost use Rattle.cover_plan.specs.Endings.{numbers_of};
 ghost use Rattle.planner_run.specs.Endings.{is_done};
 ghost use Rattle.planner_run.specs.ReplanText.{IsReplanRefused, IsReplanText};
-ghost use Rattle.planner_run.specs.Run.{ArePartsRefused, HasParts, IsAnswer, IsAnswerCause, IsEndingOf, IsRefusal, IsRefused, IsText, IsUnread, IsWhole, IsWritten, TakesAnswer, TakesFrontOfAnswer, file_status as file_status_of, is_open, names_for, stage_of, told, told_for};
-ghost use Rattle.planner_run.specs.Tasks.{checks, climbs, is_check as is_check_of, reads_plan as reads_plan_of, replan_moment as replan_moment_of, task_of};
+ghost use Rattle.planner_run.specs.Run.{ArePartsRefused, HasParts, IsAnswer, IsAnswerCause, IsEndingOf, IsRefusal, IsRefused, IsText, IsUnread, IsWhole, IsWritten, TakesAnswer, TakesFrontOfAnswer, checks, climbs, file_status as file_status_of, is_open, names_for, stage_of, told, told_for};
+ghost use Rattle.planner_run.specs.Tasks.{is_check as is_check_of, reads_plan as reads_plan_of, replan_moment as replan_moment_of, task_of};
 
 use crate::certify::certificate_text;
 use crate::check::check_text;

@@ -15,8 +15,8 @@ ghost use Rattle.input_files.specs.Lines.{IsTold};
 ghost use Rattle.planner_run.specs.Endings.{is_done};
 ghost use Rattle.planner_run.specs.Lines.{line_of};
 ghost use Rattle.planner_run.specs.MadeEnds.{IsMadeEnding};
-ghost use Rattle.planner_run.specs.Run.{IsAnswer, IsEndingOf, IsRefusal, TakesAnswer, TakesFrontOfAnswer, is_open, names_for, stage_of, told, told_for};
-ghost use Rattle.planner_run.specs.Tasks.{checks, climbs, task_of};
+ghost use Rattle.planner_run.specs.Run.{IsAnswer, IsEndingOf, IsRefusal, TakesAnswer, TakesFrontOfAnswer, checks, climbs, is_open, names_for, stage_of, told, told_for};
+ghost use Rattle.planner_run.specs.Tasks.{task_of};
 ghost use Rattle.command_words.specs.MadeRequests.{makes};
 ghost use Rattle.command_words.specs.Words.{asked, day_said};
 
