@@ -212,7 +212,7 @@ block_each facts trips short pools few (c ∷ cs) are =
     let cheap = worth_cheap facts trips short pools c.class c.items c.worth are.0.1 in
     ((omega (arith, count, few, cheap), omega (arith, count, few)), block_each facts trips short pools few cs are.1)
 
--- A duty costs its fixed cost and its rate for each second of its spread, which is shorter than 14 days.
+-- A duty costs its fixed cost and its rate for each second of its spread, which is at most 12 days.
 shifts_at : (pieces : List Piece) (list : List ℕ) (ps : List Piece) → All IsDutyShift pieces → pieces_at pieces list ≡ Some ps →
     AllByRecursion IsDutyShift ps
 shifts_at pieces [] ps all e = let none : [] ≡ ps = Some-same [] ps e in subst (AllByRecursion IsDutyShift) none tt
