@@ -1,10 +1,9 @@
 -- Two marks between which the order makes no difference are the same: the order compares every field.
-use Rattle.std.proofs.Common.{◌≡◌, ℕ, ℤ, refl, ap, ◌∙◌}
+use Rattle.std.proofs.Common.{◌≡◌, refl, ap, ◌∙◌}
 use Rattle.std.proofs.lemmas.Map.Lookups.{exact_signed, exact_unsigned}
 use Rattle.std.specs.Ordering.{int_cmp, nat_cmp, ordering_then}
 use Rattle.std.specs.declared.cmp.Ordering.{Ordering}
 use Rattle.std.specs.declared.cmp.Ordering.TheVariants.{Less, Equal, Greater}
-use Rattle.cover_core.specs.declared.marks.BlockMark.{BlockMark}
 use Rattle.depot_network.specs.BlockMarks.{mark}
 use Rattle.unpaid_list.specs.Laws.{TellsMarksApart}
 use Rattle.block_cover.specs.Seen.{mark_order}

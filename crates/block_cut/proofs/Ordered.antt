@@ -1,7 +1,6 @@
 -- The pieces of a plan in their order.
-use Rattle.std.proofs.Common.{◌≡◌, ◌⊎◌, ℕ, ℤ, pos, zero, suc, ◌+◌, ◌<◌, ◌≤◌, ◌≤ℤ◌, ◌<ℤ◌, Bool, true, false, if◌then◌else◌, All, AllPairs, List, [], ◌∷◌, ◌++◌, length, get_or, drop, Option, Some, None, refl, sym, ap, subst, ◌∙◌, arith, append_assoc, inl, inr, nat_lt, slice_get, add-one, drop-cons}
+use Rattle.std.proofs.Common.{◌≡◌, ℕ, ℤ, pos, suc, ◌+◌, ◌<◌, ◌≤◌, ◌≤ℤ◌, Bool, true, false, if◌then◌else◌, All, AllPairs, List, [], ◌∷◌, ◌++◌, length, get_or, drop, Option, Some, None, refl, sym, ap, ◌∙◌, arith, append_assoc, inl, inr, nat_lt, slice_get, add-one, drop-cons}
 use Rattle.std.specs.Prelude.{option_and_then, unwrap_or}
-use Rattle.std.specs.Int.RustNames.{unsigned_abs}
 use Rattle.std.proofs.lemmas.Bool.{cases_lt}
 use Rattle.std.proofs.lemmas.Bool.Decides.{nat_tests}
 use Rattle.std.proofs.lemmas.Int.{ints}
@@ -14,7 +13,6 @@ use Rattle.plan_params.specs.declared.rows.pool.Pool.{Pool}
 use Rattle.plan_params.specs.Settings.{in_order, put_in_order}
 use Rattle.vdv452_tables.proofs.OrderLemmas.{order_all, put_all}
 use Rattle.day_model.specs.Facts.{DayFacts}
-use Rattle.day_model.specs.Links.{with_pool}
 use Rattle.day_model.specs.Pieces.{legs_of, parts, piece_of, pieces_from, pieces_of}
 use Rattle.block_cut.specs.Cuts.{IsEarlier, IsEarlierInBlocks, IsShift, block_pieces, moment, pieces_by_block}
 

@@ -1,5 +1,5 @@
 -- The pieces of a block, leg by leg.
-use Rattle.std.proofs.Common.{◌≡◌, ℕ, ℤ, pos, suc, ◌+◌, ◌<◌, ◌≤◌, ◌≤ℤ◌, Bool, true, false, cond, List, [], ◌∷◌, ◌++◌, length, drop, Option, Some, None, IfSome, refl, sym, ap, subst, ◌∙◌, arith, append_assoc, append-nil, get_or, add-one, drop-cons, length-append}
+use Rattle.std.proofs.Common.{◌≡◌, ℕ, ℤ, pos, ◌+◌, ◌<◌, ◌≤◌, ◌≤ℤ◌, Bool, true, false, cond, List, [], ◌∷◌, ◌++◌, length, drop, Option, Some, None, IfSome, refl, sym, ap, subst, ◌∙◌, arith, append_assoc, append-nil, get_or, add-one, drop-cons}
 use Rattle.std.proofs.lemmas.Int.{ints}
 use Rattle.std.proofs.lemmas.List.{drop_all}
 use Rattle.plan_core.specs.declared.types.Leg.{Leg}
@@ -7,7 +7,7 @@ use Rattle.plan_core.specs.declared.types.Piece.{Piece}
 use Rattle.plan_params.specs.declared.rows.pool.Pool.{Pool}
 use Rattle.day_model.specs.Facts.{DayFacts}
 use Rattle.day_model.specs.Pieces.{driving_seconds, duration, is_cut, is_stand, last_leg, onto_first, parts, piece_of, pieces_from}
-use Rattle.block_cut.specs.Cuts.{AreAfter, IsAfter, IsShift, continued, cut_on, ended, grown, next_index, stands}
+use Rattle.block_cut.specs.Cuts.{AreAfter, IsAfter, IsShift, continued, cut_on, ended, grown, stands}
 use Rattle.block_cut.specs.Legs.{AreTimed}
 
 timed_order : (a b : ℤ) (ls : List Leg) → AreTimed a b ls → a ≤ℤ b

@@ -1,19 +1,18 @@
 -- The legs of a block stand one after another.
-use Rattle.std.proofs.Common.{◌≡◌, ℕ, ℤ, pos, negsuc, ◌+◌, ◌≤◌, ◌≤ℤ◌, ◌+ℤ◌, ◌-ℤ◌, ◌&&◌, Bool, true, false, cond, List, [], ◌∷◌, ◌++◌, Option, Some, None, Result, Ok, Err, IfOk, OnOk, refl, sym, ap, subst, ◌∙◌, arith, slice_get, nat_le, is_some}
+use Rattle.std.proofs.Common.{◌≡◌, ℕ, ℤ, pos, negsuc, ◌+◌, ◌≤◌, ◌≤ℤ◌, ◌+ℤ◌, ◌-ℤ◌, ◌&&◌, Bool, true, false, cond, List, [], ◌∷◌, ◌++◌, Option, Some, None, Result, Ok, Err, IfOk, OnOk, refl, sym, ap, subst, arith, slice_get, nat_le, is_some}
 use Rattle.std.specs.Prelude.{option_and_then}
 use Rattle.std.proofs.lemmas.Int.{ints}
 use Rattle.std.proofs.lemmas.Option.{same_Some}
 pub use Rattle.std.proofs.lemmas.Option.{same_Some as some_same}
 use Rattle.plan_core.specs.declared.types.Leg.{Leg}
 use Rattle.plan_core.specs.declared.types.LegKind.TheVariants.{PullIn}
-use Rattle.plan_core.specs.declared.types.Point.{Point}
 pub use Rattle.plan_core.proofs.Options.{and_then_some}
 use Rattle.trip_times.specs.declared.trip.Trip.{Trip as TheTrip}
 use Rattle.plan_params.specs.declared.rows.pool.Pool.{Pool}
 use Rattle.day_model.specs.declared.link.Link.{Link}
 use Rattle.day_model.specs.declared.link.Link.TheVariants.{Direct, Depot}
 use Rattle.day_model.specs.Facts.{DayFacts, dead}
-use Rattle.day_model.specs.Links.{depot_link, direct_for, direct_link, first_of, given, link, pull_in, pull_out_over, seconds}
+use Rattle.day_model.specs.Links.{depot_link, direct_for, direct_link, first_of, given, link, pull_in, seconds}
 use Rattle.day_model.specs.Pieces.{is_shown, leg, link_legs, shown, trip_leg}
 use Rattle.day_model.specs.Ranges.{IsDaily}
 use Rattle.block_cut.specs.Legs.{AreTimed, begin_of, legs_or, until_end, until_next}

@@ -1,9 +1,8 @@
 -- The first bound that is higher than the one that the prices of its pass show.
-use Rattle.std.proofs.Common.{◌≡◌, ℕ, ℤ, pos, neg_ℤ, zero, suc, ◌+◌, ◌<◌, ◌≤◌, ◌≤ℤ◌, ◌⊎◌, inl, inr, All, List, [], ◌∷◌, length, map, refl, sym, ap, ◌∙◌, subst, arith}
+use Rattle.std.proofs.Common.{◌≡◌, ℕ, ℤ, pos, zero, suc, ◌<◌, ◌≤◌, ◌≤ℤ◌, inl, inr, List, [], ◌∷◌, length, map, sym, ◌∙◌, arith}
 use Rattle.std.proofs.lemmas.List.{length-map}
 use Rattle.std.proofs.lemmas.List.Elements.{recursion_from_All}
 use Rattle.std.specs.List.{AllByRecursion}
-use Rattle.std.specs.Prelude.{slice_index}
 use Rattle.plan_core.specs.declared.types.Price.{Price}
 use Rattle.cover_core.specs.declared.Plan.{Plan}
 use Rattle.cover_core.specs.FirstLeast.{AllWithin}
@@ -19,7 +18,7 @@ use Rattle.cert_check.specs.declared.bounds.TooHigh.{TooHigh}
 use Rattle.cert_check.specs.declared.parts.FourParts.{FourParts}
 use Rattle.cert_check.specs.Judging.{Case}
 use Rattle.cert_check.specs.Parts.{listed}
-use Rattle.cert_check.specs.Reasons.{AllCharged, AreCharged, AreShown, IsFirstTooHigh, printed_pieces}
+use Rattle.cert_check.specs.Reasons.{AllCharged, AreCharged, AreShown, IsFirstTooHigh}
 use Rattle.cert_check.specs.Steps.{AreBounding, AreLow, IsBounding, IsFirstHigh}
 
 -- the caps of pools and groups

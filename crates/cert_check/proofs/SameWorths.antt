@@ -1,5 +1,5 @@
 -- Lists that have the worths of the plan that is found of them are that plan.
-use Rattle.std.proofs.Common.{◌≡◌, ℕ, ◌&&◌, Bool, true, false, nat_eq, List, [], ◌∷◌, refl, sym, ap, ◌∙◌, subst, arith}
+use Rattle.std.proofs.Common.{◌≡◌, ℕ, true, false, nat_eq, List, [], ◌∷◌, refl, sym, ap, ◌∙◌, subst}
 use Rattle.std.proofs.lemmas.Bool.{and_parts, eqb-true, eq-eqb, and_from, both_ways}
 use Rattle.cover_core.specs.declared.Column.{Column}
 use Rattle.cover_core.specs.declared.Plan.{Plan}

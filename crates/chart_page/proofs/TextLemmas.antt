@@ -1,6 +1,6 @@
 -- Escaped text.
-use Rattle.std.proofs.Common.{◌≡◌, ℕ, ◌==◌, ◌&&◌, not, codes, if◌then◌else◌, Bool, true, false, List, [], ◌∷◌, ◌++◌, refl, ap, sym, subst, ◌≢◌, ◌∙◌}
-use Rattle.std.specs.List.{flat_map, list_all}
+use Rattle.std.proofs.Common.{◌≡◌, ℕ, ◌==◌, ◌&&◌, not, codes, if◌then◌else◌, Bool, true, false, List, [], ◌∷◌, refl, ap, sym, subst, ◌≢◌, ◌∙◌}
+use Rattle.std.specs.List.{list_all}
 use Rattle.std.proofs.lemmas.List.Folds.{list_all-append}
 use Rattle.chart_page.specs.Bars.{is_markup}
 use Rattle.chart_page.specs.Parts.{escaped, escaped_byte}

@@ -1,8 +1,6 @@
 -- A day ends in one way alone.
-use Rattle.std.proofs.Common.{◌≡◌, ℕ, true, false, List, sym, ap, ◌∙◌, subst}
-use Rattle.cover_core.specs.declared.Column.{Column}
-use Rattle.dual_bound.specs.declared.kept.Kept.{Kept}
-use Rattle.cover_plan.specs.Endings.{Numbers, Ending, planned, no_plan, not_placed, EndsAs}
+use Rattle.std.proofs.Common.{◌≡◌, true, false, sym, ap, ◌∙◌, subst}
+use Rattle.cover_plan.specs.Endings.{Numbers, Ending, planned, no_plan, not_placed}
 use Rattle.cover_plan.proofs.Once.{one_ending, one_ending_by}
 use Rattle.day_method.specs.Method.{DayProblems, SidePlan, DayEnding, with_duties, blocks_after, DutiesEndAs, GoesOn, DayEndsAs}
 

@@ -13,9 +13,9 @@ use Rattle.trip_times.specs.declared.trip.Trip.{Trip}
 use Rattle.plan_params.specs.declared.rows.pool.Pool.{Pool}
 use Rattle.day_model.specs.declared.link.Link.{Link}
 use Rattle.day_model.specs.Facts.{DayFacts, admits}
-use Rattle.day_model.specs.Links.{given, link, pull_in, pull_out, with_pool, with_trip}
+use Rattle.day_model.specs.Links.{given, link, pull_in, pull_out, with_trip}
 use Rattle.day_model.specs.Blocks.{link_cost}
-use Rattle.mark_cover.specs.Marking.{Marking, IsOrdered, IsPlaced}
+use Rattle.mark_cover.specs.Marking.{IsOrdered, IsPlaced}
 use Rattle.day_model.specs.Pieces.{longest_driving}
 use Rattle.depot_network.specs.Driving.{trip_seconds}
 use Rattle.depot_network.specs.Open.{scaled}

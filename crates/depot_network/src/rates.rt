@@ -1,4 +1,4 @@
-//! What connections, pull-outs and pull-ins cost.
+//! What connections and pull-ins cost.
 
 ghost use Rattle.std.specs.Prelude.{◌≡◌, ◌<◌, ◌≤◌, ◌*◌, IfSome, Some, length, slice_get};
 ghost use Rattle.plan_core.specs.Limits.{most_rate};

@@ -1,8 +1,6 @@
 -- Items at places.
-use Rattle.std.proofs.Common.{◌≡◌, ℕ, pos, ◌<◌, ◌≤◌, zero, suc, List, [], ◌∷◌, length, get_or, slice_get, refl, arith}
+use Rattle.std.proofs.Common.{◌≡◌, ℕ, ◌<◌, ◌≤◌, zero, suc, List, [], ◌∷◌, length, get_or, slice_get, refl, arith}
 use Rattle.std.specs.Prelude.{Some, None}
-use Rattle.plan_core.specs.declared.types.Price.{Price}
-use Rattle.cover_core.specs.Plans.{price_at}
 
 pub at-get : {A : Type 0} (xs : List A) (k : ℕ) (d : A) → k < length xs → slice_get xs k ≡ Some (get_or xs k d)
 at-get [] k d h = absurd (omega arith)

@@ -1,7 +1,7 @@
 -- What numbers show when labels come and go.
-use Rattle.std.proofs.Common.{◌≡◌, ◌≢◌, ℕ, ◌+◌, ◌<◌, ◌≤◌, Bool, true, false, zero, suc, List, [], ◌∷◌, ◌++◌, length, take, drop, refl, sym, ap, subst, ◌∙◌, add-one, append_assoc, arith, slice_get}
+use Rattle.std.proofs.Common.{◌≡◌, ◌≢◌, ℕ, ◌+◌, ◌<◌, Bool, true, false, zero, suc, List, [], ◌∷◌, ◌++◌, length, take, drop, refl, sym, ap, subst, ◌∙◌, add-one, append_assoc, arith, slice_get}
 use Rattle.std.specs.Prelude.{Option, Some, None, IsSome, is_some, slice_index_or, if◌then◌else◌}
-use Rattle.std.specs.List.{cons_option, filter_map}
+use Rattle.std.specs.List.{cons_option}
 use Rattle.std.proofs.lemmas.List.Elements.{filter_map-append}
 use Rattle.label_region.specs.Shelf.{IsLive, Shelf, label_at}
 use Rattle.label_store.specs.Stocks.{AreLive, AreOnce, IsNotIn, IsStocked, shown}

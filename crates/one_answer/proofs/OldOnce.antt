@@ -1,5 +1,5 @@
 -- The tables of an earlier plan have one answer.
-use Rattle.std.proofs.Common.{◌≡◌, ℕ, ◌+◌, ◌⊎◌, inl, inr, false, List, length, refl, sym, ap, ◌∙◌, subst}
+use Rattle.std.proofs.Common.{◌≡◌, ℕ, ◌+◌, ◌⊎◌, inl, inr, false, List, length, refl, sym, ◌∙◌, subst}
 use Rattle.std.specs.Prelude.{Some, Ok, Err, slice_get}
 use Rattle.plan_core.specs.declared.types.Piece.{Piece}
 use Rattle.vdv451_text.specs.declared.table.Table.{Table}

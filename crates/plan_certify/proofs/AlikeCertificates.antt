@@ -1,5 +1,5 @@
 -- Two days that are alike have the same markings of blocks and duties, and so the same certificates.
-use Rattle.std.proofs.Common.{◌≡◌, ℕ, ℤ, pos, ◌+ℤ◌, ◌-ℤ◌, ◌+◌, ◌*◌, ◌&&◌, Bool, true, false, cond, List, [], Option, Some, refl, ap, sym, ◌∙◌, subst}
+use Rattle.std.proofs.Common.{◌≡◌, ℕ, ℤ, pos, ◌+ℤ◌, ◌-ℤ◌, ◌+◌, ◌*◌, ◌&&◌, Bool, true, false, cond, List, Option, Some, ap, ◌∙◌, subst}
 use Rattle.std.proofs.Math.Path.{fun_ext}
 use Rattle.std.specs.Prelude.{length, nat_lt, nat_le, option_and_then}
 use Rattle.plan_core.specs.declared.Price.{Price}
@@ -31,7 +31,6 @@ use Rattle.depot_network.specs.Open.{scaled}
 use Rattle.block_cut.specs.Cuts.{pieces_of_plan}
 use Rattle.duty_network.specs.Duties.{DutyFacts}
 use Rattle.plan_cert.specs.declared.cert.Cert.{Cert}
-use Rattle.plan_cert.specs.declared.shape.ClassNumbers.{ClassNumbers}
 use Rattle.plan_cert.specs.Shapes.{class_numbers_of}
 use Rattle.plan_cert.specs.Writing.{tables_of}
 use Rattle.plan_command.specs.Alike.{AreAlike}

@@ -21,7 +21,7 @@ use Rattle.depot_network.specs.Network.{blocks_of}
 use Rattle.depot_network.specs.Listed.{blocks_listed}
 use Rattle.block_cut.specs.Cuts.{IsShift, pieces_of_plan}
 use Rattle.block_cut.specs.Legs.{HasWorth}
-use Rattle.duty_network.specs.Duties.{DutyFacts, duties}
+use Rattle.duty_network.specs.Duties.{duties}
 use Rattle.duty_network.specs.Listed.{duties_listed}
 use Rattle.duty_network.specs.Ranges.{IsShift as IsDutyShift}
 use Rattle.umlauf_write.specs.Answers.{IsPiece}

@@ -11,7 +11,7 @@ use Rattle.number_tables.specs.Outlines.{Place as At, entry_faults, given_of, pl
 use Rattle.umlauf_write.specs.declared.text.PlanText.{PlanText}
 use Rattle.umlauf_write.specs.declared.text.PlanFault.TheVariants.{Form}
 use Rattle.umlauf_write.specs.Reading as reading
-use Rattle.umlauf_write.specs.Reading.{Numbers, Part, entries_from, not_below, own_number, part, two}
+use Rattle.umlauf_write.specs.Reading.{Part, entries_from}
 use Rattle.plan_read.specs.declared.fault.PlanTable.{PlanTable}
 use Rattle.plan_read.specs.declared.fault.PlanTable.TheVariants as tables
 use Rattle.plan_read.specs.declared.reading.PlanRows.{PlanRows}

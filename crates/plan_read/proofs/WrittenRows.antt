@@ -16,7 +16,7 @@ use Rattle.number_tables.specs.Outlines.{class_among, counted, numbers, place, p
 use Rattle.number_tables.specs.Signed.{signed_row, signed_rows}
 use Rattle.umlauf_write.specs.Answers.{all_rows, bound_rows, bound_table, duty_row, duty_table, group_of, part_row, part_rows, part_table, piece_at, values_of}
 use Rattle.umlauf_write.specs.Reading as reading
-use Rattle.umlauf_write.specs.Reading.{Numbers, Part, entries_from, own_number, part, two}
+use Rattle.umlauf_write.specs.Reading.{Numbers, Part, entries_from, part, two}
 use Rattle.umlauf_write.specs.Tables.{cost_row, cost_table, format_at, numbered, pool_of, uid_field, with_uid}
 use Rattle.plan_read.specs.ReadsBack.{IsPieceOf, part_at}
 use Rattle.plan_read.proofs.WrittenLists.{all_tagged, tag_all}

@@ -1,16 +1,14 @@
 -- A request that checks a plan and a certificate, and one that writes a text from planning tables alone.
-use Rattle.std.proofs.Common.{◌≡◌, ℕ, zero, suc, ◌+◌, ◌-◌, ◌≤◌, ◌⊎◌, inl, inr, Bool, true, false, List, [], ◌∷◌, ◌++◌, length, take, Result, Ok, Err, IfOk, IfErr, refl, sym, ap, ◌∙◌, subst, arith, slice_index_or}
+use Rattle.std.proofs.Common.{◌≡◌, ℕ, suc, ◌+◌, ◌-◌, ◌≤◌, Bool, true, false, List, [], ◌∷◌, ◌++◌, length, take, Result, Ok, Err, IfOk, IfErr, refl, sym, ap, ◌∙◌, subst, arith, slice_index_or}
 use Rattle.vdv451_text.specs.declared.table.Table.{Table}
 use Rattle.price_rounds.specs.declared.effort.Effort.{Effort}
 use Rattle.cert_check.specs.declared.reason.Answered.{Answered}
 use Rattle.cert_check.specs.declared.reason.Answered.TheVariants.{Yes, No}
 use Rattle.command_words.specs.declared.command.Command.{Command}
 use Rattle.command_words.specs.declared.command.Command.TheVariants as commands
-use Rattle.command_words.specs.declared.command.Making.{Making}
 use Rattle.command_words.specs.Words.{HasNames}
 use Rattle.input_files.specs.Parts.{joined}
 use Rattle.input_files.specs.Stages.{most_bytes}
-use Rattle.input_files.specs.declared.stage.Stage.{Stage}
 use Rattle.input_files.specs.declared.stage.Stage.TheVariants as stages
 use Rattle.plan_command.specs.Planning.{Asked}
 use Rattle.planner_run.specs.declared.outcome.Outcome.{Outcome}
@@ -21,7 +19,7 @@ use Rattle.planner_run.specs.Endings.{is_done}
 use Rattle.planner_run.specs.Model.{IsModelRefused}
 use Rattle.planner_run.specs.Run.{ArePartsRefused, HasParts, IsEndingOf, IsRefused, IsText, IsWhole, stage_of, tables_in}
 use Rattle.planner_run.specs.Tasks.{Task, asked_by, is_check, make_task, reads_plan, task_for}
-use Rattle.planner_run.specs.Tasks.{Certify, Check, Day, Make, MakeRun, Plan, Replan, Trips, Week}
+use Rattle.planner_run.specs.Tasks.{Certify, Check, Day, Make, Plan, Replan, Trips, Week}
 
 -- the parts of planning files, of a plan and of a certificate are found again by how many planning files there are
 pub front_of : {A : Type 0} (xs : List A) (y z : A) → take (length xs) (xs ++ y ∷ z ∷ []) ≡ xs

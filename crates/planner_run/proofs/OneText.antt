@@ -1,5 +1,5 @@
 -- The text of a task is one, unless it climbs: files that are told, words and a day determine it.
-use Rattle.std.proofs.Common.{◌≡◌, ℕ, ◌+◌, ◌-◌, ℤ, pos, false, true, inl, inr, List, [], ◌∷◌, ◌++◌, length, Option, Some, Result, Ok, IfSome, sym, ◌∙◌, ap, subst, slice_index_or, take}
+use Rattle.std.proofs.Common.{◌≡◌, ℕ, ◌+◌, ℤ, pos, false, true, inl, inr, List, [], ◌∷◌, ◌++◌, length, Option, Some, Result, Ok, IfSome, sym, ◌∙◌, ap, subst, slice_index_or, take}
 use Rattle.jiff_core.specs.Calendar.{days_from_civil, weekday_number}
 use Rattle.vdv451_text.specs.declared.table.Table.{Table}
 use Rattle.vdv451_text.specs.Plain.{text}

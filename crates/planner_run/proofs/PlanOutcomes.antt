@@ -1,5 +1,5 @@
 -- A day has one plan, or one cause why it has none, unless it is planned by climbing.
-use Rattle.std.proofs.Common.{◌≡◌, ℕ, ◌⊎◌, inl, inr, true, false, ◌&&◌, List, refl, sym, ◌∙◌, ap, subst}
+use Rattle.std.proofs.Common.{◌≡◌, ℕ, ◌⊎◌, inl, inr, false, ◌&&◌, List, refl, sym, ◌∙◌, ap, subst}
 use Rattle.vdv451_text.specs.declared.table.Table.{Table}
 use Rattle.day_model.specs.Facts.{DayFacts}
 use Rattle.plan_command.specs.declared.fault.PlanFault.{PlanFault}

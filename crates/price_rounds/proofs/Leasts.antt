@@ -1,5 +1,5 @@
 -- What is priced consists of columns of the problem, and its least values make prices that are paid.
-use Rattle.std.proofs.Common.{◌≡◌, ℕ, ℤ, neg_ℤ, pos, ◌+◌, ◌<◌, ◌≤◌, ◌≤ℤ◌, zero, suc, List, [], ◌∷◌, ◌++◌, map, length, Option, Some, None, All, refl, sym, ap, ◌∙◌, subst, arith, filter_map}
+use Rattle.std.proofs.Common.{◌≡◌, ℕ, ℤ, neg_ℤ, pos, ◌+◌, ◌<◌, ◌≤◌, ◌≤ℤ◌, zero, suc, List, [], ◌∷◌, map, length, Option, Some, None, All, refl, sym, ap, ◌∙◌, subst, arith, filter_map}
 use Rattle.std.specs.List.{range_with_len, flat_map, cons_option}
 use Rattle.std.proofs.lemmas.Int.{ints}
 use Rattle.std.proofs.lemmas.List.Elements.{All-nil, All-cons, All-head, All-tail, All-append, All-filter}
@@ -7,7 +7,7 @@ use Rattle.std.proofs.lemmas.List.FromFn.{length-map-range_with_len}
 use Rattle.plan_core.specs.declared.Price.{Price}
 use Rattle.cover_core.specs.declared.Column.{Column}
 use Rattle.cover_core.specs.Cover.{Problem}
-use Rattle.cover_core.specs.Plans.{IsColumn, AreColumns, IsPaid, IsPlan, WeakDuality, number_at, bound_of, cost}
+use Rattle.cover_core.specs.Plans.{IsColumn, AreColumns, IsPaid, WeakDuality, number_at, bound_of, cost}
 use Rattle.cover_core.specs.FirstLeast.{AllWithin, IsAtMostAll, LeastIsPaid, class_prices_of}
 use Rattle.cover_core.specs.Best.{best_of}
 use Rattle.cover_core.specs.Laws.{BestIsFirstLeast}

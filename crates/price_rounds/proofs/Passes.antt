@@ -1,6 +1,5 @@
 -- From one round to the next.
-use Rattle.std.proofs.Common.{◌≡◌, ℕ, ℤ, ◌+◌, zero, suc, List, [], ◌∷◌, ◌++◌, map, refl, sym, ap, ◌∙◌, subst, arith, append_assoc, append-nil}
-use Rattle.std.specs.List.{range_with_len}
+use Rattle.std.proofs.Common.{◌≡◌, ℕ, ℤ, ◌+◌, suc, List, [], ◌∷◌, ◌++◌, refl, sym, ap, ◌∙◌, subst, arith, append_assoc, append-nil}
 use Rattle.std.proofs.lemmas.List.FromFn.{map-range_with_len_more}
 use Rattle.plan_core.specs.declared.Price.{Price}
 use Rattle.cover_core.specs.declared.Column.{Column}
@@ -9,9 +8,8 @@ use Rattle.cover_master.specs.Method.{starting_prices, step_size_of}
 use Rattle.dual_bound.specs.declared.kept.Kept.{Kept}
 use Rattle.dual_bound.specs.Offers.{kept_after}
 use Rattle.worker_price.specs.Priced.{priced_columns}
-use Rattle.worker_price.specs.Work.{ArePricesFor}
 use Rattle.price_rounds.specs.declared.progress.Progress.{Progress}
-use Rattle.price_rounds.specs.Rounds.{Standing, round_from, after_rounds, after_lowering, pool_with, turned_often, lowered_in_order, greatest_of, offer_at, round_offers, lowering_offers, all_offers, IsFirstGreatest}
+use Rattle.price_rounds.specs.Rounds.{Standing, round_from, after_rounds, after_lowering, pool_with, turned_often, lowered_in_order, greatest_of, offer_at, round_offers, lowering_offers, IsFirstGreatest}
 use Rattle.price_rounds.specs.Steps.{IsReady, HasRounds, HasLowered}
 use Rattle.price_rounds.proofs.Offers.{first_alone, first_next}
 

@@ -1,11 +1,10 @@
 -- Columns that may be valued and lowered, and pools of them.
-use Rattle.std.proofs.Common.{◌≡◌, ℕ, ◌+◌, ◌<◌, ◌≤◌, zero, suc, true, false, Bool, cond, List, [], ◌∷◌, ◌++◌, length, get_or, refl, sym, ap, ◌∙◌, subst, arith}
+use Rattle.std.proofs.Common.{ℕ, ◌+◌, ◌<◌, ◌≤◌, zero, suc, true, false, Bool, cond, List, [], ◌∷◌, ◌++◌, length, get_or, arith}
 use Rattle.cover_core.specs.declared.Column.{Column}
 use Rattle.cover_core.specs.Cover.{Problem, Rises, AllBelow}
 use Rattle.cover_core.specs.Fitting.{AreFit}
 use Rattle.cover_core.specs.FirstLeast.{AreCheap}
-use Rattle.cover_core.specs.Plans.{IsColumn, AreColumns}
-use Rattle.cover_core.proofs.Parts.{AreColumns-push, AreColumns-get}
+use Rattle.cover_core.proofs.Parts.{AreColumns-push}
 use Rattle.column_pool.specs.Pools.{is_refused, pool_after}
 use Rattle.price_rounds.specs.Steps.{AreReady}
 

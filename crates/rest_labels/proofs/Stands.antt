@@ -1,5 +1,5 @@
 -- What the items of a rest stand for.
-use Rattle.std.proofs.Common.{◌≡◌, ℕ, ◌+◌, ◌<◌, zero, suc, arith, List, [], ◌∷◌, ◌++◌, length, drop, refl, ap, slice_index_or}
+use Rattle.std.proofs.Common.{◌≡◌, ℕ, ◌+◌, ◌<◌, zero, suc, List, [], ◌∷◌, ◌++◌, length, drop, ap, slice_index_or}
 use Rattle.std.proofs.lemmas.List.{drop_more}
 use Rattle.cover_core.specs.Cover.{AllBelow}
 use Rattle.cover_rest.specs.Rest.{body_at, joined, written}

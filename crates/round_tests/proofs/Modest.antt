@@ -1,6 +1,6 @@
 -- The worths and places of the problems that pricers of tests have are modest.
-use Rattle.std.proofs.Common.{◌==◌, ℕ, ◌+◌, ◌%◌, ◌<◌, ◌≤◌, ◌&&◌, true, false, cond, nat_lt, List, [], ◌∷◌, Option, Some, None, arith}
-use Rattle.std.specs.Prelude.{All, IfSome}
+use Rattle.std.proofs.Common.{◌==◌, ℕ, ◌+◌, ◌%◌, ◌<◌, ◌≤◌, ◌&&◌, true, false, cond, nat_lt, [], ◌∷◌, Option, Some, None, arith}
+use Rattle.std.specs.Prelude.{IfSome}
 use Rattle.std.proofs.lemmas.List.Elements.{All-cons, All-nil}
 use Rattle.cover_core.specs.Ranges.{HasFewPlaces, HasModestWorths}
 use Rattle.round_tests.specs.Pair.{pair}

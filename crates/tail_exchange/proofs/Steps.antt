@@ -1,5 +1,5 @@
 -- Every step that is looked at keeps plans, and steps lead from plans to cheaper plans.
-use Rattle.std.proofs.Common.{◌≡◌, ◌≢◌, ◌==◌, ℕ, ℤ, pos, ◌-ℤ◌, ◌+ℤ◌, ◌≤ℤ◌, ◌<ℤ◌, ◌+◌, ◌-◌, ◌<◌, ◌≤◌, Bool, true, false, cond, ◌&&◌, not, zero, suc, List, [], ◌∷◌, length, take, drop, Option, Some, None, Less, refl, sym, ap, subst, ⊎_elim, arith}
+use Rattle.std.proofs.Common.{◌≡◌, ◌≢◌, ◌==◌, ℕ, ℤ, pos, ◌-ℤ◌, ◌+ℤ◌, ◌≤ℤ◌, ◌<ℤ◌, ◌+◌, ◌-◌, ◌<◌, ◌≤◌, true, false, cond, ◌&&◌, not, zero, suc, List, [], ◌∷◌, length, take, drop, Option, Some, None, Less, refl, sym, ap, subst, ⊎_elim, arith}
 use Rattle.std.specs.Prelude.{flat_map}
 use Rattle.std.specs.List.{range_with_len, Contains}
 use Rattle.std.specs.Ordering.{int_cmp, nat_cmp, ordering_then}

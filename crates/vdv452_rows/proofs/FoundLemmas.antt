@@ -1,7 +1,6 @@
 -- What is read by places is what is read by names.
-use Rattle.std.proofs.Common.{◌≡◌, ℕ, ◌+◌, Bool, true, false, if◌then◌else◌, List, [], ◌∷◌, ◌++◌, Option, Some, None, map, filter, refl, sym, ap, ◌∙◌, slice_get, is_none}
+use Rattle.std.proofs.Common.{◌≡◌, ℕ, ◌+◌, Bool, true, false, if◌then◌else◌, List, [], ◌∷◌, ◌++◌, map, filter, refl, sym, ap, ◌∙◌}
 use Rattle.std.specs.List.{flat_map}
-use Rattle.std.specs.Option.{option_and_then}
 use Rattle.vdv451_text.specs.declared.table.Field.{Field}
 use Rattle.vdv451_text.specs.declared.table.Head.{Head}
 use Rattle.vdv451_text.specs.declared.table.Table.{Table}
@@ -11,7 +10,7 @@ use Rattle.vdv452_rows.specs.declared.schema.Column.{Column}
 use Rattle.vdv452_rows.specs.declared.schema.Schema.{Schema}
 use Rattle.vdv452_rows.specs.declared.table.Found.{Found}
 use Rattle.vdv452_rows.specs.Found.{found_cell, found_cells, found_column, found_columns, found_faults, found_key, found_row_faults}
-use Rattle.vdv452_rows.specs.Rows.{cell_fault, cell_in, fault, cells, field_at, key_fault, key_of, missing_column, missing_columns, own_key, place_of, row_faults, when}
+use Rattle.vdv452_rows.specs.Rows.{cell_fault, cell_in, cells, field_at, key_fault, key_of, missing_column, missing_columns, own_key, row_faults}
 
 module _ (heads : List Head) (row : List Field) where
   -- What is read by places is what is read by names: the code looks for each column's place once, and then takes fields by place,

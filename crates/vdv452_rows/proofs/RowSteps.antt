@@ -1,5 +1,5 @@
 -- One column or one row more.
-use Rattle.std.proofs.Common.{◌≡◌, ℕ, ◌+◌, ◌<◌, Bool, true, false, if◌then◌else◌, List, [], ◌∷◌, ◌++◌, length, get_or, drop, map, filter, refl, sym, ap, subst, ◌∙◌, append_assoc, add-one, drop-cons, slice_get, suc}
+use Rattle.std.proofs.Common.{◌≡◌, ℕ, ◌+◌, ◌<◌, Bool, true, false, if◌then◌else◌, List, [], ◌∷◌, ◌++◌, length, get_or, drop, map, filter, refl, sym, ap, subst, ◌∙◌, append_assoc, add-one, drop-cons, suc}
 use Rattle.std.proofs.lemmas.List.{append-nil}
 use Rattle.vdv451_text.specs.declared.table.Field.{Field}
 use Rattle.vdv452_rows.specs.declared.cell.Cell.{Cell}

@@ -1,6 +1,6 @@
 -- Rows without a fault are duties of a roster: each row's values are right, and its key is none of a row before. Going down the rows, the
 -- keys before a row grow by its own, so that each later row differs from it.
-use Rattle.std.proofs.Common.{◌≡◌, ℕ, ◌+◌, All, Bool, true, false, not, ◌&&◌, ◌||◌, if◌then◌else◌, List, [], ◌∷◌, ◌++◌, map, Option, Some, None, refl, sym, ap, subst, ◌∙◌, arith}
+use Rattle.std.proofs.Common.{◌≡◌, ℕ, ◌+◌, All, Bool, true, false, not, ◌&&◌, ◌||◌, if◌then◌else◌, List, [], ◌∷◌, ◌++◌, map, Some, None, refl, sym, ap, ◌∙◌, arith}
 use Rattle.std.specs.Prelude.{◌==◌, AllPairs}
 use Rattle.std.specs.List.{find, flat_map, list_any}
 use Rattle.std.proofs.lemmas.Bool.Decides.{nat_tests}
@@ -14,7 +14,6 @@ use Rattle.week_check.specs.declared.entry.DriverDay.{DriverDay}
 use Rattle.week_check.specs.declared.turn.Turn.{Turn}
 use Rattle.week_check.specs.Duties.{AreApart, IsTurn}
 use Rattle.week_check.specs.Roster.{RowFields, columns, entry_of, field_of, is_right, key_fault, key_of, kind_of, name_of, roster_name, row_fault, row_faults, row_turn, same_key, value_faults, wrong_column}
-use Rattle.week_check.specs.declared.column.RosterColumn.{RosterColumn}
 use Rattle.week_check.proofs.Entries.{all_right, turn_is}
 
 pub both_none : (xs ys : List TableFault) → xs ++ ys ≡ [] → (xs ≡ []) × (ys ≡ [])

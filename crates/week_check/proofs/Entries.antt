@@ -1,19 +1,18 @@
 -- Rows whose values are right, and their duties.
-use Rattle.std.proofs.Common.{◌≡◌, ℕ, ◌<◌, ◌≤◌, ◌^◌, Bool, true, false, not, ◌&&◌, if◌then◌else◌, List, [], ◌∷◌, Option, Some, None, ℤ, pos, negsuc, neg_ℤ, ◌+ℤ◌, ◌*ℤ◌, ◌≤ℤ◌, refl, sym, ap, subst, ◌∙◌, arith, unsigned_abs}
+use Rattle.std.proofs.Common.{◌≡◌, ℕ, ◌≤◌, Bool, true, false, not, ◌&&◌, if◌then◌else◌, List, [], ◌∷◌, Option, Some, None, ℤ, pos, negsuc, neg_ℤ, ◌≤ℤ◌, refl, ap, ◌∙◌, arith, unsigned_abs}
 use Rattle.std.specs.Prelude.{◌↔◌, IsTrue, int_le, nat_le}
 use Rattle.std.specs.Bool.{MatchBool}
 use Rattle.std.specs.List.{find}
 use Rattle.std.proofs.lemmas.Bool.{and_from, and_parts, both_ways, cases_from_iff, le-leb, leb-true, not-false}
-use Rattle.std.proofs.lemmas.Bool.Decides.{nat_tests}
 use Rattle.jiff_core.specs.Calendar.{days_in_month}
 use Rattle.jiff_core.proofs.SignedLemmas.{signed_arith}
 use Rattle.week_check.specs.declared.column.RosterColumn.{RosterColumn}
 use Rattle.week_check.specs.declared.column.RosterColumn.TheVariants.{Driver, Day, Begin, End, Driving, Pause}
 use Rattle.week_check.specs.declared.entry.Entry.{Entry}
 use Rattle.week_check.specs.declared.turn.Turn.{Turn}
-use Rattle.week_check.specs.Days.{IsDay, IsDutyDay, day_of_month, month_of, number_of as day_number, year_of}
+use Rattle.week_check.specs.Days.{IsDutyDay, day_of_month, month_of, year_of}
 use Rattle.week_check.specs.Duties.{IsTurn}
-use Rattle.week_check.specs.Roster.{columns, is_day, is_duty_day, is_end, is_one, is_right, is_time, is_within, moment, turn_of, value, word, wrong_column}
+use Rattle.week_check.specs.Roster.{is_day, is_duty_day, is_end, is_one, is_right, is_time, is_within, moment, turn_of, value, word, wrong_column}
 
 -- nothing is found: neither the first item, nor one behind it
 pub find_split : {X : Type 0} (x : X) (r : Option X) (b : Bool) → (if b then Some x else r) ≡ None → (b ≡ false) × (r ≡ None)

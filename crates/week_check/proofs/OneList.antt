@@ -16,7 +16,7 @@ use Rattle.std.proofs.lemmas.List.Elements.{All-get_or, All-head, All-tail}
 use Rattle.std.proofs.lemmas.List.Sorted.{IsPermutation-sym, IsPermutation-trans, ranks_by, sorted_far, sum_by-IsPermutation}
 use Rattle.std.proofs.lemmas.List.Sums.{sum_by-cons}
 use Rattle.std.proofs.lemmas.Map.Lookups.{CmpEqualImpliesEq, exact_signed, exact_unsigned}
-use Rattle.jiff_core.specs.Calendar.{IsCivilDate, day_count, days_from_civil}
+use Rattle.jiff_core.specs.Calendar.{IsCivilDate, day_count}
 use Rattle.jiff_core.proofs.CalendarLemmas.{day_count-day, day_count-lt_month, day_count-lt_year, days_from_civil-day_count}
 use Rattle.jiff_core.proofs.SignedLemmas.{signed_arith}
 use Rattle.week_check.specs.declared.turn.Turn.{Turn}

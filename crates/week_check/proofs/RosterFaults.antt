@@ -1,6 +1,6 @@
 -- A step that gives up at an initial part of the faults gives up at the first of all. The first item that fails a test makes the first
 -- fault, and where none fails it there is no fault.
-use Rattle.std.proofs.Common.{◌≡◌, ℕ, ◌+◌, ◌<◌, Bool, true, false, not, if◌then◌else◌, List, [], ◌∷◌, ◌++◌, length, map, get_or, drop, Option, Some, None, refl, sym, ap, subst, ◌∙◌}
+use Rattle.std.proofs.Common.{◌≡◌, ℕ, ◌+◌, ◌<◌, Bool, true, false, if◌then◌else◌, List, [], ◌∷◌, ◌++◌, length, get_or, drop, Option, Some, None, refl, sym, ap, subst, ◌∙◌}
 use Rattle.std.specs.List.{find, flat_map, list_any}
 use Rattle.vdv452_rows.specs.declared.fault.TableFault.{TableFault}
 use Rattle.vdv452_rows.specs.declared.fault.TableKind.TheVariants.{KeyTwice}

@@ -1,9 +1,9 @@
-use Rattle.std.proofs.Common.{◌≤◌, ◌≡◌, ◌∙◌, All, AllPairs, IfOk, List, ap, arith, length, subst, sym, rules}
+use Rattle.std.proofs.Common.{◌≤◌, ◌≡◌, All, AllPairs, List, ap, arith, length, subst, sym, rules}
 use Rattle.plan_core.specs.declared.types.Piece.{Piece}
 use Rattle.cover_core.specs.Plans.{all_items}
 use Rattle.vdv452_tables.proofs.OrderLemmas.{order_all, order_length}
 use Rattle.plan_params.specs.Settings.{in_order}
-use Rattle.block_cut.specs.Cuts.{IsEarlier, IsShift, moment, pieces_by_block, pieces_of_plan}
+use Rattle.block_cut.specs.Cuts.{IsEarlier, IsShift, moment, pieces_by_block}
 use Rattle.block_cut.proofs.Few.{all_few, plan_items}
 use Rattle.block_cut.proofs.Ordered.{plan_ordered}
 use Rattle.block_cut.proofs.Times.{ok_made}

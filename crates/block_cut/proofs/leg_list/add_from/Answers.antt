@@ -1,4 +1,4 @@
-use Rattle.std.proofs.Common.{◌<◌, length, ◌≡◌, drop, is_some, true, rules}
+use Rattle.std.proofs.Common.{rules}
 use Rattle.cover_core.proofs.Values.{AllBelow-get}
 use Rattle.block_cut.proofs.LegLists.{legs_more, splits_at}
 use Rattle.block_cut.proofs.leg_list.add_from.Goals as goal

@@ -2,7 +2,7 @@ use Rattle.std.proofs.Common.{◌≡◌, ◌++◌, List, OnOk, pos, arith, rules
 use Rattle.std.proofs.lemmas.Grind.{common_steps}
 use Rattle.plan_core.specs.declared.types.Leg.{Leg}
 use Rattle.day_model.specs.Pieces.{shown}
-use Rattle.block_cut.specs.Legs.{AreTimed, begin_of, legs_or, until_end}
+use Rattle.block_cut.specs.Legs.{AreTimed, legs_or, until_end}
 use Rattle.block_cut.proofs.Times.{on_made, timed_end}
 use Rattle.block_cut.proofs.leg_list.add_until_end.Goals as goal
 

@@ -1,4 +1,4 @@
-use Rattle.std.proofs.Common.{◌≡◌, ◌++◌, List, OnOk, pos, arith, rules}
+use Rattle.std.proofs.Common.{◌≡◌, ◌++◌, List, OnOk, pos, arith}
 use Rattle.std.proofs.lemmas.Grind.{common_steps}
 use Rattle.plan_core.specs.declared.types.Leg.{Leg}
 use Rattle.day_model.specs.Pieces.{shown}

@@ -1,4 +1,4 @@
-use Rattle.std.proofs.Common.{ℕ, List, length, sym, subst, rules, slice_index_or}
+use Rattle.std.proofs.Common.{ℕ, List, length, sym, subst, slice_index_or}
 use Rattle.cover_core.specs.Cover.{AllBelow}
 use Rattle.rest_labels.proofs.Stands.{body-below}
 use Rattle.block_rest.proofs.begins.begins.Goals as goal

@@ -1,5 +1,4 @@
 use Rattle.std.proofs.Common.{◌≡◌, ◌++◌, drop}
-use Rattle.std.specs.List.{flat_map}
 use Rattle.chart_page.specs.Parts.{written}
 use Rattle.chart_page.specs.Duties.{pauses}
 use Rattle.chart_page.proofs.duties.push_pauses.Given as goal

@@ -1,4 +1,3 @@
-use Rattle.std.proofs.Common.{ap}
 use Rattle.label_cover.proofs.gaps.first_gap.Goals as goal
 
 pub first_gap-requires-clause-there : goal.first_gap-requires-clause-there

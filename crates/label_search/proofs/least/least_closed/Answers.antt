@@ -1,9 +1,8 @@
-use Rattle.std.proofs.Common.{◌≡◌, List, ℕ, sym, ap, ◌∙◌, subst, rules, w64}
+use Rattle.std.proofs.Common.{List, ℕ, sym, ◌∙◌, subst, rules, w64}
 use Rattle.std.specs.Prelude.{None, Some, FitsSigned}
 use Rattle.std.proofs.lemmas.Int.{to_z-of_z}
 use Rattle.label_search.specs.Answers.{IsLeastClosed}
 use Rattle.label_search.specs.Limits.{limited}
-use Rattle.label_search.specs.Nodes.{best_from}
 use Rattle.label_search.proofs.Leasts.{from-limited-nodes, back-nodes}
 use Rattle.label_search.proofs.Limits.{limited-safe}
 use Rattle.label_search.proofs.Sound.{AllSound-is}

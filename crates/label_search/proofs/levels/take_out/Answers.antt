@@ -1,6 +1,6 @@
-use Rattle.std.proofs.Common.{◌≡◌, ◌<◌, ◌≤◌, ◌+◌, ◌-◌, ◌++◌, ◌∙◌, ℕ, List, arith, drop, length, subst, sym, take}
+use Rattle.std.proofs.Common.{◌≡◌, ◌<◌, ◌+◌, ◌-◌, ◌++◌, ◌∙◌, ℕ, List, arith, drop, length, subst, take}
 use Rattle.std.specs.Prelude.{filter}
-use Rattle.label_search.specs.Nodes.{stays_beside, without}
+use Rattle.label_search.specs.Nodes.{stays_beside}
 use Rattle.label_search.specs.declared.node.Node.{Node}
 use Rattle.label_search.proofs.Places.{out-step, out-within}
 use Rattle.label_search.proofs.levels.take_out.Goals as goal

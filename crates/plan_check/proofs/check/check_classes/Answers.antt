@@ -2,11 +2,10 @@ use Rattle.std.proofs.Common.{◌≡◌, ◌<◌, List, ℕ, length, nat_lt, ap,
 use Rattle.std.proofs.lemmas.Grind.{get_or_default_zero}
 use Rattle.std.specs.Prelude.{Option, Some, None, slice_index}
 use Rattle.cover_core.specs.declared.Column.{Column}
-use Rattle.cover_core.specs.Plans.{all_classes}
 use Rattle.cover_core.specs.FirstLeast.{AreCheap}
 use Rattle.plan_check.specs.declared.verdict.PlanVerdict.{PlanVerdict}
 use Rattle.plan_check.specs.declared.verdict.PlanVerdict.TheVariants.{Lawful, Over}
-use Rattle.plan_check.specs.Counts.{AreCounts, IsFirstOf}
+use Rattle.plan_check.specs.Counts.{IsFirstOf}
 use Rattle.plan_check.specs.Judged.{by_classes}
 use Rattle.plan_check.proofs.Counted.{first-over}
 use Rattle.plan_check.proofs.Small.{all-cheap}

@@ -1,4 +1,4 @@
-use Rattle.std.proofs.Common.{◌≡◌, ◌<◌, ◌≤◌, List, ℕ, length, not, nat_eq, ap, ◌∙◌, sym, subst, arith}
+use Rattle.std.proofs.Common.{◌≡◌, ◌≤◌, List, ℕ, length, not, nat_eq, ap, ◌∙◌, sym, subst}
 use Rattle.std.proofs.lemmas.Grind.{get_or_default_zero}
 use Rattle.std.specs.Prelude.{Option, Some, None, IfOk, slice_index}
 use Rattle.plan_check.specs.declared.verdict.PlanVerdict.{PlanVerdict}

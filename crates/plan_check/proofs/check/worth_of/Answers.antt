@@ -1,4 +1,4 @@
-use Rattle.std.proofs.Common.{◌≡◌, Bool, true, false, ℕ, List, nat_lt, ap, ◌∙◌, sym}
+use Rattle.std.proofs.Common.{true, false, ℕ, List, nat_lt, ap, ◌∙◌, sym}
 use Rattle.std.specs.List.{list_all}
 use Rattle.plan_check.proofs.Worthy.{below-from, no-worth}
 use Rattle.plan_check.proofs.check.worth_of.Goals as goal

@@ -1,5 +1,4 @@
-use Rattle.std.proofs.Common.{◌≡◌, ◌+◌, ◌<◌, ◌++◌, List, ℕ, drop, length, ap, ◌∙◌, arith}
-use Rattle.std.specs.Prelude.{slice_index}
+use Rattle.std.proofs.Common.{◌+◌, ◌<◌, drop, length, ap, ◌∙◌, arith}
 use Rattle.cover_core.specs.Plans.{all_items, times}
 use Rattle.cover_core.proofs.Parts.{times-append}
 use Rattle.plan_check.proofs.Counted.{items-step}

@@ -1,6 +1,5 @@
-use Rattle.std.proofs.Common.{◌≡◌, false, ◌≤◌, ◌∷◌, [], ℤ, List, length, rules, subst, w64, FitsSigned}
+use Rattle.std.proofs.Common.{◌≡◌, false, ◌≤◌, ◌∷◌, [], List, length, rules, subst, w64, FitsSigned}
 use Rattle.std.proofs.lemmas.Int.{to_z-of_z}
-use Rattle.dual_bound.specs.declared.kept.Kept.{Kept}
 use Rattle.trip_times.specs.declared.trip.Trip.{Trip}
 use Rattle.plan_command.proofs.FlowBlocks.{is_bound, is_feasible, is_known, is_plan}
 use Rattle.plan_command.proofs.Printing.{few_blocks}

@@ -1,9 +1,7 @@
-use Rattle.std.proofs.Common.{true, false, Option}
-use Rattle.cover_plan.specs.declared.known.KnownPlan.{KnownPlan}
+use Rattle.std.proofs.Common.{true, false}
 use Rattle.depot_network.specs.Network.{blocks as net_blocks, blocks_of}
-use Rattle.plan_command.specs.Flow.{AreKnownBlocks}
-use Rattle.plan_command.specs.Planning.{asked_of, side_of}
-use Rattle.plan_command.proofs.Sides.{blocks_cause, cause_at, count_at, same_net, side_at, side_known}
+use Rattle.plan_command.specs.Planning.{asked_of}
+use Rattle.plan_command.proofs.Sides.{blocks_cause, cause_at, same_net}
 use Rattle.plan_command.proofs.planning.planned_blocks.Goals as goal
 
 pub returns-in-Err-side_by-clause-cause : goal.returns-in-Err-side_by-clause-cause

@@ -1,6 +1,4 @@
-use Rattle.std.proofs.Common.{◌≡◌, Err, MatchResult, List, ap, refl, subst}
-use Rattle.vdv451_text.specs.declared.table.Table.{Table}
-use Rattle.input_files.specs.declared.stage.Stage.{Stage}
+use Rattle.std.proofs.Common.{◌≡◌, Err, MatchResult, ap, refl}
 use Rattle.input_files.specs.Inputs.{SpellTables, held_under}
 use Rattle.input_files.proofs.FileLemmas.{err_same}
 use Rattle.input_files.proofs.InputLemmas.{if_told, of_told}

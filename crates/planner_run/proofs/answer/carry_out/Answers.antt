@@ -1,4 +1,4 @@
-use Rattle.std.proofs.Common.{◌≡◌, ◌∙◌, inr, refl}
+use Rattle.std.proofs.Common.{◌≡◌, inr, refl}
 use Rattle.input_files.specs.Inputs.{held_under}
 use Rattle.planner_run.specs.Run.{IsAnswer, IsRefusal, told_for}
 use Rattle.planner_run.specs.Tasks.{task_of}

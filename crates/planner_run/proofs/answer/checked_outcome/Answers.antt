@@ -1,4 +1,4 @@
-use Rattle.std.proofs.Common.{◌≡◌, length}
+use Rattle.std.proofs.Common.{length}
 use Rattle.planner_run.proofs.CheckLemmas.{check_refused, check_whole}
 use Rattle.planner_run.proofs.answer.checked_outcome.Goals as goal
 

@@ -1,4 +1,4 @@
-use Rattle.std.proofs.Common.{◌≡◌, length}
+use Rattle.std.proofs.Common.{length}
 use Rattle.planner_run.proofs.CheckLemmas.{texts_refused, texts_whole}
 use Rattle.planner_run.proofs.answer.text_outcome.Goals as goal
 

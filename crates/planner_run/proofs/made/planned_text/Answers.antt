@@ -1,4 +1,4 @@
-use Rattle.std.proofs.Common.{◌∙◌, ◌<◌, ◌^◌, All, List, IfOk, IfErr, length, sym, subst, true, false, ◌≡◌}
+use Rattle.std.proofs.Common.{◌<◌, ◌^◌, All, List, IfOk, IfErr, length, sym, subst, true, false, ◌≡◌}
 use Rattle.vdv451_text.specs.declared.table.Table.{Table}
 use Rattle.vdv451_text.specs.Plain.{are_plain}
 use Rattle.planner_run.specs.MadeText.{IsShortText}

@@ -1,4 +1,4 @@
-use Rattle.std.proofs.Common.{◌≡◌, Some, ap, ◌∙◌}
+use Rattle.std.proofs.Common.{Some, ap, ◌∙◌}
 use Rattle.std.proofs.lemmas.Option.{get_or_from_slice_get}
 use Rattle.planner_run.proofs.PlanLemmas.{model_is, model_refusal, trips_have_rows}
 use Rattle.planner_run.proofs.TripLemmas.{all_trips_there, not_missing}

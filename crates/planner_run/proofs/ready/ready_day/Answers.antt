@@ -1,4 +1,3 @@
-use Rattle.std.proofs.Common.{◌≡◌}
 use Rattle.vdv452_rows.specs.Schema as schema
 use Rattle.planner_run.proofs.TripRows.{found_plain}
 use Rattle.planner_run.proofs.ready.ready_day.Goals as goal

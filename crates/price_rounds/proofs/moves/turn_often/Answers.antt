@@ -1,4 +1,4 @@
-use Rattle.std.proofs.Common.{◌≡◌, List, length, ap, ◌∙◌, w64, to_z, of_z}
+use Rattle.std.proofs.Common.{List, length, ap, ◌∙◌, w64, to_z, of_z}
 use Rattle.plan_core.specs.declared.Price.{Price}
 use Rattle.price_rounds.proofs.Prices.{turned-length, turned_none, turned_more}
 use Rattle.price_rounds.proofs.moves.turn_often.Goals as goal

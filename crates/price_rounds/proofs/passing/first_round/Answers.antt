@@ -1,4 +1,4 @@
-use Rattle.std.proofs.Common.{◌≡◌, [], List, ap, ◌∙◌, rules, FitsSigned, w64, to_z, of_z, to_z-of_z}
+use Rattle.std.proofs.Common.{List, ap, ◌∙◌, rules, FitsSigned, w64, to_z, of_z, to_z-of_z}
 use Rattle.cover_core.specs.declared.Column.{Column}
 use Rattle.price_rounds.specs.Rounds.{pool_with}
 use Rattle.price_rounds.proofs.Passes.{first_round_done}

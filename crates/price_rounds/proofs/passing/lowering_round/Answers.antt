@@ -1,4 +1,4 @@
-use Rattle.std.proofs.Common.{◌≡◌, refl, ◌∙◌}
+use Rattle.std.proofs.Common.{refl, ◌∙◌}
 use Rattle.price_rounds.proofs.Passes.{lowering_done}
 use Rattle.price_rounds.proofs.passing.lowering_round.Goals as goal
 

@@ -1,4 +1,4 @@
-use Rattle.std.proofs.Common.{◌≡◌, ℤ, ℕ, List, neg_ℤ, pos, length, sym, ap, ◌∙◌, subst}
+use Rattle.std.proofs.Common.{ℤ, ℕ, List, neg_ℤ, pos, length, sym, ap, ◌∙◌, subst}
 use Rattle.cover_core.specs.declared.Column.{Column}
 use Rattle.cover_core.specs.Fitting.{AreFit}
 use Rattle.cover_core.specs.Plans.{AreColumns}

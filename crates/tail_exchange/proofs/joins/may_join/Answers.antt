@@ -1,7 +1,6 @@
 use Rattle.std.proofs.Common.{◌<◌, length, refl, rules}
 use Rattle.tail_exchange.proofs.Lists.{meets, parts}
 use Rattle.tail_exchange.proofs.joins.may_join.Goals as goal
-use Rattle.tail_exchange.proofs.joins.may_join.Goals.{then-is_empty, else-is_empty}
 
 pub returns-else-is_empty-2-clause-rises : goal.returns-else-is_empty-2-clause-rises
 returns-else-is_empty-2-clause-rises c =

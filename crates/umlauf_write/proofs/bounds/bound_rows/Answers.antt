@@ -1,7 +1,6 @@
-use Rattle.std.proofs.Common.{List, ◌++◌, [], append-nil, ap, sym, ◌∙◌, rules}
-use Rattle.vdv451_text.specs.declared.table.Field.{Field}
+use Rattle.std.proofs.Common.{◌++◌, append-nil, ap, sym, ◌∙◌}
 use Rattle.number_tables.specs.Numbers.{number_rows}
-use Rattle.umlauf_write.proofs.BoundRows.{bound_more, bounds_done}
+use Rattle.umlauf_write.proofs.BoundRows.{bounds_done}
 use Rattle.umlauf_write.proofs.bounds.bound_rows.Goals as goal
 
 pub returns : goal.returns

@@ -1,6 +1,6 @@
-use Rattle.std.proofs.Common.{arith, codes, refl}
+use Rattle.std.proofs.Common.{arith, refl}
 use Rattle.std.proofs.lemmas.Grind.{common_steps}
-use Rattle.umlauf_write.specs.Answers.{bound_columns, bound_rows, bound_table, values_of}
+use Rattle.umlauf_write.specs.Answers.{bound_rows, bound_table, values_of}
 use Rattle.umlauf_write.proofs.BoundRows.{bounds_full}
 use Rattle.umlauf_write.proofs.Plain.{ok_plain}
 use Rattle.umlauf_write.proofs.bounds.bound_table.Goals as goal

@@ -1,5 +1,4 @@
 use Rattle.std.proofs.Common.{ap, length, ◌∙◌, rules}
-use Rattle.vdv451_text.specs.declared.table.Field.{Field}
 use Rattle.umlauf_write.proofs.FoundPlain.{row_long}
 use Rattle.umlauf_write.proofs.Plain.{uid_fits}
 use Rattle.umlauf_write.proofs.found.found_rows.Goals as goal

@@ -1,4 +1,4 @@
-use Rattle.std.proofs.Common.{◌∙◌, sym, ap, rules}
+use Rattle.std.proofs.Common.{◌∙◌, sym, ap}
 use Rattle.umlauf_write.specs.Trips.{is_row_of}
 use Rattle.umlauf_write.proofs.FoundPlain.{row_told}
 use Rattle.umlauf_write.proofs.found.row_of.Goals as goal

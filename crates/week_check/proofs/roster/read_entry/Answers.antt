@@ -1,9 +1,7 @@
-use Rattle.std.proofs.Common.{◌≡◌, [], ◌∷◌, List, Option, Some, None, not, sym, ap, subst, ◌∙◌}
-use Rattle.vdv452_rows.specs.declared.fault.TableKind.{TableKind}
+use Rattle.std.proofs.Common.{◌≡◌, Some, None, not, sym, ap, ◌∙◌}
 use Rattle.vdv452_rows.specs.Rows.{fault}
 use Rattle.week_check.specs.declared.entry.Entry.{Entry}
 use Rattle.week_check.specs.Roster.{RowFields, columns, entry_of, field_of, fields_at, is_right, kind_of, name_of, roster_name, value_faults, wrong_column}
-use Rattle.week_check.specs.RosterAnswers.{IsFirstOf}
 use Rattle.week_check.proofs.RosterFaults.{first_faulty, none_faulty, refused_at}
 use Rattle.week_check.proofs.roster.read_entry.Goals as goal
 

@@ -1,6 +1,6 @@
-use Rattle.std.proofs.Common.{◌≡◌, [], ◌∙◌, IfOk, None, Some, map, subst, sym}
+use Rattle.std.proofs.Common.{◌≡◌, [], ◌∙◌, IfOk, None, map, subst, sym}
 use Rattle.std.specs.Prelude.{IfErr, OnOk}
-use Rattle.week_check.specs.Roster.{fields_at, faults_in, missing_column, row_faults, row_turn}
+use Rattle.week_check.specs.Roster.{missing_column, row_turn}
 use Rattle.week_check.specs.RosterAnswers.{IsFirstOf}
 use Rattle.week_check.proofs.Columns.{table_faults, table_rows}
 use Rattle.week_check.proofs.roster.read_table.Goals as goal

@@ -1,4 +1,4 @@
-use Rattle.std.proofs.Common.{◌≡◌, codes, length, map, refl, rules, sym, subst, true}
+use Rattle.std.proofs.Common.{◌≡◌, codes, length, refl, rules, sym, subst, true}
 use Rattle.std.proofs.lemmas.List.Elements.{All-map}
 use Rattle.std.proofs.lemmas.Result.{IfOk-weaker}
 use Rattle.vdv451_text.specs.Plain.{is_plain_table}

@@ -1,7 +1,6 @@
-use Rattle.std.proofs.Common.{◌≡◌, ◌≢◌, ◌+◌, ◌<◌, ◌++◌, ◌∷◌, [], List, ℕ, Some, arith, ap, drop, length, refl, slice_get, subst, sym, take, ◌∙◌}
-use Rattle.label_region.specs.Shelf.{IsLive, Shelf, label_at}
-use Rattle.label_store.specs.Stocks.{IsStocked, Stock, shown, stock}
-use Rattle.label_store.proofs.Shown.{all-kept, shown-both}
+use Rattle.std.proofs.Common.{◌+◌, ◌++◌, List, ℕ, ap, ◌∙◌}
+use Rattle.label_store.specs.Stocks.{Stock, shown}
+use Rattle.label_store.proofs.Shown.{shown-both}
 use Rattle.label_store.proofs.stock.Stock.keep_made.Goals as goal
 
 pub returns-clause-kept : goal.returns-clause-kept

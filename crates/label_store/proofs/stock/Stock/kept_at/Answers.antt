@@ -1,8 +1,7 @@
-use Rattle.std.proofs.Common.{◌≡◌, ◌≢◌, ◌+◌, ◌<◌, ◌++◌, ◌∷◌, [], List, ℕ, Some, arith, ap, drop, length, refl, slice_get, subst, sym, take, ◌∙◌}
-use Rattle.std.specs.Prelude.{slice_index_or}
+use Rattle.std.proofs.Common.{◌≡◌, ◌<◌, ℕ, Some, arith, ap, length, slice_get, subst, sym, ◌∙◌}
 use Rattle.std.proofs.lemmas.Option.{get_or_from_slice_get}
-use Rattle.label_region.specs.Shelf.{IsLive, Shelf, label_at}
-use Rattle.label_store.specs.Stocks.{IsStocked, Stock, shown, stock}
+use Rattle.label_region.specs.Shelf.{IsLive, label_at}
+use Rattle.label_store.specs.Stocks.{Stock}
 use Rattle.label_store.proofs.Shown.{live-left, live-at, shown-at, shown-length}
 use Rattle.label_store.proofs.stock.Stock.kept_at.Goals as goal
 

@@ -1,7 +1,5 @@
-use Rattle.std.proofs.Common.{◌≡◌, ◌≢◌, ◌+◌, ◌++◌, ◌∷◌, [], List, ℕ, Some, arith, ap, drop, length, refl, slice_get, subst, sym, take, ◌∙◌}
-use Rattle.std.specs.Prelude.{slice_index_or}
-use Rattle.label_region.specs.Shelf.{IsLive, Shelf, label_at}
-use Rattle.label_store.specs.Stocks.{IsStocked, Stock, shown, stock}
+use Rattle.std.proofs.Common.{arith, ap, length}
+use Rattle.label_store.specs.Stocks.{Stock}
 use Rattle.label_store.proofs.Shown.{live-right, shown-length}
 use Rattle.label_store.proofs.stock.Stock.made_count.Goals as goal
 

@@ -1,6 +1,6 @@
-use Rattle.std.proofs.Common.{◌≡◌, ◌≢◌, ◌+◌, ◌<◌, ◌++◌, ◌∷◌, [], List, ℕ, Some, arith, ap, drop, length, refl, slice_get, subst, sym, take, ◌∙◌}
-use Rattle.label_region.specs.Shelf.{IsLive, Shelf, label_at}
-use Rattle.label_store.specs.Stocks.{IsStocked, Stock, shown, stock}
+use Rattle.std.proofs.Common.{◌+◌, ◌++◌, ◌∷◌, [], List, ℕ, ap, subst, sym, ◌∙◌}
+use Rattle.label_region.specs.Shelf.{Shelf}
+use Rattle.label_store.specs.Stocks.{IsStocked, Stock, shown}
 use Rattle.std.specs.Prelude.{is_ok}
 use Rattle.label_store.proofs.Shown.{live-spare, push-stocked, put-kept, put-made, shown-spare}
 use Rattle.label_store.proofs.stock.Stock.push.Goals as goal

@@ -1,8 +1,7 @@
-use Rattle.std.proofs.Common.{◌≡◌, ◌≢◌, ◌+◌, ◌++◌, ◌∷◌, [], List, ℕ, Some, arith, ap, drop, length, refl, slice_get, subst, sym, take, ◌∙◌}
-use Rattle.std.specs.Prelude.{slice_index_or}
-use Rattle.label_region.specs.Shelf.{IsLive, Shelf, label_at}
-use Rattle.label_store.specs.Stocks.{IsStocked, Stock, shown, stock}
-use Rattle.label_store.proofs.Shown.{live-spare, shown-spare}
+use Rattle.std.proofs.Common.{◌+◌, ◌++◌, subst, sym}
+use Rattle.label_region.specs.Shelf.{Shelf}
+use Rattle.label_store.specs.Stocks.{IsStocked}
+use Rattle.label_store.proofs.Shown.{live-spare}
 use Rattle.label_store.proofs.stock.Stock.reserve.Goals as goal
 
 pub invariant_of-self : goal.invariant_of-self

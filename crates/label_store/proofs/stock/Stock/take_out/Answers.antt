@@ -1,7 +1,6 @@
-use Rattle.std.proofs.Common.{◌≡◌, ◌≢◌, ◌+◌, ◌<◌, ◌++◌, ◌∷◌, [], List, ℕ, Some, arith, ap, drop, length, refl, slice_get, subst, sym, take, ◌∙◌}
-use Rattle.std.specs.Prelude.{slice_index_or}
-use Rattle.label_region.specs.Shelf.{IsLive, Shelf, label_at}
-use Rattle.label_store.specs.Stocks.{IsStocked, Stock, shown, stock}
+use Rattle.std.proofs.Common.{◌+◌, ◌<◌, ◌++◌, List, ℕ, arith, ap, drop, length, subst, sym, take, ◌∙◌}
+use Rattle.label_region.specs.Shelf.{IsLive}
+use Rattle.label_store.specs.Stocks.{IsStocked, Stock, shown}
 use Rattle.label_store.proofs.Shown.{live-at, live-right, out-kept, out-made, out-stocked, shown-length}
 use Rattle.label_store.proofs.stock.Stock.take_out.Goals as goal
 

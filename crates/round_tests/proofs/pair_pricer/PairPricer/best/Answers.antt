@@ -1,4 +1,4 @@
-use Rattle.std.proofs.Common.{◌≡◌, ℤ, Option, Some, sym, ap, ◌∙◌, rules, FitsSigned, w64, to_z, of_z, to_z-of_z}
+use Rattle.std.proofs.Common.{◌≡◌, ℤ, Option, Some, sym, ap, ◌∙◌, rules, FitsSigned, w64, to_z-of_z}
 use Rattle.cover_core.specs.declared.Column.{Column}
 use Rattle.cover_core.specs.Best.{best_of, within}
 use Rattle.round_tests.specs.Pair.{pair}
