@@ -9,3 +9,4 @@ pub mod Parts
 pub mod Times
 pub mod Fits
 pub mod Ranges
+pub mod ColumnKeys

@@ -7,3 +7,4 @@ pub mod Labels
 pub mod Parts
 pub mod Fitting
 pub mod Ranges
+pub mod ColumnKeys

@@ -16,12 +16,14 @@ ghost use Rattle.cover_core.specs.Ranges.{HasFewPlaces, HasModestWorths};
 ghost use Rattle.cover_core.specs.FirstLeast.{value, AreCheap, AllWithin};
 ghost use Rattle.cover_core.specs.Best.{best_of, within};
 
+mod column_keys;
 mod item_prices;
 mod items;
 mod laws;
 mod marks;
 mod tally;
 
+pub use column_keys::{ColumnKey, sort_keys};
 pub use item_prices::{price, price_at, price_or_zero};
 pub use items::Items;
 pub use laws::{backward_order, best_is_first_least, least_is_paid, plan_sizes, weak_duality};

@@ -8,7 +8,7 @@ use Rattle.std.proofs.lemmas.Cmp.{int_ranked, by_ranked}
 use Rattle.std.proofs.lemmas.List.Sums.{sum_by-cons, sum_by-append}
 use Rattle.std.proofs.lemmas.List.Sorted.{sum_by-IsPermutation}
 use Rattle.cover_core.specs.Plans.{number_at}
-use Rattle.cover_master.specs.declared.key.Key.{Key}
+use Rattle.cover_core.specs.declared.column_keys.ColumnKey.{ColumnKey}
 use Rattle.cover_master.specs.Candidates.{is_at_most, class_values, IsLimit}
 
 at_most-from : (x v : ℤ) → is_lt (int_cmp x v) ≡ false → int_le v x ≡ true
@@ -46,7 +46,7 @@ count-split values front back x place moved len split =
     omega arith
 
 -- the values of a class that are at most a limit
-pub count-class : (class : ℕ) (limit : ℤ) (keys : List Key) →
+pub count-class : (class : ℕ) (limit : ℤ) (keys : List ColumnKey) →
     count_by (λ v. int_le v limit) (class_values class keys) ≡ count_by (is_at_most class limit) keys
 count-class class limit [] = refl
 count-class class limit (k ∷ ks) =
@@ -74,7 +74,7 @@ number_at-last (y ∷ ys) z zero h = absurd (omega arith)
 number_at-last (y ∷ ys) z (suc i) h = number_at-last ys z i (omega arith)
 
 -- one more limit
-pub limits-more : (keys : List Key) (caps : List ℕ) (limits : List ℤ) (z : ℤ) (class : ℕ) → length limits ≡ class →
+pub limits-more : (keys : List ColumnKey) (caps : List ℕ) (limits : List ℤ) (z : ℤ) (class : ℕ) → length limits ≡ class →
     IsLimit keys class (get_or caps class 0) z →
     ((k : ℕ) → k < class → IsLimit keys k (get_or caps k 0) (number_at limits k)) → (k : ℕ) → k < class + 1 →
     IsLimit keys k (get_or caps k 0) (number_at (limits ++ z ∷ []) k)

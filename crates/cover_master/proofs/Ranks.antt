@@ -4,11 +4,10 @@ use Rattle.std.specs.Prelude.{filter, int_lt, int_le, pos, ◌≤ℤ◌, ◌<ℤ
 use Rattle.std.specs.List.{count_by}
 use Rattle.std.specs.List.Sorted.{IsSortedBy}
 use Rattle.std.specs.Ordering.{nat_cmp, int_cmp, ordering_then, is_lt, ordering_reverse}
-use Rattle.std.specs.Cmp.{IsTotalOrder, IsStrictWeakOrder, then_total, on_total, nat_cmp_total, int_cmp_total}
 use Rattle.std.specs.declared.cmp.Ordering.{Ordering}
 use Rattle.std.proofs.lemmas.Bool.{cases_eq}
 use Rattle.std.proofs.lemmas.Bool.Decides.{nat_tests}
-use Rattle.std.proofs.lemmas.List.Sorted.{ranks_by, sorted_far, sum_by-IsPermutation, All-permutation}
+use Rattle.std.proofs.lemmas.List.Sorted.{sorted_far, sum_by-IsPermutation, All-permutation}
 use Rattle.std.proofs.lemmas.List.Sums.{sum_by_more, sum_by-cons}
 use Rattle.std.proofs.lemmas.List.Elements.{All-get_or, All-filter, filter_passes}
 use Rattle.std.proofs.lemmas.Int.{ints}
@@ -18,21 +17,11 @@ use Rattle.std.proofs.Math.Seq.{take-length}
 use Rattle.plan_core.specs.declared.Price.{Price}
 use Rattle.cover_core.specs.declared.Column.{Column}
 use Rattle.cover_core.specs.FirstLeast.{value}
-use Rattle.cover_master.specs.declared.key.Key.{Key}
-use Rattle.cover_master.specs.Method.{keys_from, keys_of, place_cmp, comes_before, rank}
-use Rattle.cover_master.specs.Fitting.{key_cmp, is_before, is_gain}
-
-pub place_total : IsTotalOrder place_cmp
-place_total = then_total (on_total (λ (k : Key). k.value) int_cmp_total) (on_total (λ (k : Key). k.place) nat_cmp_total)
-
-pub key_total : IsTotalOrder key_cmp
-key_total = then_total (on_total (λ (k : Key). k.class) nat_cmp_total) place_total
-
--- Columns are sorted by class, value and place, a total order; so the sorting of the library may be asked for this order, and in
--- its result no column stands before one that is less, however far apart the two are. Two places of the result decide which comes
--- first.
-pub before_order : IsStrictWeakOrder is_before
-before_order = ranks_by key_total (λ (k : Key). k)
+use Rattle.cover_core.specs.declared.column_keys.ColumnKey.{ColumnKey}
+use Rattle.cover_core.specs.ColumnKeys.{place_cmp, key_cmp, is_before}
+use Rattle.cover_core.proofs.ColumnKeys.{place_total, before_order}
+use Rattle.cover_master.specs.Method.{keys_from, keys_of, comes_before, rank}
+use Rattle.cover_master.specs.Fitting.{is_gain}
 
 nat_cmp-same : (m n : ℕ) → m ≡ n → nat_cmp m n ≡ Equal
 nat_cmp-same m n e = grind (arith, nat_tests)
@@ -41,7 +30,7 @@ nat_cmp-equal : (m n : ℕ) → nat_cmp m n ≡ Equal → m ≡ n
 nat_cmp-equal m n e = grind (arith, nat_tests)
 
 -- of one class, value and place decide
-key_cmp-same : (x y : Key) → x.class ≡ y.class → key_cmp x y ≡ place_cmp x y
+key_cmp-same : (x y : ColumnKey) → x.class ≡ y.class → key_cmp x y ≡ place_cmp x y
 key_cmp-same x y e = let same : nat_cmp x.class y.class ≡ Equal = nat_cmp-same x.class y.class e in rw same refl
 
 then-equal : (o q : Ordering) → ordering_then o q ≡ Equal → q ≡ Equal
@@ -68,7 +57,7 @@ eqb-apart m n e = grind (arith, nat_tests)
 -- Of two columns at different places of the pool, the one that is sorted before the other counts in the other's rank exactly if it
 -- is of the same class. The sort only says that the later one is not less; equal they cannot be, since the order ends with the
 -- place: so the earlier one is truly less, and within one class that is what the rank counts.
-pub before-earlier : (x y : Key) → is_before y x ≡ false → (x.place ≡ y.place → ⊥) → comes_before y x ≡ (x.class == y.class)
+pub before-earlier : (x y : ColumnKey) → is_before y x ≡ false → (x.place ≡ y.place → ⊥) → comes_before y x ≡ (x.class == y.class)
 before-earlier x y sorted apart =
     elim (cases_eq x.class y.class) [
       | inl same ↦
@@ -85,7 +74,7 @@ before-earlier x y sorted apart =
 
 -- One that is sorted after does not come before. Whatever stands after a column in the sorted list is not less, and so never counts
 -- in its rank. With the lemma above, a rank can be read off from what stands before a column alone.
-pub before-later : (x y : Key) → is_before x y ≡ false → comes_before y x ≡ false
+pub before-later : (x y : ColumnKey) → is_before x y ≡ false → comes_before y x ≡ false
 before-later x y sorted =
     elim (cases_eq x.class y.class) [
       | inl same ↦
@@ -102,19 +91,19 @@ gain-cmp (pos m) (pos n) e g = absurd (let h : false ≡ true = grind (arith, na
 gain-cmp (pos m) (negsuc n) e g = refl
 gain-cmp (negsuc m) k e g = absurd (let h : true ≡ false = e in cc)
 
-no-gain-after : (k x : Key) → is_gain k ≡ true → is_gain x ≡ false → comes_before k x ≡ false
+no-gain-after : (k x : ColumnKey) → is_gain k ≡ true → is_gain x ≡ false → comes_before k x ≡ false
 no-gain-after k x g e =
     let order : int_cmp x.value k.value ≡ Greater = gain-cmp x.value k.value e g in
     let after : is_lt (place_cmp x k) ≡ false = ap (λ o. is_lt (ordering_then o (nat_cmp x.place k.place))) order in
     and-false (x.class == k.class) (is_lt (place_cmp x k)) after
 
-counted : (p : Key → Bool) (x : Key) (xs : List Key) → count_by p (x ∷ xs) ≡ cond (p x) 1 0 + count_by p xs
+counted : (p : ColumnKey → Bool) (x : ColumnKey) (xs : List ColumnKey) → count_by p (x ∷ xs) ≡ cond (p x) 1 0 + count_by p xs
 counted p x xs = sum_by-cons (λ y. cond (p y) 1 0) x xs
 
 -- The rank of a column of value below 0 is the same among the columns of value below 0 as in the whole pool: whatever comes before
 -- it has a value no greater, and so one below 0 too. By induction over the list, where each column that is left out is shown to
 -- count nothing. So a price step need not keep the others, though the definition of a rank speaks of the whole pool.
-pub count-gains : (k : Key) (xs : List Key) → is_gain k ≡ true →
+pub count-gains : (k : ColumnKey) (xs : List ColumnKey) → is_gain k ≡ true →
     count_by (comes_before k) (filter is_gain xs) ≡ count_by (comes_before k) xs
 count-gains k [] g = refl
 count-gains k (x ∷ xs) g =
@@ -132,13 +121,13 @@ count-gains k (x ∷ xs) g =
     ] refl
 
 -- each place has one column
-abbrev pub at_place : ℕ → Key → Bool
+abbrev pub at_place : ℕ → ColumnKey → Bool
 at_place i k = k.place == i
 
 places-above : (prices : List Price) (i place : ℕ) (cs : List Column) → i < place → count_by (at_place i) (keys_from prices place cs) ≡ 0
 places-above prices i place [] h = refl
 places-above prices i place (c ∷ cs) h =
-    let key : Key = record { class = c.class; value = value prices c; place = place } in
+    let key : ColumnKey = record { class = c.class; value = value prices c; place = place } in
     let test : at_place i key ≡ false = eqb-apart place i (λ e. omega arith) in
     let none : cond {A = ℕ} (at_place i key) 1 0 ≡ 0 = ap (λ (b : Bool). cond {A = ℕ} b 1 0) test in
     let rest : count_by (at_place i) (keys_from prices (suc place) cs) ≡ 0 = places-above prices i (suc place) cs (omega arith) in
@@ -152,7 +141,7 @@ places-above prices i place (c ∷ cs) h =
 pub places-once : (prices : List Price) (i place : ℕ) (cs : List Column) → count_by (at_place i) (keys_from prices place cs) ≤ 1
 places-once prices i place [] = omega arith
 places-once prices i place (c ∷ cs) =
-    let key : Key = record { class = c.class; value = value prices c; place = place } in
+    let key : ColumnKey = record { class = c.class; value = value prices c; place = place } in
     let whole : count_by (at_place i) (keys_from prices place (c ∷ cs))
     ≡ cond (at_place i key) 1 0 + count_by (at_place i) (keys_from prices (suc place) cs) =
     counted (at_place i) key (keys_from prices (suc place) cs) in
@@ -169,7 +158,7 @@ places-once prices i place (c ∷ cs) =
 
 -- Leaving columns out makes no count greater. It is used where a bound on a count of the whole pool must hold of the columns that a
 -- price step looks at.
-pub count-filter : (p q : Key → Bool) (xs : List Key) → count_by p (filter q xs) ≤ count_by p xs
+pub count-filter : (p q : ColumnKey → Bool) (xs : List ColumnKey) → count_by p (filter q xs) ≤ count_by p xs
 count-filter p q [] = omega arith
 count-filter p q (x ∷ xs) =
     let rest : count_by p (filter q xs) ≤ count_by p xs = count-filter p q xs in
@@ -181,17 +170,17 @@ count-filter p q (x ∷ xs) =
       | false ↦ omega arith
     ]
 
-abbrev pub no_key : Key
+abbrev pub no_key : ColumnKey
 no_key = record { class = 0; value = pos 0; place = 0 }
 
 -- The counts up to a place of a list, taken together with the lemmas down to `count-take`: one more place adds what stands there;
 -- tests that agree on a front count alike in it; places where nothing passes add nothing; two that pass count two; and a front
 -- never counts more than the whole. They are what the walk through the sorted columns, place by place, is measured with.
-count-more : (p : Key → Bool) (xs : List Key) (t : ℕ) → t < length xs →
+count-more : (p : ColumnKey → Bool) (xs : List ColumnKey) (t : ℕ) → t < length xs →
     count_by p (take (suc t) xs) ≡ count_by p (take t xs) + cond (p (get_or xs t no_key)) 1 0
 count-more p xs t h = ap (λ n. count_by p (take n xs)) (sym (add-one t)) ∙ sum_by_more (λ x. cond (p x) 1 0) xs t no_key h
 
-count-same : (p q : Key → Bool) (xs : List Key) (t : ℕ) → t ≤ length xs →
+count-same : (p q : ColumnKey → Bool) (xs : List ColumnKey) (t : ℕ) → t ≤ length xs →
     ((i : ℕ) → i < t → p (get_or xs i no_key) ≡ q (get_or xs i no_key)) → count_by p (take t xs) ≡ count_by q (take t xs)
 count-same p q xs zero h same = refl
 count-same p q xs (suc t) h same =
@@ -200,7 +189,7 @@ count-same p q xs (suc t) h same =
     count-more p xs t below ∙ ap (λ n. n + cond (p (get_or xs t no_key)) 1 0) rest
     ∙ ap (λ b. count_by q (take t xs) + cond b 1 0) (same t (omega arith)) ∙ sym (count-more q xs t below)
 
-count-none : (p : Key → Bool) (xs : List Key) (t n : ℕ) → t ≤ n → n ≤ length xs →
+count-none : (p : ColumnKey → Bool) (xs : List ColumnKey) (t n : ℕ) → t ≤ n → n ≤ length xs →
     ((i : ℕ) → t ≤ i → i < n → p (get_or xs i no_key) ≡ false) → count_by p (take n xs) ≡ count_by p (take t xs)
 count-none p xs t zero h k none = let same : 0 ≡ t = omega arith in ap (λ m. count_by p (take m xs)) same
 count-none p xs t (suc n) h k none =
@@ -214,7 +203,7 @@ count-none p xs t (suc n) h k none =
           omega arith
     ]
 
-count-one : (p : Key → Bool) (xs : List Key) (i t : ℕ) → i < t → t ≤ length xs → p (get_or xs i no_key) ≡ true → 1 ≤ count_by p (take t xs)
+count-one : (p : ColumnKey → Bool) (xs : List ColumnKey) (i t : ℕ) → i < t → t ≤ length xs → p (get_or xs i no_key) ≡ true → 1 ≤ count_by p (take t xs)
 count-one p xs i zero h k first = absurd (omega arith)
 count-one p xs i (suc t) h k first =
     let more = count-more p xs t (omega arith) in
@@ -227,7 +216,7 @@ count-one p xs i (suc t) h k first =
     ]
 
 -- two that pass are counted twice
-count-two : (p : Key → Bool) (xs : List Key) (i t : ℕ) → i < t → t < length xs → p (get_or xs i no_key) ≡ true →
+count-two : (p : ColumnKey → Bool) (xs : List ColumnKey) (i t : ℕ) → i < t → t < length xs → p (get_or xs i no_key) ≡ true →
     p (get_or xs t no_key) ≡ true → 2 ≤ count_by p (take (suc t) xs)
 count-two p xs i t h k first second =
     let more = count-more p xs t k in
@@ -235,7 +224,7 @@ count-two p xs i t h k first second =
     let some = count-one p xs i t h (omega arith) first in
     omega arith
 
-count-grows : (p : Key → Bool) (xs : List Key) (t n : ℕ) → t ≤ n → n ≤ length xs → count_by p (take t xs) ≤ count_by p (take n xs)
+count-grows : (p : ColumnKey → Bool) (xs : List ColumnKey) (t n : ℕ) → t ≤ n → n ≤ length xs → count_by p (take t xs) ≤ count_by p (take n xs)
 count-grows p xs t zero h k = let same : t ≡ 0 = omega arith in let e = ap (λ m. count_by p (take m xs)) same in omega arith
 count-grows p xs t (suc n) h k =
     elim (cases_eq t (suc n)) [
@@ -243,7 +232,7 @@ count-grows p xs t (suc n) h k =
       | inr apart ↦ let more = count-more p xs n (omega arith) in let rest = count-grows p xs t n (omega arith) (omega arith) in omega arith
     ]
 
-count-take : (p : Key → Bool) (xs : List Key) (t : ℕ) → t ≤ length xs → count_by p (take t xs) ≤ count_by p xs
+count-take : (p : ColumnKey → Bool) (xs : List ColumnKey) (t : ℕ) → t ≤ length xs → count_by p (take t xs) ≤ count_by p xs
 count-take p xs t h =
     let all : take (length xs) xs ≡ xs = take-length xs in
     let most = count-grows p xs t (length xs) h (omega arith) in
@@ -252,7 +241,7 @@ count-take p xs t h =
 
 -- A column above the limit of its class comes before no candidate: one of its own class has a value that is at most the limit, and
 -- so is less; one of another class is never compared with it.
-no-candidate-after : (limits : List ℤ) (k x : Key) → is_candidate limits k ≡ true → is_candidate limits x ≡ false → comes_before k x ≡ false
+no-candidate-after : (limits : List ℤ) (k x : ColumnKey) → is_candidate limits k ≡ true → is_candidate limits x ≡ false → comes_before k x ≡ false
 no-candidate-after limits k x g e =
     elim (cases_eq x.class k.class) [
       | inl same ↦
@@ -276,14 +265,14 @@ no-candidate-after limits k x g e =
 -- The rank of a candidate is the same among the candidates as in the whole pool, by the argument of `count-gains` twice over: first
 -- the columns above the limits are left out, none of which comes before a candidate, then those of value at least 0. So a price
 -- step brings the candidates alone into order, and still finds the ranks that the definition means.
-pub count-candidates : (limits : List ℤ) (k : Key) (xs : List Key) → is_gain k ≡ true → is_candidate limits k ≡ true →
+pub count-candidates : (limits : List ℤ) (k : ColumnKey) (xs : List ColumnKey) → is_gain k ≡ true → is_candidate limits k ≡ true →
     count_by (comes_before k) (filter (is_candidate limits) (filter is_gain xs)) ≡ count_by (comes_before k) xs
 count-candidates limits k xs g c = onto (filter is_gain xs) ∙ count-gains k xs g
   where
-    onto : (ys : List Key) → count_by (comes_before k) (filter (is_candidate limits) ys) ≡ count_by (comes_before k) ys
+    onto : (ys : List ColumnKey) → count_by (comes_before k) (filter (is_candidate limits) ys) ≡ count_by (comes_before k) ys
     onto [] = refl
     onto (x ∷ ys) =
-        let p : Key → Bool = is_candidate limits in
+        let p : ColumnKey → Bool = is_candidate limits in
         let rest : count_by (comes_before k) (filter p ys) ≡ count_by (comes_before k) ys = onto ys in
         let whole = counted (comes_before k) x ys in
         elim (p x) as (λ b. p x ≡ b → count_by (comes_before k) (cond b (x ∷ filter p ys) (filter p ys))
@@ -297,7 +286,7 @@ count-candidates limits k xs g c = onto (filter is_gain xs) ∙ count-gains k xs
               rest ∙ sym sum
         ] refl
 
-module _ (prices : List Price) (pool : List Column) (caps : List ℕ) (sorted : List Key) (candidates : AreCandidates prices pool caps sorted)
+module _ (prices : List Price) (pool : List Column) (caps : List ℕ) (sorted : List ColumnKey) (candidates : AreCandidates prices pool caps sorted)
     (up : IsSortedBy is_before sorted) where
   -- Two places of the sorted list hold columns of different places of the pool. The sort only gives a permutation, so this is shown
   -- by counting: if both held one place, that place would count twice in the sorted list, therefore twice among the candidates, and
@@ -337,7 +326,7 @@ module _ (prices : List Price) (pool : List Column) (caps : List ℕ) (sorted : 
   pub rank-at : (t : ℕ) → t < length sorted →
       rank (keys_of prices pool) (get_or sorted t no_key) ≡ count_by (λ x. x.class == (get_or sorted t no_key).class) (take t sorted)
   rank-at t h =
-      let key : Key = get_or sorted t no_key in
+      let key : ColumnKey = get_or sorted t no_key in
       let some : count_by (comes_before key) (filter (is_candidate candidates.limits) (gain_keys prices pool))
       ≡ count_by (comes_before key) (keys_of prices pool) =
       count-candidates candidates.limits key (keys_of prices pool) (gain-at t h) (candidate-at t h) in

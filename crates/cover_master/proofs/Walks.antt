@@ -17,10 +17,11 @@ use Rattle.cover_core.specs.Plans.{times}
 use Rattle.cover_core.specs.FirstLeast.{value}
 use Rattle.cover_core.specs.Parts.{no_column, column_at}
 use Rattle.cover_core.proofs.Parts.{Rises-once}
-use Rattle.cover_master.specs.declared.key.Key.{Key}
+use Rattle.cover_core.specs.declared.column_keys.ColumnKey.{ColumnKey}
 use Rattle.cover_master.specs.Method.{keys_from, keys_of, rank, is_chosen, chosen_times, times_chosen}
 use Rattle.cover_core.specs.Fitting.{AreFit}
-use Rattle.cover_master.specs.Fitting.{is_before, is_gain}
+use Rattle.cover_core.specs.ColumnKeys.{is_before}
+use Rattle.cover_master.specs.Fitting.{is_gain}
 use Rattle.cover_core.proofs.Fits.{fit-get}
 use Rattle.std.proofs.lemmas.Int.{ints}
 use Rattle.cover_core.specs.Plans.{number_at}
@@ -29,7 +30,7 @@ use Rattle.cover_master.specs.Candidates.{is_candidate, is_at_most, AreLimits, g
 use Rattle.cover_master.proofs.Ranks.{no_key, gain-at, rank-at, count-filter}
 
 -- where a key stands, and its class
-pub record IsKey (k n : ℕ) (key : Key) : Type 0 where
+pub record IsKey (k n : ℕ) (key : ColumnKey) : Type 0 where
   pub class : key.class < k
   pub place : key.place < n
 
@@ -46,11 +47,11 @@ keys-there prices items k n place (c ∷ cs) h fit =
     (keys-there prices items k n (suc place) cs (omega arith) fit.1)
 
 -- a column that is no gain adds nothing
-chosen-gains : (pool : List Column) (keys : List Key) (caps : List ℕ) (item : ℕ) (xs : List Key) →
+chosen-gains : (pool : List Column) (keys : List ColumnKey) (caps : List ℕ) (item : ℕ) (xs : List ColumnKey) →
     sum_by (chosen_times pool keys caps item) (filter is_gain xs) ≡ sum_by (chosen_times pool keys caps item) xs
 chosen-gains pool keys caps item [] = refl
 chosen-gains pool keys caps item (x ∷ xs) =
-    let f : Key → ℕ = chosen_times pool keys caps item in
+    let f : ColumnKey → ℕ = chosen_times pool keys caps item in
     let rest : sum_by f (filter is_gain xs) ≡ sum_by f xs = chosen-gains pool keys caps item xs in
     let whole : sum_by f (x ∷ xs) ≡ f x + sum_by f xs = sum_by-cons f x xs in
     elim (is_gain x) as (λ b. is_gain x ≡ b → sum_by f (cond b (x ∷ filter is_gain xs) (filter is_gain xs)) ≡ sum_by f (x ∷ xs)) [
@@ -61,13 +62,13 @@ chosen-gains pool keys caps item (x ∷ xs) =
           omega arith
     ] refl
 
-length-kept : (p : Key → Bool) (xs : List Key) → length (filter p xs) ≤ length xs
+length-kept : (p : ColumnKey → Bool) (xs : List ColumnKey) → length (filter p xs) ≤ length xs
 length-kept p [] = omega arith
 length-kept p (x ∷ xs) =
     let rest : length (filter p xs) ≤ length xs = length-kept p xs in
     elim (p x) as (λ b. length (cond b (x ∷ filter p xs) (filter p xs)) ≤ suc (length xs)) [ true ↦ omega arith | false ↦ omega arith ]
 
-count-mono : (p q : Key → Bool) → ((y : Key) → p y ≡ true → q y ≡ true) → (xs : List Key) → count_by p xs ≤ count_by q xs
+count-mono : (p q : ColumnKey → Bool) → ((y : ColumnKey) → p y ≡ true → q y ≡ true) → (xs : List ColumnKey) → count_by p xs ≤ count_by q xs
 count-mono p q h [] = omega arith
 count-mono p q h (x ∷ xs) =
     let rest : count_by p xs ≤ count_by q xs = count-mono p q h xs in
@@ -87,7 +88,7 @@ number_at-past (z ∷ zs) (suc i) h = number_at-past zs i (omega arith)
 
 -- One above a limit that keeps a column comes after it. A limit keeps the columns of its class that are up to it, and each of these
 -- comes before a column above it.
-above-limit : (x y : Key) (limit : ℤ) → limit <ℤ x.value → is_at_most x.class limit y ≡ true → comes_before x y ≡ true
+above-limit : (x y : ColumnKey) (limit : ℤ) → limit <ℤ x.value → is_at_most x.class limit y ≡ true → comes_before x y ≡ true
 above-limit x y limit above e =
     elim (cases_eq y.class x.class) [
       | inl same ↦
@@ -108,7 +109,7 @@ above-limit x y limit above e =
 -- and it is not chosen. A class without a cap has the limit 0, which is above every value below 0. So choosing among the candidates
 -- misses no column that the definition chooses.
 not-chosen : (prices : List Price) (pool : List Column) (caps : List ℕ) (limits : List ℤ) →
-    AreLimits (gain_keys prices pool) caps limits → (x : Key) →
+    AreLimits (gain_keys prices pool) caps limits → (x : ColumnKey) →
     is_gain x ≡ true → is_candidate limits x ≡ false → is_chosen (keys_of prices pool) caps x ≡ false
 not-chosen prices pool caps limits are x gain out =
     let limit : ℤ = number_at limits x.class in
@@ -141,12 +142,12 @@ chosen-candidates : (prices : List Price) (pool : List Column) (caps : List ℕ)
     ≡ sum_by (chosen_times pool (keys_of prices pool) caps item) (gain_keys prices pool)
 chosen-candidates prices pool caps item limits are = onto (keys_of prices pool)
   where
-    onto : (xs : List Key) → sum_by (chosen_times pool (keys_of prices pool) caps item) (filter (is_candidate limits) (filter is_gain xs))
+    onto : (xs : List ColumnKey) → sum_by (chosen_times pool (keys_of prices pool) caps item) (filter (is_candidate limits) (filter is_gain xs))
         ≡ sum_by (chosen_times pool (keys_of prices pool) caps item) (filter is_gain xs)
     onto [] = refl
     onto (x ∷ xs) =
-        let g : Key → ℕ = chosen_times pool (keys_of prices pool) caps item in
-        let p : Key → Bool = is_candidate limits in
+        let g : ColumnKey → ℕ = chosen_times pool (keys_of prices pool) caps item in
+        let p : ColumnKey → Bool = is_candidate limits in
         let rest : sum_by g (filter p (filter is_gain xs)) ≡ sum_by g (filter is_gain xs) = onto xs in
         elim (is_gain x) as (λ b. is_gain x ≡ b → sum_by g (filter p (cond b (x ∷ filter is_gain xs) (filter is_gain xs)))
         ≡ sum_by g (cond b (x ∷ filter is_gain xs) (filter is_gain xs))) [
@@ -173,7 +174,7 @@ get_or-past [] i h = refl
 get_or-past (x ∷ xs) zero h = absurd (omega arith)
 get_or-past (x ∷ xs) (suc i) h = get_or-past xs i (omega arith)
 
-module _ (prices : List Price) (pool : List Column) (caps : List ℕ) (sorted : List Key) (candidates : AreCandidates prices pool caps sorted)
+module _ (prices : List Price) (pool : List Column) (caps : List ℕ) (sorted : List ColumnKey) (candidates : AreCandidates prices pool caps sorted)
     (up : IsSortedBy is_before sorted) where
   pub key-there : (items : ℕ) (t : ℕ) → t < length sorted → AreFit items (length caps) pool →
       IsKey (length caps) (length pool) (get_or sorted t no_key)
@@ -191,7 +192,7 @@ module _ (prices : List Price) (pool : List Column) (caps : List ℕ) (sorted : 
   pub chosen-at : (t count : ℕ) → t < length sorted → count ≡ count_by (λ x. x.class == (get_or sorted t no_key).class) (take t sorted) →
       is_chosen (keys_of prices pool) caps (get_or sorted t no_key) ≡ nat_lt count (slice_index caps (get_or sorted t no_key).class)
   chosen-at t count h e =
-      let key : Key = get_or sorted t no_key in
+      let key : ColumnKey = get_or sorted t no_key in
       let gain : is_gain key ≡ true = gain-at prices pool caps sorted candidates up t h in
       let same : rank (keys_of prices pool) key ≡ count = rank-at prices pool caps sorted candidates up t h ∙ sym e in
       ap (λ b. b && nat_lt (rank (keys_of prices pool) key) (slice_index caps key.class)) gain
@@ -207,7 +208,7 @@ module _ (prices : List Price) (pool : List Column) (caps : List ℕ) (sorted : 
       (times item (column_at pool (get_or sorted t no_key).place).items) 0 ≡
       sum_by (chosen_times pool (keys_of prices pool) caps item) (take (t + 1) sorted)
   covered-more item t count old h e so_far =
-      let key : Key = get_or sorted t no_key in
+      let key : ColumnKey = get_or sorted t no_key in
       let more = sum_by_more (chosen_times pool (keys_of prices pool) caps item) sorted t no_key h in
       let test = chosen-at t count h e in
       let here : chosen_times pool (keys_of prices pool) caps item key ≡ cond {A = ℕ} (nat_lt count (slice_index caps key.class))
@@ -221,7 +222,7 @@ module _ (prices : List Price) (pool : List Column) (caps : List ℕ) (sorted : 
   pub covered-all : (item t n : ℕ) → t ≡ length sorted → n ≡ sum_by (chosen_times pool (keys_of prices pool) caps item) (take t sorted) →
       n ≡ times_chosen pool prices caps item
   covered-all item t n end is =
-      let f : Key → ℕ = chosen_times pool (keys_of prices pool) caps item in
+      let f : ColumnKey → ℕ = chosen_times pool (keys_of prices pool) caps item in
       let whole : take t sorted ≡ sorted = ap (λ m. take m sorted) end ∙ take-length sorted in
       is ∙ ap (sum_by f) whole
       ∙ sum_by-IsPermutation f (filter (is_candidate candidates.limits) (gain_keys prices pool)) sorted candidates.all ∙
@@ -236,7 +237,7 @@ module _ (prices : List Price) (pool : List Column) (caps : List ℕ) (sorted : 
       get_or (set counts (get_or sorted t no_key).class (get_or counts (get_or sorted t no_key).class 0 + 1)) class 0
       ≡ count_by (λ x. x.class == class) (take (t + 1) sorted)
   counted-more counts t h inside so_far class below =
-      let key : Key = get_or sorted t no_key in
+      let key : ColumnKey = get_or sorted t no_key in
       let n : ℕ = get_or counts key.class 0 in
       let more : count_by (λ x. x.class == class) (take (t + 1) sorted) ≡ count_by (λ x. x.class == class) (take t sorted) + cond {A =
       ℕ} (key.class == class) 1 0 = sum_by_more (λ x. cond {A = ℕ} (x.class == class) 1 0) sorted t no_key h in

@@ -1,8 +1,7 @@
 -- Promise: Prices: where they start, how a price step moves them, and how a column lowers them.
 use Rattle.std.specs.Prelude.{ℕ, ℤ, pos, neg_ℤ, ◌+ℤ◌, ◌-ℤ◌, ◌*ℤ◌, int_lt, int_div, unsigned_abs, ◌+◌, ◌-◌, ◌*◌, ◌/◌, min, Bool, cond, ◌&&◌, ◌==◌, nat_lt, zero, suc, List, [], ◌∷◌, length, Option, Some, None, unwrap_or, slice_index}
 use Rattle.std.specs.List.{sum_by, count_by}
-use Rattle.std.specs.Ordering.{nat_cmp, int_cmp, then_cmp, on, is_lt}
-use Rattle.std.specs.declared.cmp.Ordering.{Ordering}
+use Rattle.std.specs.Ordering.{is_lt}
 use Rattle.plan_core.specs.Limits.{most_price}
 use Rattle.plan_core.specs.declared.Price.{Price}
 use Rattle.cover_core.specs.declared.Column.{Column}
@@ -10,7 +9,8 @@ use Rattle.cover_core.specs.Cover.{Problem}
 use Rattle.cover_core.specs.Plans.{price_at, times}
 use Rattle.cover_core.specs.FirstLeast.{value}
 use Rattle.cover_core.specs.Parts.{column_at}
-use Rattle.cover_master.specs.declared.key.Key.{Key}
+use Rattle.cover_core.specs.declared.column_keys.ColumnKey.{ColumnKey}
+use Rattle.cover_core.specs.ColumnKeys.{place_cmp}
 
 -- the smaller of two worths, where there are any
 abbrev pub least_of : Option ℕ → Option ℕ → Option ℕ
@@ -37,31 +37,27 @@ abbrev pub step_size_of : ℤ → ℕ → ℤ
 step_size_of greatest round = let part = int_div greatest (pos (round + 1)) in cond (int_lt part (pos 1)) (pos 1) part
 
 -- the columns of a pool by class, value and place
-abbrev pub keys_from : List Price → ℕ → List Column → List Key
+abbrev pub keys_from : List Price → ℕ → List Column → List ColumnKey
 keys_from prices place [] = []
 keys_from prices place (c ∷ cs) = record { class = c.class; value = value prices c; place = place } ∷ keys_from prices (suc place) cs
 
-abbrev pub keys_of : List Price → List Column → List Key
+abbrev pub keys_of : List Price → List Column → List ColumnKey
 keys_of prices pool = keys_from prices 0 pool
 
--- by value, and then by place
-abbrev pub place_cmp : Key → Key → Ordering
-place_cmp = then_cmp (on (λ k. k.value) int_cmp) (on (λ k. k.place) nat_cmp)
-
 -- whether another column of the class comes before this one
-abbrev pub comes_before : Key → Key → Bool
+abbrev pub comes_before : ColumnKey → ColumnKey → Bool
 comes_before key other = (other.class == key.class) && is_lt (place_cmp other key)
 
 -- how many columns of its class come before a column
-abbrev pub rank : List Key → Key → ℕ
+abbrev pub rank : List ColumnKey → ColumnKey → ℕ
 rank keys key = count_by (comes_before key) keys
 
 -- chosen: the first cap columns of a class by value and place, those of value below 0
-abbrev pub is_chosen : List Key → List ℕ → Key → Bool
+abbrev pub is_chosen : List ColumnKey → List ℕ → ColumnKey → Bool
 is_chosen keys caps key = int_lt key.value (pos 0) && nat_lt (rank keys key) (slice_index caps key.class)
 
 -- how often a column, where it is chosen, has the item
-abbrev pub chosen_times : List Column → List Key → List ℕ → ℕ → Key → ℕ
+abbrev pub chosen_times : List Column → List ColumnKey → List ℕ → ℕ → ColumnKey → ℕ
 chosen_times pool keys caps item key = cond (is_chosen keys caps key) (times item (column_at pool key.place).items) 0
 
 -- how often an item stands in chosen columns

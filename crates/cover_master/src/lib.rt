@@ -11,7 +11,6 @@ ghost use Rattle.plan_core.specs.Limits.{most_price};
 ghost use Rattle.cover_master.specs.Method.{step_size_of};
 
 mod clamps;
-mod key;
 mod lowering;
 mod selection;
 mod start;

@@ -5,12 +5,12 @@ ghost use Rattle.std.specs.Prelude.{◌≡◌, ◌≤◌, length, filter, IfOk};
 ghost use Rattle.cover_core.specs.Plans.{number_at};
 ghost use Rattle.cover_master.specs.Candidates.{is_candidate, IsLimit, AreLimits, class_values};
 
-use crate::key::Key;
+use cover_core::ColumnKey;
 use plan_core::Memory;
 use std::alloc::Global;
 
 /// The values of the columns of a class.
-fn values_of(alloc: Global, keys: &[Key], class: u32) -> Result<Vec<i64>, Memory>
+fn values_of(alloc: Global, keys: &[ColumnKey], class: u32) -> Result<Vec<i64>, Memory>
     ensures { IfOk result (λ values. values.items ≡ class_values class keys.now) }
 {
     let mut values = Vec::new(alloc);
@@ -26,7 +26,7 @@ fn values_of(alloc: Global, keys: &[Key], class: u32) -> Result<Vec<i64>, Memory
 }
 
 /// A value up to which at least cap columns of a class are, or -1 where the class has no more than that.
-fn limit(alloc: Global, keys: &[Key], class: u32, cap: u32) -> Result<i64, Memory>
+fn limit(alloc: Global, keys: &[ColumnKey], class: u32, cap: u32) -> Result<i64, Memory>
     ensures { IfOk result (λ limit. IsLimit keys.now class cap limit) }
 {
     if cap == 0 {
@@ -42,7 +42,7 @@ fn limit(alloc: Global, keys: &[Key], class: u32, cap: u32) -> Result<i64, Memor
 }
 
 /// The limits of all classes.
-pub fn limits(alloc: Global, keys: &[Key], caps: &[u32]) -> Result<Vec<i64>, Memory>
+pub fn limits(alloc: Global, keys: &[ColumnKey], caps: &[u32]) -> Result<Vec<i64>, Memory>
     requires { length caps.now ≤ 32 }
     ensures { IfOk result (λ limits. AreLimits keys.now caps.now limits.items) }
 {
@@ -69,7 +69,11 @@ fn limit_of(limits: &[i64], class: u32) -> i64
 }
 
 /// The columns up to the limits.
-pub fn candidates(alloc: Global, keys: &[Key], limits: &[i64]) -> Result<Vec<Key>, Memory>
+pub fn candidates(
+    alloc: Global,
+    keys: &[ColumnKey],
+    limits: &[i64],
+) -> Result<Vec<ColumnKey>, Memory>
     ensures { IfOk result (λ candidates. candidates.items ≡ filter (is_candidate limits.now) keys.now) }
 {
     let mut candidates = Vec::new(alloc);

@@ -1,8 +1,8 @@
 //! Price steps: prices rise where the chosen columns cover too little, and fall where they cover too much.
 #![tactic(auto)]
 
-ghost use Rattle.std.specs.Prelude.{◌≡◌, ℕ, ◌<◌, ◌≤◌, ◌+◌, ◌≤ℤ◌, ◌+ℤ◌, ◌-ℤ◌, ◌*ℤ◌, ℤ, pos, neg_ℤ, nat_lt, cond, length, filter, IfOk, OnOk, slice_index, slice_set, vec_len};
-ghost use Rattle.std.specs.List.Sorted.{IsPermutation, IsSortedBy};
+ghost use Rattle.std.specs.Prelude.{◌≡◌, ℕ, ◌<◌, ◌≤◌, ◌+◌, ◌≤ℤ◌, ◌+ℤ◌, ◌-ℤ◌, ◌*ℤ◌, ℤ, pos, neg_ℤ, nat_lt, cond, length, filter, IfOk, slice_index, slice_set, vec_len};
+ghost use Rattle.std.specs.List.Sorted.{IsSortedBy};
 ghost use Rattle.plan_core.specs.Limits.{most_items, most_price};
 ghost use Rattle.cover_core.specs.FirstLeast.{AllWithin};
 ghost use Rattle.cover_core.specs.Cover.{AllBelow};
@@ -11,26 +11,17 @@ ghost use Rattle.cover_core.specs.Parts.{column_at};
 ghost use Rattle.cover_master.specs.Method.{keys_of, times_chosen, moved_price, turned_prices, clamped};
 ghost use Rattle.cover_core.specs.Fitting.{AreFit};
 ghost use Rattle.cover_master.specs.Candidates.{AreCandidates};
-ghost use Rattle.cover_master.specs.Fitting.{key_cmp, is_before, is_gain};
+ghost use Rattle.cover_core.specs.ColumnKeys.{is_before};
+ghost use Rattle.cover_master.specs.Fitting.{is_gain};
 
 use crate::clamps::clamp;
-use crate::key::Key;
 use crate::selection::{candidates, limits};
-use cover_core::{Column, Prices, add_items, value};
+use cover_core::{Column, ColumnKey, Prices, add_items, sort_keys, value};
 use plan_core::{Memory, Price, Seq, zeros};
 use std::alloc::Global;
-use std::cmp::Ordering;
-
-/// Orders columns by class, value and place.
-fn compare(x: &Key, y: &Key) -> Ordering
-    ensures { result ≡ key_cmp x.now y.now }
-{
-    let within = x.value.cmp(&y.value).then(x.place.cmp(&y.place));
-    x.class.cmp(&y.class).then(within)
-}
 
 /// The columns of value below 0.
-fn gains(alloc: Global, pool: &[Column], prices: &Prices) -> Result<Vec<Key>, Memory>
+fn gains(alloc: Global, pool: &[Column], prices: &Prices) -> Result<Vec<ColumnKey>, Memory>
     requires pool { length pool.now ≤ 200000 }
     requires few { length prices.now.items ≤ most_items }
     requires moderate { AllWithin most_price prices.now.items }
@@ -39,7 +30,7 @@ fn gains(alloc: Global, pool: &[Column], prices: &Prices) -> Result<Vec<Key>, Me
 {
     let mut keys = Vec::new(alloc);
     for (place, column) in pool.iter().enumerate() {
-        let key = Key {
+        let key = ColumnKey {
             class: column.class,
             value: value(column, prices),
             place: place as u32,
@@ -52,21 +43,6 @@ fn gains(alloc: Global, pool: &[Column], prices: &Prices) -> Result<Vec<Key>, Me
         }
     }
     Ok(keys)
-}
-
-/// Brings them into order.
-fn sort(keys: &mut Vec<Key>) -> Result<(), Memory>
-    ensures permutation { IsPermutation keys.old.items keys.new.items }
-    ensures sorted { OnOk result (IsSortedBy is_before keys.new.items) }
-{
-    match keys.sort_by(
-        |x: &Key, y: &Key| -> Ordering
-            ensures { result ≡ key_cmp x.now y.now }
-        { compare(x, y) },
-    ) {
-        Ok(()) => Ok(()),
-        Err(_) => Err(Memory),
-    }
 }
 
 /// By how much a price step moves the price of an item that so many chosen columns have.
@@ -95,7 +71,13 @@ fn price_after_step(price: i64, size: i64, times: u32) -> i64
 }
 
 /// Counts one more column in its class, and its items where the class had a place left for it.
-fn add_column(pool: &[Column], caps: &[u32], key: Key, cover: &mut Seq<u32>, counts: &mut Seq<u32>)
+fn add_column(
+    pool: &[Column],
+    caps: &[u32],
+    key: ColumnKey,
+    cover: &mut Seq<u32>,
+    counts: &mut Seq<u32>,
+)
     requires class { key.class < length caps.now }
     requires place { key.place < length pool.now }
     requires fit { AreFit (length cover.old) (length caps.now) pool.now }
@@ -121,7 +103,7 @@ fn cover(
     pool: &[Column],
     prices: &Prices,
     caps: &[u32],
-    keys: &[Key],
+    keys: &[ColumnKey],
 ) -> Result<Seq<u32>, Memory>
     requires pool { length pool.now ≤ 200000 }
     requires few { length prices.now.items ≤ most_items }
@@ -164,7 +146,7 @@ pub fn turn(
     let gains = gains(alloc, pool, prices)?;
     let limits = limits(alloc, gains.as_slice(), caps)?;
     let mut keys = candidates(alloc, gains.as_slice(), limits.as_slice())?;
-    sort(&mut keys)?;
+    sort_keys(&mut keys)?;
     let cover = cover(alloc, pool, prices, caps, keys.as_slice())?;
     let items = moved_prices(alloc, prices, cover.as_slice(), size)?;
     Ok(Prices { items })

@@ -11,7 +11,7 @@ use Rattle.cover_core.specs.Fitting.{AreFit}
 use Rattle.cover_core.specs.FirstLeast.{AllWithin, value}
 use Rattle.cover_core.proofs.Fits.{IsFit, fit-at}
 use Rattle.cover_core.proofs.Values.{Rises-length, price_of-within}
-use Rattle.lagrangian_climb.specs.declared.key.Key.{Key}
+use Rattle.cover_core.specs.declared.column_keys.ColumnKey.{ColumnKey}
 use Rattle.lagrangian_climb.specs.Choices.{is_in_play, playing_from, playing_of, gain_before, gains_at, gains_from, gains_of, IsGain}
 
 -- the places are there, and no more than the columns
@@ -50,7 +50,7 @@ gains-playing fixed caps prices pool place (c ∷ cs) at =
     let rest : gains_at prices pool (playing_from fixed caps (suc place) cs) ≡ gains_from fixed caps prices (suc place) cs =
     gains-playing fixed caps prices pool (suc place) cs further in
     let here : slice_get pool place ≡ Some c = (let e : place ≡ place + 0 = omega arith in ap (slice_get pool) e ∙ at 0) in
-    let key : Key = record { class = c.class; value = value prices c; place = place } in
+    let key : ColumnKey = record { class = c.class; value = value prices c; place = place } in
     let more = gains_from fixed caps prices (suc place) cs in
     let first : gain_before prices place (gains_at prices pool (playing_from fixed caps (suc place) cs)) (slice_get pool place)
     ≡ gain_before prices place more (Some c) =
@@ -73,12 +73,12 @@ gain-here n k m prices place c few w there fit below =
     let part = price_of-within 10000000000000 prices c.items w in
     record { class = fit.class; place = there; low = omega (arith, ints, part.high); below = below }
 
-before-are : (n k m : ℕ) (prices : List Price) (place : ℕ) (rest : List Key) (found : Option Column) → n ≤ 3000 →
+before-are : (n k m : ℕ) (prices : List Price) (place : ℕ) (rest : List ColumnKey) (found : Option Column) → n ≤ 3000 →
     AllWithin 10000000000000 prices → place < m →
     ((c : Column) → found ≡ Some c → IsFit n k c) → All (IsGain k m) rest → All (IsGain k m) (gain_before prices place rest found)
 before-are n k m prices place rest None few w there fit all = all
 before-are n k m prices place rest (Some c) few w there fit all =
-    let key : Key = record { class = c.class; value = value prices c; place = place } in
+    let key : ColumnKey = record { class = c.class; value = value prices c; place = place } in
     elim (int_lt (value prices c) (pos 0)) as (λ b. int_lt (value prices c) (pos 0) ≡ b → All (IsGain k m) (cond b (key ∷ rest) rest)) [
       | true ↦ λ e. All-cons (IsGain k m) key rest (gain-here n k m prices place c few w there (fit c refl) (grind (arith, ints))) all
       | false ↦ λ e. all
@@ -94,11 +94,11 @@ gains-at-are n k prices pool (p ∷ ps) few w fit below =
     before-are n k (length pool) prices p (gains_at prices pool ps) (slice_get pool p) few w below.0 one
     (gains-at-are n k prices pool ps few w fit below.1)
 
-before-few : (prices : List Price) (place : ℕ) (rest : List Key) (found : Option Column) →
+before-few : (prices : List Price) (place : ℕ) (rest : List ColumnKey) (found : Option Column) →
     length (gain_before prices place rest found) ≤ suc (length rest)
 before-few prices place rest None = omega arith
 before-few prices place rest (Some c) =
-    let key : Key = record { class = c.class; value = value prices c; place = place } in
+    let key : ColumnKey = record { class = c.class; value = value prices c; place = place } in
     elim (int_lt (value prices c) (pos 0)) as (λ b. length (cond b (key ∷ rest) rest) ≤ suc (length rest)) [
       | true ↦
           omega arith
@@ -123,24 +123,24 @@ gains-step prices pool places i c h at =
 -- Where the value is below 0 the column is one more of those so far, else nothing changes. The invariant of the loop over the
 -- places: the columns found so far, followed by what the places left will give, are all there are to find. A column of value below
 -- 0 moves from the second part to the first; the lemma below is the other case, where nothing moves.
-pub gains-taken : (prices : List Price) (pool : List Column) (places : List ℕ) (i : ℕ) (c : Column) (all so_far now : List Key) →
+pub gains-taken : (prices : List Price) (pool : List Column) (places : List ℕ) (i : ℕ) (c : Column) (all so_far now : List ColumnKey) →
     i < length places → slice_get pool (get_or places i 0) ≡ Some c →
     value prices c <ℤ pos 0 → now ≡ so_far ++ record { class = c.class; value = value prices c; place = get_or places i 0 } ∷ [] →
     all ≡ so_far ++ gains_at prices pool (drop i places) → all ≡ now ++ gains_at prices pool (drop (i + 1) places)
 gains-taken prices pool places i c all so_far now h at below is so =
-    let key : Key = record { class = c.class; value = value prices c; place = get_or places i 0 } in
+    let key : ColumnKey = record { class = c.class; value = value prices c; place = get_or places i 0 } in
     let rest = gains_at prices pool (drop (i + 1) places) in
     let test : int_lt (value prices c) (pos 0) ≡ true = grind (arith, ints) in
     let step : gains_at prices pool (drop i places) ≡ key ∷ rest =
     gains-step prices pool places i c h at ∙ ap (λ b. cond b (key ∷ rest) rest) test in
     so ∙ (ap (λ l. so_far ++ l) step ∙ (sym (append_assoc so_far (key ∷ []) rest) ∙ ap (λ l. l ++ rest) (sym is)))
 
-pub gains-left : (prices : List Price) (pool : List Column) (places : List ℕ) (i : ℕ) (c : Column) (all so_far : List Key) →
+pub gains-left : (prices : List Price) (pool : List Column) (places : List ℕ) (i : ℕ) (c : Column) (all so_far : List ColumnKey) →
     i < length places → slice_get pool (get_or places i 0) ≡ Some c →
     (value prices c <ℤ pos 0 → ⊥) → all ≡ so_far ++ gains_at prices pool (drop i places) →
     all ≡ so_far ++ gains_at prices pool (drop (i + 1) places)
 gains-left prices pool places i c all so_far h at above so =
-    let key : Key = record { class = c.class; value = value prices c; place = get_or places i 0 } in
+    let key : ColumnKey = record { class = c.class; value = value prices c; place = get_or places i 0 } in
     let rest = gains_at prices pool (drop (i + 1) places) in
     let none : (b : Bool) → int_lt (value prices c) (pos 0) ≡ b → cond b (key ∷ rest) rest ≡ rest =
     λ b e. elim b as (λ b. int_lt (value prices c) (pos 0) ≡ b → cond b (key ∷ rest) rest ≡ rest) [

@@ -1,4 +1,3 @@
-mod Orders
 mod InPlay
 mod Gains
 mod Walks

@@ -7,14 +7,14 @@ use Rattle.std.proofs.lemmas.List.{drop_all}
 use Rattle.std.proofs.lemmas.List.Elements.{All-get_or, All-tail}
 use Rattle.cover_core.specs.Cover.{AllBelow}
 use Rattle.cover_core.specs.Plans.{number_at}
-use Rattle.lagrangian_climb.specs.declared.key.Key.{Key}
+use Rattle.cover_core.specs.declared.column_keys.ColumnKey.{ColumnKey}
 use Rattle.lagrangian_climb.specs.Choices.{has_room, is_next, seen, chosen_places, chosen_sum, priced_classes, IsGain, AreAsked, AreZeroNumbers}
 
-abbrev pub no_key : Key
+abbrev pub no_key : ColumnKey
 no_key = record { class = 0; value = pos 0; place = 0 }
 
 -- chosen places are places of columns, and no more than keys
-pub places-below : (k m : ℕ) (caps counts : List ℕ) (keys : List Key) → All (IsGain k m) keys → AllBelow m (chosen_places caps counts keys)
+pub places-below : (k m : ℕ) (caps counts : List ℕ) (keys : List ColumnKey) → All (IsGain k m) keys → AllBelow m (chosen_places caps counts keys)
 places-below k m caps counts [] all = tt
 places-below k m caps counts (x ∷ xs) all =
     let here : IsGain k m x = All-get_or (IsGain k m) (x ∷ xs) 0 x (omega arith) all in
@@ -26,7 +26,7 @@ places-below k m caps counts (x ∷ xs) all =
       | false ↦ rest
     ]
 
-pub places-few : (caps counts : List ℕ) (keys : List Key) → length (chosen_places caps counts keys) ≤ length keys
+pub places-few : (caps counts : List ℕ) (keys : List ColumnKey) → length (chosen_places caps counts keys) ≤ length keys
 places-few caps counts [] = omega arith
 places-few caps counts (x ∷ xs) =
     let rest : length (chosen_places caps (seen counts x) xs) ≤ length xs = places-few caps (seen counts x) xs in
@@ -47,7 +47,7 @@ asked-length (x ∷ xs) (suc i) z = ap (λ (n : ℕ). suc n) (asked-length xs i 
 -- What classes ask stays in range. What a class asks is minus the value of a column of value below 0, so it is above 0, and in the
 -- range of values. It is 0 where no column was left without a place. So what `choose` gives may be added to the values of columns
 -- within 64 bits.
-pub priced-asked : (k m : ℕ) (caps counts : List ℕ) (keys : List Key) (prices : List ℤ) → All (IsGain k m) keys → AreAsked prices →
+pub priced-asked : (k m : ℕ) (caps counts : List ℕ) (keys : List ColumnKey) (prices : List ℤ) → All (IsGain k m) keys → AreAsked prices →
     AreAsked (priced_classes caps counts keys prices)
 priced-asked k m caps counts [] prices all are = are
 priced-asked k m caps counts (x ∷ xs) prices all are =
@@ -68,7 +68,7 @@ pub next-length : (b : Bool) (prices : List ℤ) (i : ℕ) (z : ℤ) → length 
 next-length true prices i z = asked-length prices i z
 next-length false prices i z = refl
 
-pub priced-length : (caps counts : List ℕ) (keys : List Key) (prices : List ℤ) →
+pub priced-length : (caps counts : List ℕ) (keys : List ColumnKey) (prices : List ℤ) →
     length (priced_classes caps counts keys prices) ≡ length prices
 priced-length caps counts [] prices = refl
 priced-length caps counts (x ∷ xs) prices =
@@ -82,12 +82,12 @@ zero-asked (z ∷ zs) h = let here : z ≡ pos 0 = h 0 in (omega (arith, ints), 
 -- One key more. The invariant of the walk says what is chosen so far, followed by what the keys left will choose from the counts
 -- reached, is the whole choice; so one step of the loop is one step of the definition, and at the end nothing is left. The two
 -- lemmas below are the same for the sum of values and for what classes ask.
-pub places-more : (caps counts new : List ℕ) (keys : List Key) (i : ℕ) (places more : List ℕ) → i < length keys →
+pub places-more : (caps counts new : List ℕ) (keys : List ColumnKey) (i : ℕ) (places more : List ℕ) → i < length keys →
     new ≡ seen counts (get_or keys i no_key) →
     more ≡ cond (has_room caps counts (get_or keys i no_key)) (places ++ (get_or keys i no_key).place ∷ []) places →
     places ++ chosen_places caps counts (drop i keys) ≡ more ++ chosen_places caps new (drop (i + 1) keys)
 places-more caps counts new keys i places more h e is =
-    let key : Key = get_or keys i no_key in
+    let key : ColumnKey = get_or keys i no_key in
     let front : drop i keys ≡ key ∷ drop (i + 1) keys = rw add-one (drop-cons keys i no_key h) in
     let rest : List ℕ = chosen_places caps (seen counts key) (drop (i + 1) keys) in
     let step : (b : Bool) → places ++ cond b (key.place ∷ rest) rest ≡ cond b (places ++ key.place ∷ []) places ++ rest =
@@ -96,32 +96,32 @@ places-more caps counts new keys i places more h e is =
           simp append_assoc
       | false ↦ refl
     ] in
-    ap (λ (l : List Key). places ++ chosen_places caps counts l) front
+    ap (λ (l : List ColumnKey). places ++ chosen_places caps counts l) front
     ∙ (step (has_room caps counts key)
     ∙ (ap (λ (l : List ℕ). l ++ rest) (sym is) ∙ ap (λ (l : List ℕ). more ++ chosen_places caps l (drop (i + 1) keys)) (sym e)))
 
-pub sum-more : (caps counts new : List ℕ) (keys : List Key) (i : ℕ) (sum more : ℤ) → i < length keys →
+pub sum-more : (caps counts new : List ℕ) (keys : List ColumnKey) (i : ℕ) (sum more : ℤ) → i < length keys →
     new ≡ seen counts (get_or keys i no_key) →
     more ≡ sum +ℤ cond (has_room caps counts (get_or keys i no_key)) (get_or keys i no_key).value (pos 0) →
     sum +ℤ chosen_sum caps counts (drop i keys) ≡ more +ℤ chosen_sum caps new (drop (i + 1) keys)
 sum-more caps counts new keys i sum more h e is =
-    let key : Key = get_or keys i no_key in
+    let key : ColumnKey = get_or keys i no_key in
     let front : drop i keys ≡ key ∷ drop (i + 1) keys = rw add-one (drop-cons keys i no_key h) in
     let rest : ℤ = chosen_sum caps (seen counts key) (drop (i + 1) keys) in
     let here : ℤ = cond (has_room caps counts key) key.value (pos 0) in
     let step : sum +ℤ (here +ℤ rest) ≡ (sum +ℤ here) +ℤ rest = omega (arith, ints) in
-    ap (λ (l : List Key). sum +ℤ chosen_sum caps counts l) front
+    ap (λ (l : List ColumnKey). sum +ℤ chosen_sum caps counts l) front
     ∙ (step ∙ (ap (λ (z : ℤ). z +ℤ rest) (sym is) ∙ ap (λ (l : List ℕ). more +ℤ chosen_sum caps l (drop (i + 1) keys)) (sym e)))
 
-pub prices-more : (caps counts new : List ℕ) (keys : List Key) (i : ℕ) (prices more : List ℤ) → i < length keys →
+pub prices-more : (caps counts new : List ℕ) (keys : List ColumnKey) (i : ℕ) (prices more : List ℤ) → i < length keys →
     new ≡ seen counts (get_or keys i no_key) →
     more ≡ cond (is_next caps counts (get_or keys i no_key))
     (slice_set prices (get_or keys i no_key).class (neg_ℤ (get_or keys i no_key).value)) prices →
     priced_classes caps counts (drop i keys) prices ≡ priced_classes caps new (drop (i + 1) keys) more
 prices-more caps counts new keys i prices more h e is =
-    let key : Key = get_or keys i no_key in
+    let key : ColumnKey = get_or keys i no_key in
     let front : drop i keys ≡ key ∷ drop (i + 1) keys = rw add-one (drop-cons keys i no_key h) in
-    ap (λ (l : List Key). priced_classes caps counts l prices) front
+    ap (λ (l : List ColumnKey). priced_classes caps counts l prices) front
     ∙ (ap (λ (l : List ℤ). priced_classes caps (seen counts key) (drop (i + 1) keys) l) (sym is)
     ∙ ap (λ (l : List ℕ). priced_classes caps l (drop (i + 1) keys) more) (sym e))
 
@@ -133,7 +133,7 @@ set-few (x ∷ xs) zero v t h all (suc i) = all (suc i)
 set-few (x ∷ xs) (suc at) v t h all zero = all zero
 set-few (x ∷ xs) (suc at) v t h all (suc i) = set-few xs at v t h (λ j. all (suc j)) i
 
-pub seen-few : (counts new : List ℕ) (key : Key) (t : ℕ) → new ≡ seen counts key → ((i : ℕ) → slice_index counts i ≤ t) →
+pub seen-few : (counts new : List ℕ) (key : ColumnKey) (t : ℕ) → new ≡ seen counts key → ((i : ℕ) → slice_index counts i ≤ t) →
     (i : ℕ) → slice_index new i ≤ t + 1
 seen-few counts new key t e all i =
     let here = all key.class in
@@ -148,7 +148,7 @@ set-length [] at v = refl
 set-length (x ∷ xs) zero v = refl
 set-length (x ∷ xs) (suc at) v = ap (λ (n : ℕ). suc n) (set-length xs at v)
 
-pub seen-length : (counts new : List ℕ) (key : Key) → new ≡ seen counts key → length new ≡ length counts
+pub seen-length : (counts new : List ℕ) (key : ColumnKey) → new ≡ seen counts key → length new ≡ length counts
 seen-length counts new key e = ap (λ (l : List ℕ). length l) e ∙ set-length counts key.class (slice_index counts key.class + 1)
 
 -- at the end
@@ -156,21 +156,21 @@ nothing-more : (xs : List ℕ) → xs ++ [] ≡ xs
 nothing-more [] = refl
 nothing-more (x ∷ xs) = ap (λ (l : List ℕ). x ∷ l) (nothing-more xs)
 
-pub places-end : (caps start counts : List ℕ) (keys : List Key) (i : ℕ) (places : List ℕ) → length keys ≤ i →
+pub places-end : (caps start counts : List ℕ) (keys : List ColumnKey) (i : ℕ) (places : List ℕ) → length keys ≤ i →
     chosen_places caps start keys ≡ places ++ chosen_places caps counts (drop i keys) → places ≡ chosen_places caps start keys
 places-end caps start counts keys i places h e =
-    sym (e ∙ (ap (λ (l : List Key). places ++ chosen_places caps counts l) (drop_all i keys h) ∙ nothing-more places))
+    sym (e ∙ (ap (λ (l : List ColumnKey). places ++ chosen_places caps counts l) (drop_all i keys h) ∙ nothing-more places))
 
-pub sum-end : (caps start counts : List ℕ) (keys : List Key) (i : ℕ) (sum : ℤ) → length keys ≤ i →
+pub sum-end : (caps start counts : List ℕ) (keys : List ColumnKey) (i : ℕ) (sum : ℤ) → length keys ≤ i →
     chosen_sum caps start keys ≡ sum +ℤ chosen_sum caps counts (drop i keys) → sum ≡ chosen_sum caps start keys
 sum-end caps start counts keys i sum h e =
     let none : sum +ℤ pos 0 ≡ sum = omega (arith, ints) in
-    sym (e ∙ (ap (λ (l : List Key). sum +ℤ chosen_sum caps counts l) (drop_all i keys h) ∙ none))
+    sym (e ∙ (ap (λ (l : List ColumnKey). sum +ℤ chosen_sum caps counts l) (drop_all i keys h) ∙ none))
 
-pub prices-end : (caps start counts : List ℕ) (keys : List Key) (i : ℕ) (first prices : List ℤ) → length keys ≤ i →
+pub prices-end : (caps start counts : List ℕ) (keys : List ColumnKey) (i : ℕ) (first prices : List ℤ) → length keys ≤ i →
     priced_classes caps start keys first ≡ priced_classes caps counts (drop i keys) prices → prices ≡ priced_classes caps start keys first
 prices-end caps start counts keys i first prices h e =
-    sym (e ∙ ap (λ (l : List Key). priced_classes caps counts l prices) (drop_all i keys h))
+    sym (e ∙ ap (λ (l : List ColumnKey). priced_classes caps counts l prices) (drop_all i keys h))
 
 -- one number 0 more
 zero-more : (zs : List ℤ) (z : ℤ) → z ≡ pos 0 → ((i : ℕ) → number_at zs i ≡ pos 0) → (i : ℕ) → number_at (zs ++ z ∷ []) i ≡ pos 0

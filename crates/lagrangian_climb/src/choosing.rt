@@ -1,19 +1,16 @@
 //! Which columns are chosen at some prices.
 
 ghost use Rattle.std.specs.Prelude.{◌≡◌, ℤ, ◌≤◌, ◌<◌, ◌+◌, ◌*◌, ◌≤ℤ◌, ◌<ℤ◌, ◌+ℤ◌, pos, neg_ℤ, [], ◌∷◌, ◌++◌, length, cond, IfOk, OnOk, slice_index, slice_set};
-ghost use Rattle.std.specs.List.Sorted.{IsPermutation, IsSortedBy};
 ghost use Rattle.plan_core.specs.Limits.{most_items, most_price};
 ghost use Rattle.cover_core.specs.Cover.{AllBelow};
 ghost use Rattle.cover_core.specs.FirstLeast.{AllWithin};
 ghost use Rattle.cover_core.specs.Fitting.{AreFit};
-ghost use Rattle.lagrangian_climb.specs.Choices.{gains_at, key_cmp, is_before, seen, has_room, is_next, AreZeroCounts, AreZeroNumbers, IsChoice, IsChosen, IsSoundChoice};
+ghost use Rattle.lagrangian_climb.specs.Choices.{gains_at, seen, has_room, is_next, AreZeroCounts, AreZeroNumbers, IsChoice, IsChosen, IsSoundChoice};
 
-use crate::key::Key;
 use crate::playing::in_play;
-use cover_core::{Column, Prices, value};
+use cover_core::{Column, ColumnKey, Prices, sort_keys, value};
 use plan_core::{Memory, Seq, zeros};
 use std::alloc::Global;
-use std::cmp::Ordering;
 
 /// The columns that are chosen at some prices, and what classes ask for a place.
 #[derive(Drop)]
@@ -32,7 +29,7 @@ fn gains(
     pool: &[Column],
     places: &[u32],
     prices: &Prices,
-) -> Result<Vec<Key>, Memory>
+) -> Result<Vec<ColumnKey>, Memory>
     requires few { length prices.now.items ≤ most_items }
     requires moderate { AllWithin most_price prices.now.items }
     requires fit { AreFit (length prices.now.items) 32 pool.now }
@@ -44,7 +41,7 @@ fn gains(
         let column = &pool[*place as usize];
         let value = value(column, prices);
         if value < 0 {
-            let key = Key {
+            let key = ColumnKey {
                 class: column.class,
                 value,
                 place: *place,
@@ -58,31 +55,13 @@ fn gains(
     Ok(keys)
 }
 
-/// Orders columns by class, value and place.
-fn compare(x: &Key, y: &Key) -> Ordering
-    ensures { result ≡ key_cmp x.now y.now }
-{
-    let within = x.value.cmp(&y.value).then(x.place.cmp(&y.place));
-    x.class.cmp(&y.class).then(within)
-}
-
-/// Brings columns into the order of class, value and place.
-fn sort(keys: &mut Vec<Key>) -> Result<(), Memory>
-    ensures permutation { IsPermutation keys.old.items keys.new.items }
-    ensures sorted { OnOk result (IsSortedBy is_before keys.new.items) }
-{
-    match keys.sort_by(
-        |x: &Key, y: &Key| -> Ordering
-            ensures { result ≡ key_cmp x.now y.now }
-        { compare(x, y) },
-    ) {
-        Ok(()) => Ok(()),
-        Err(_) => Err(Memory),
-    }
-}
-
 /// What one more column in order adds: it is chosen where its class has a place left, and the next one says what the class asks.
-fn walk(choice: &mut Choice, counts: &mut Seq<u32>, caps: &[u32], key: Key) -> Result<(), Memory>
+fn walk(
+    choice: &mut Choice,
+    counts: &mut Seq<u32>,
+    caps: &[u32],
+    key: ColumnKey,
+) -> Result<(), Memory>
     requires class { key.class < length caps.now }
     requires low { neg_ℤ (pos 30000000000000000) ≤ℤ key.value }
     requires below { key.value <ℤ pos 0 }
@@ -147,7 +126,7 @@ pub(crate) fn choose_of(
     ensures sound { IfOk result (IsSoundChoice (length caps.now) (length pool.now)) }
 {
     let mut keys = gains(alloc, pool, places, prices)?;
-    sort(&mut keys)?;
+    sort_keys(&mut keys)?;
     let mut counts = zero_counts(alloc, caps.len())?;
     let mut choice = Choice {
         places: Seq::new(alloc),

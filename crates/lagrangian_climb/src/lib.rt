@@ -20,7 +20,6 @@
 mod choosing;
 mod climbing;
 mod covers;
-mod key;
 mod numbers;
 mod playing;
 mod vectors;

@@ -6,7 +6,7 @@ use Rattle.cover_master.specs.Method.{clamped, times_chosen, turned_price}
 use Rattle.cover_core.proofs.Fits.{AreFit-wider}
 use Rattle.std.specs.List.Sorted.{IsPermutation}
 use Rattle.std.specs.Prelude.{filter}
-use Rattle.cover_master.specs.declared.key.Key.{Key}
+use Rattle.cover_core.specs.declared.column_keys.ColumnKey.{ColumnKey}
 use Rattle.cover_master.specs.Candidates.{is_candidate, AreLimits, gain_keys, AreCandidates}
 use Rattle.cover_master.proofs.Rules.{prices_from-is, prices_from-within, clamped-within}
 use Rattle.cover_master.proofs.turns.turn.Goals as goal
@@ -47,13 +47,13 @@ cover-requires-clause-all c =
     let shown : c.as_slice.result.now ≡ gain_keys prices pool = c.as_slice.ensures.value ∙ gains in
     let shown_2 : c.as_slice-2.result.now ≡ gain_keys prices pool = c.as_slice-2.ensures.value ∙ gains in
     let shown_limits : c.as_slice-3.result.now ≡ limits = c.as_slice-3.ensures.value in
-    let P : List Key → Type 0 = λ l. AreLimits l caps limits in
-    let Q : List Key → Type 0 = λ l. IsPermutation l c.sort.new.keys.items in
-    let R : List Key → Type 0 = λ l. AreCandidates prices pool caps l in
+    let P : List ColumnKey → Type 0 = λ l. AreLimits l caps limits in
+    let Q : List ColumnKey → Type 0 = λ l. IsPermutation l c.sort_keys.new.keys.items in
+    let R : List ColumnKey → Type 0 = λ l. AreCandidates prices pool caps l in
     let are : AreLimits (gain_keys prices pool) caps limits = subst P shown c.in_ok-limits.ensures in
     let kept : c.in_ok-keys.keys.items ≡ filter (is_candidate limits) (gain_keys prices pool) =
     c.in_ok-keys.ensures ∙ ap (λ (l : List ℤ). filter (is_candidate l) c.as_slice-2.result.now) shown_limits
-    ∙ ap (λ (l : List Key). filter (is_candidate limits) l) shown_2 in
-    let all : IsPermutation (filter (is_candidate limits) (gain_keys prices pool)) c.sort.new.keys.items =
-    subst Q kept c.in_ok-sort.ensures.permutation in
+    ∙ ap (λ (l : List ColumnKey). filter (is_candidate limits) l) shown_2 in
+    let all : IsPermutation (filter (is_candidate limits) (gain_keys prices pool)) c.sort_keys.new.keys.items =
+    subst Q kept c.in_ok-sort_keys.ensures.permutation in
     subst R (sym c.as_slice-4.ensures.value) (record { limits = limits; are = are; all = all })

@@ -1,6 +1,6 @@
 use Rattle.std.proofs.Common.{◌≡◌, ◌∙◌, ℕ, ◌≤◌, ◌+◌, List, length, sym, ap, subst, arith, IfOk}
 use Rattle.cover_core.specs.Cover.{AllBelow}
-use Rattle.lagrangian_climb.specs.declared.key.Key.{Key}
+use Rattle.cover_core.specs.declared.column_keys.ColumnKey.{ColumnKey}
 use Rattle.lagrangian_climb.specs.Choices.{IsChosen, gains_at}
 use Rattle.lagrangian_climb.proofs.InPlay.{gains-all, playing-below, playing-few}
 use Rattle.lagrangian_climb.proofs.choosing.choose.Goals as goal
@@ -24,4 +24,4 @@ returns-clause-choice c =
     let prices = c.args.prices.now.items in
     let same : gains_at prices pool c.as_slice.result.now ≡ _ =
     ap (gains_at prices pool) (c.as_slice.ensures ∙ c.in_ok-places.ensures) ∙ gains-all c.args.fixed.now c.args.caps.now prices pool in
-    subst (λ (keys : List Key). IfOk c.choose_of.result (IsChosen keys c.args.caps.now)) same c.choose_of.ensures.choice
+    subst (λ (keys : List ColumnKey). IfOk c.choose_of.result (IsChosen keys c.args.caps.now)) same c.choose_of.ensures.choice

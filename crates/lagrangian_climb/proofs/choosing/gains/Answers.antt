@@ -5,16 +5,16 @@ use Rattle.cover_core.proofs.Fits.{fit-at}
 use Rattle.cover_core.proofs.Values.{AllBelow-get}
 use Rattle.cover_core.specs.declared.Column.{Column}
 use Rattle.cover_core.specs.FirstLeast.{value}
-use Rattle.lagrangian_climb.specs.declared.key.Key.{Key}
+use Rattle.cover_core.specs.declared.column_keys.ColumnKey.{ColumnKey}
 use Rattle.lagrangian_climb.specs.Choices.{gains_at}
 use Rattle.lagrangian_climb.proofs.InPlay.{gains-left, gains-taken}
 use Rattle.lagrangian_climb.proofs.choosing.gains.Goals as goal
 use Rattle.lagrangian_climb.proofs.choosing.gains.Goals.{then-value-lt0+in-Ok, else-value-lt0}
 
 abbrev Keys : Type 0
-Keys = Vec Key Global
+Keys = Vec ColumnKey Global
 
-abbrev key_of : Column → ℤ → ℕ → Key
+abbrev key_of : Column → ℤ → ℕ → ColumnKey
 key_of c v place = record { class = c.class; value = v; place = place }
 
 pub bounds-pool-place : goal.bounds-pool-place

@@ -1,9 +1,9 @@
 use Rattle.std.proofs.Common.{◌≡◌, ap, rules}
 use Rattle.std.specs.Ordering.{is_lt}
 use Rattle.std.proofs.lemmas.List.Sorted.{answers_always}
-use Rattle.lagrangian_climb.specs.Choices.{is_before, key_cmp}
-use Rattle.lagrangian_climb.proofs.Orders.{before_order}
-use Rattle.lagrangian_climb.proofs.choosing.sort.Goals as goal
+use Rattle.cover_core.specs.ColumnKeys.{is_before, key_cmp}
+use Rattle.cover_core.proofs.ColumnKeys.{before_order}
+use Rattle.cover_core.proofs.column_keys.sort_keys.Goals as goal
 
 pub returns-in-Ok-clause-sorted : goal.returns-in-Ok-clause-sorted
 returns-in-Ok-clause-sorted c =
