@@ -174,6 +174,7 @@ latest_row [] all = tt
 latest_row (row ∷ rows) all = later_row row (latest rows) all.0 (latest_row rows all.1)
 
 version_number : (tables : List Table) (day version : ℕ) → version_on (net_of needs.All tables) day ≡ Some version → IsNumber version
+unfolding version_row
 version_number tables day version e =
     let rows = rows_each IsVersion version_row schema.versions
     (λ table row place. at_most table row (schema.number (codes "BASIS_VERSION"))) tables in
@@ -185,6 +186,7 @@ abbrev HasKind : CalendarRow → Type 0
 HasKind row = IsNumber row.kind
 
 kind_number : (tables : List Table) (version day kind : ℕ) → kind_on (net_of needs.All tables) version day ≡ Some kind → IsNumber kind
+unfolding calendar_row
 kind_number tables version day kind e =
     let rows = rows_each HasKind calendar_row schema.days
     (λ table row place. at_most table row (schema.number (codes "TAGESART_NR"))) tables in
@@ -216,6 +218,7 @@ at_each (row ∷ rows) all = (all.0, at_each rows all.1)
 
 course_each : (tables : List Table) (version line : ℕ) (variant : List ℕ) →
     AllByRecursion IsPlace (course_on (net_of needs.All tables) version line variant)
+unfolding stop_row
 course_each tables version line variant =
     let net : Net = net_of needs.All tables in
     let rows : AllByRecursion IsAtPlace net.stops = rows_each IsAtPlace stop_row schema.stops (λ table row place.

@@ -226,6 +226,7 @@ differ-keys v f w g differ versions fids =
 tells-trip : (table : Table) (row other : List Field) (place place' : ℕ) → HasTrip table row → HasTrip table other →
     same_cells (key_of schema.trips table other) (key_of schema.trips table row) ≡ false →
     IsOther same_trip (trip_row (cells schema.trips table row) place) (trip_row (cells schema.trips table other) place')
+unfolding trip_row
 tells-trip table row other place place' is is' differ =
     let a : TripRow = trip_row (cells schema.trips table row) place in
     let b : TripRow = trip_row (cells schema.trips table other) place' in

@@ -10,6 +10,7 @@ use Rattle.std.proofs.lemmas.Option.{get_or_from_slice_get, slice_get_within}
 use Rattle.plan_core.specs.declared.types.Point.{Point}
 use Rattle.vdv452_rows.specs.declared.rows.TripRow.{TripRow}
 use Rattle.vdv452_rows.specs.declared.rows.VersionRow.{VersionRow}
+use Rattle.vdv452_rows.specs.TypedRows.{version_row}
 use Rattle.vdv452_tables.specs.Calendar.{latest, version_on}
 use Rattle.vdv452_tables.specs.Keys.{dead_key_of, move_key_eq, point_eq, value_at}
 use Rattle.vdv452_tables.specs.LookUps.{dead_time_on}
@@ -159,6 +160,7 @@ rows_timed seed trips (row ∷ rows) all =
 
 -- the one version of a made day
 pub one_version : (seed trips day version : ℕ) → version_on (made_net seed trips) day ≡ Some version → 1 ≡ version
+unfolding version_row
 one_version seed trips day version = by (nat_le 20260101 day)
   where
     by : (b : Bool) → option_map (λ (row : VersionRow). row.version) (latest (cond b (record { day = 20260101; version = 1 } ∷ []) []))

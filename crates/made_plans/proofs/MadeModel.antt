@@ -5,6 +5,7 @@ use Rattle.std.proofs.lemmas.Bool.Decides.{nat_tests}
 use Rattle.std.proofs.lemmas.Int.{ints}
 use Rattle.day_calendar.specs.declared.day.DayKind.{DayKind}
 use Rattle.day_calendar.specs.Days.{IsCivilDay}
+use Rattle.vdv452_rows.specs.TypedRows.{version_row, calendar_row, point_row, type_row}
 use Rattle.plan_params.specs.Faults.{first_fault}
 use Rattle.day_model.specs.declared.fault.DayModelFault.TheVariants as faults
 use Rattle.day_model.specs.Building.{day_fault, rows_at, settings_or, timed_rows, timing_fault}
@@ -14,7 +15,7 @@ use Rattle.made_plans.proofs.MadeDay.{one_version, places_few, rows_at_made, row
 use Rattle.made_plans.proofs.MadeTripRows.{trips_made}
 
 settings_right : (seed trips : ℕ) → first_fault (made_net seed trips) 1 ≡ None
-unfolding first_fault
+unfolding first_fault point_row type_row
 settings_right seed trips = refl
 
 fault_none : (seed trips : ℕ) (kind : DayKind) (places : List ℕ) → 1 ≡ kind.version → length places ≤ 3000 →
@@ -52,4 +53,5 @@ civil = (
 )
 
 pub has_kind : (seed trips : ℕ) → HasKind seed trips 20260302
+unfolding version_row calendar_row
 has_kind seed trips = record { civil = civil; version = refl; kind_is = refl }

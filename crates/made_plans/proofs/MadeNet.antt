@@ -6,24 +6,30 @@ use Rattle.vdv452_rows.specs.declared.cell.Cell.TheVariants.{Nothing, Number}
 use Rattle.vdv452_rows.specs.Cells.{number_up_to}
 use Rattle.vdv452_rows.specs.Values.{number_of}
 use Rattle.day_maker.specs.Made.{lines, places, terminals}
+use Rattle.vdv452_rows.specs.TypedRows.{line_row, stop_row, run_row, group_dwell_row, dead_row}
 use Rattle.made_plans.specs.MadeRows.{made_net, rows_each, line_rows, stop_rows, run_rows, dwell_rows, dead_rows, way_rows, relief_rows, depot_rows, driver_rows}
 
 pub lines_are : (seed trips : ℕ) → (made_net seed trips).lines ≡ rows_each line_rows lines
+unfolding line_row
 lines_are seed trips = refl
 
 pub stops_are : (seed trips : ℕ) → (made_net seed trips).stops ≡ rows_each stop_rows lines
+unfolding stop_row
 stops_are seed trips = refl
 
 pub runs_are : (seed trips : ℕ) → (made_net seed trips).runs ≡ rows_each run_rows lines
+unfolding run_row
 runs_are seed trips = refl
 
 pub dwells_are : (seed trips : ℕ) → (made_net seed trips).group_dwells ≡ rows_each dwell_rows lines
+unfolding group_dwell_row
 dwells_are seed trips = refl
 
 pub no_dwells : (seed trips : ℕ) → (made_net seed trips).trip_dwells ≡ []
 no_dwells seed trips = refl
 
 pub deads_are : (seed trips : ℕ) → (made_net seed trips).deads ≡ rows_each (λ from. dead_rows from places) places
+unfolding dead_row
 deads_are seed trips = refl
 
 pub ways_are : (seed trips : ℕ) → (made_net seed trips).ways ≡ rows_each (λ from. way_rows from places) places

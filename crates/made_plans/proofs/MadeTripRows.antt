@@ -32,21 +32,25 @@ below n m some = omega (arith, some)
 
 start_is : (seed trips fid start line : ℕ) (out : Bool) (place : ℕ) → nat_le start 172800 ≡ true →
     (read_row seed trips fid start line out place).start ≡ start
+unfolding trip_row
 start_is seed trips fid start line out place few = let F : Option ReadCell → ℕ = λ c. number_of (unwrap_or c read.Nothing) in
     ap F (read_number 172800 start few)
 
 line_is : (seed trips fid start line : ℕ) (out : Bool) (place : ℕ) → nat_le line 4294967295 ≡ true →
     (read_row seed trips fid start line out place).line ≡ line
+unfolding trip_row
 line_is seed trips fid start line out place few = let F : Option ReadCell → ℕ = λ c. number_of (unwrap_or c read.Nothing) in
     ap F (read_number 4294967295 line few)
 
 variant_is : (seed trips fid start line : ℕ) (out : Bool) (place : ℕ) →
     (read_row seed trips fid start line out place).variant ≡ variant_name out
+unfolding trip_row
 variant_is seed trips fid start line true place = refl
 variant_is seed trips fid start line false place = refl
 
 row_made : (seed trips fid start line : ℕ) (out : Bool) (place : ℕ) → 1 ≤ line → line ≤ 7 → 18000 ≤ start → start < 75600 →
     IsMadeRow (read_row seed trips fid start line out place)
+unfolding trip_row
 row_made seed trips fid start line out place low high from to =
     let few : nat_le start 172800 ≡ true = grind (arith, nat_tests) in
     let few_lines : nat_le line 4294967295 ≡ true = grind (arith, nat_tests) in

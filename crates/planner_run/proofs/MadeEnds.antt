@@ -4,6 +4,7 @@ use Rattle.vdv452_rows.specs.declared.fault.TableFault.{TableFault}
 use Rattle.vdv452_tables.specs.declared.reading.Needs.TheVariants as needs
 use Rattle.vdv452_tables.specs.Calendar.{net_of, schemas_of}
 use Rattle.vdv452_rows.specs.Rows.{first_fault}
+use Rattle.vdv452_rows.specs.TypedRows.{version_row}
 use Rattle.day_calendar.specs.declared.day.DayFault.{DayFault}
 use Rattle.day_calendar.specs.declared.day.DayFault.TheVariants as days
 use Rattle.day_model.specs.declared.fault.DayModelFault.{DayModelFault}
@@ -29,6 +30,7 @@ module _ (seed trips : ℕ) (few : trips ≤ 3000) where
   no_model_fault fault has = no_day_fault seed trips few 20260302 has.fault_in.kind fault has.fault_in.kind_is has.fault_in.wrong
 
   no_fault_of_day : (fault : DayFault) → IsDayFault (net_of needs.All (made_tables seed trips)) 20260302 fault → ⊥
+  unfolding version_row
   no_fault_of_day days.NoDate wrong = wrong (has_kind seed trips).civil
   no_fault_of_day days.NoVersion wrong =
       let same : ◌≡◌ {A = Option ℕ} None (Some 1) = sym wrong.1 ∙ (has_kind seed trips).version in absurd (cc)

@@ -165,6 +165,7 @@ typed_trips : (P : ℕ → ℕ → Type 0) (table : Table) (place : ℕ) (rows :
     All (λ row. P (number_of (cell_at table row (schema.key (codes "BASIS_VERSION"))))
     (long_in (Some (cell_at table row (schema.trip_key (codes "FRT_FID")))))) rows →
     All (λ (trip : TripRow). P trip.version trip.fid) (typed trip_row place (map (cells schema.trips table) rows))
+unfolding trip_row
 typed_trips P table place [] all = All-nil (λ (trip : TripRow). P trip.version trip.fid)
 typed_trips P table place (row ∷ rows) all =
     let Q : List Field → Type 0 =

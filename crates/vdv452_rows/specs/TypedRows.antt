@@ -45,14 +45,14 @@ abbrev pub point_under : Schema → List ℕ → List ℕ → List Cell → Poin
 point_under table typ nr row = point_at row (schema_place table typ) (schema_place table nr)
 
 -- BASIS_VER_GUELTIGKEIT
-abbrev pub version_row : List Cell → ℕ → VersionRow
+unfoldable pub version_row : List Cell → ℕ → VersionRow
 version_row row place = record {
   day = number_under versions (codes "VER_GUELTIGKEIT") row;
   version = number_under versions (codes "BASIS_VERSION") row;
 }
 
 -- FIRMENKALENDER
-abbrev pub calendar_row : List Cell → ℕ → CalendarRow
+unfoldable pub calendar_row : List Cell → ℕ → CalendarRow
 calendar_row row place = record {
   version = number_under days (codes "BASIS_VERSION") row;
   day = number_under days (codes "BETRIEBSTAG") row;
@@ -60,7 +60,7 @@ calendar_row row place = record {
 }
 
 -- REC_FRT, and the row's place
-abbrev pub trip_row : List Cell → ℕ → TripRow
+unfoldable pub trip_row : List Cell → ℕ → TripRow
 trip_row row place = record {
   version = number_under trips (codes "BASIS_VERSION") row;
   fid = long_under trips (codes "FRT_FID") row;
@@ -74,21 +74,21 @@ trip_row row place = record {
 }
 
 -- REC_ORT
-abbrev pub point_row : List Cell → ℕ → PointRow
+unfoldable pub point_row : List Cell → ℕ → PointRow
 point_row row place = record {
   version = number_under points (codes "BASIS_VERSION") row;
   at = point_under points (codes "ONR_TYP_NR") (codes "ORT_NR") row;
 }
 
 -- MENGE_FZG_TYP
-abbrev pub type_row : List Cell → ℕ → TypeRow
+unfoldable pub type_row : List Cell → ℕ → TypeRow
 type_row row place = record {
   version = number_under types (codes "BASIS_VERSION") row;
   typ = number_under types (codes "FZG_TYP_NR") row;
 }
 
 -- REC_LID
-abbrev pub line_row : List Cell → ℕ → LineRow
+unfoldable pub line_row : List Cell → ℕ → LineRow
 line_row row place = record {
   version = number_under lines (codes "BASIS_VERSION") row;
   line = number_under lines (codes "LI_NR") row;
@@ -97,7 +97,7 @@ line_row row place = record {
 }
 
 -- LID_VERLAUF
-abbrev pub stop_row : List Cell → ℕ → StopRow
+unfoldable pub stop_row : List Cell → ℕ → StopRow
 stop_row row place = record {
   version = number_under stops (codes "BASIS_VERSION") row;
   number = number_under stops (codes "LI_LFD_NR") row;
@@ -107,7 +107,7 @@ stop_row row place = record {
 }
 
 -- REC_SEL
-abbrev pub section_row : List Cell → ℕ → SectionRow
+unfoldable pub section_row : List Cell → ℕ → SectionRow
 section_row row place = record {
   version = number_under sections (codes "BASIS_VERSION") row;
   area = number_under sections (codes "BEREICH_NR") row;
@@ -117,7 +117,7 @@ section_row row place = record {
 }
 
 -- SEL_FZT_FELD
-abbrev pub run_row : List Cell → ℕ → RunRow
+unfoldable pub run_row : List Cell → ℕ → RunRow
 run_row row place = record {
   version = number_under runs (codes "BASIS_VERSION") row;
   area = number_under runs (codes "BEREICH_NR") row;
@@ -128,7 +128,7 @@ run_row row place = record {
 }
 
 -- ORT_HZTF
-abbrev pub group_dwell_row : List Cell → ℕ → GroupDwellRow
+unfoldable pub group_dwell_row : List Cell → ℕ → GroupDwellRow
 group_dwell_row row place = record {
   version = number_under group_dwells (codes "BASIS_VERSION") row;
   group = number_under group_dwells (codes "FGR_NR") row;
@@ -137,7 +137,7 @@ group_dwell_row row place = record {
 }
 
 -- REC_FRT_HZT
-abbrev pub trip_dwell_row : List Cell → ℕ → TripDwellRow
+unfoldable pub trip_dwell_row : List Cell → ℕ → TripDwellRow
 trip_dwell_row row place = record {
   version = number_under trip_dwells (codes "BASIS_VERSION") row;
   fid = long_under trip_dwells (codes "FRT_FID") row;
@@ -146,7 +146,7 @@ trip_dwell_row row place = record {
 }
 
 -- UEB_FZT
-abbrev pub dead_row : List Cell → ℕ → DeadRow
+unfoldable pub dead_row : List Cell → ℕ → DeadRow
 dead_row row place = record {
   version = number_under deads (codes "BASIS_VERSION") row;
   area = number_under deads (codes "BEREICH_NR") row;

@@ -118,6 +118,7 @@ pub(crate) fn word_at(alloc: Global, cells: &[Cell], place: usize) -> Result<Byt
 impl TypedRow for VersionRow {
     ghost row_of = { typed_rows.version_row };
 
+    #[tactic(auto, unfolding(crate::specs::TypedRows::version_row))]
     fn from_cells(_alloc: Global, cells: &[Cell], _place: u32) -> Result<VersionRow, Memory> {
         Ok(VersionRow {
             day: number_at(cells, 0),
@@ -129,6 +130,7 @@ impl TypedRow for VersionRow {
 impl TypedRow for CalendarRow {
     ghost row_of = { typed_rows.calendar_row };
 
+    #[tactic(auto, unfolding(crate::specs::TypedRows::calendar_row))]
     fn from_cells(_alloc: Global, cells: &[Cell], _place: u32) -> Result<CalendarRow, Memory> {
         Ok(CalendarRow {
             version: number_at(cells, 0),
@@ -141,6 +143,7 @@ impl TypedRow for CalendarRow {
 impl TypedRow for TripRow {
     ghost row_of = { typed_rows.trip_row };
 
+    #[tactic(auto, unfolding(crate::specs::TypedRows::trip_row))]
     fn from_cells(alloc: Global, cells: &[Cell], place: u32) -> Result<TripRow, Memory> {
         Ok(TripRow {
             version: number_at(cells, 0),

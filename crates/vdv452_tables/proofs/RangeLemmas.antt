@@ -148,6 +148,7 @@ number_rows s tables = rows_all (Fits s.columns) number_row s (λ table row plac
 -- domain, and the number of rows is that of a table of few rows. It does not need the tables to be right, since a wrong field gives
 -- nothing. It is the contract's promise of ranges, by which sums of times in the crates above stay within their numbers.
 pub ranges_of : (needs : Needs) (tables : List Table) → All (λ table. length table.rows < 2 ^ 32) tables → HasRanges (net_of needs tables)
+unfolding trip_row section_row run_row group_dwell_row trip_dwell_row dead_row
 ranges_of needs.Calendar tables few = record {
   few_trips = rows_few trip_row schema.trips tables few;
   few_stops = omega arith;

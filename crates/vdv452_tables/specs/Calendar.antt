@@ -64,6 +64,14 @@ empty = record {
   drivers = [];
 }
 
+-- A network with the rows of the tables that tell the trips of a day.
+abbrev pub with_calendar : Net → List Table → Net
+with_calendar net tables = record net {
+  versions = rows_as version_row schema.versions tables;
+  days = rows_as calendar_row schema.days tables;
+  trips = rows_as trip_row schema.trips tables;
+}
+
 -- A network with the rows of each part of the tables.
 abbrev pub with_places : Net → List Table → Net
 with_places net tables = record net {
@@ -99,16 +107,14 @@ with_own net tables = record net {
   drivers = rows_as number_row schema.drivers tables;
 }
 
+-- A network with the rows of all tables.
+abbrev pub with_all : Net → List Table → Net
+with_all net tables = with_own (with_trips (with_times (with_places net tables) tables) tables) tables
+
 -- the rows of the tables, by their schemas; none of a table that is not looked at
 abbrev pub net_of : Needs → List Table → Net
-net_of needs.Calendar tables =
-    record empty {
-      versions = rows_as version_row schema.versions tables;
-      days = rows_as calendar_row schema.days tables;
-      trips =
-          rows_as trip_row schema.trips tables;
-    }
-net_of needs.All tables = with_own (with_trips (with_times (with_places empty tables) tables) tables) tables
+net_of needs.Calendar tables = with_calendar empty tables
+net_of needs.All tables = with_all empty tables
 
 -- the row of the later day; of two with one day the first
 abbrev pub later : VersionRow → Option VersionRow → VersionRow

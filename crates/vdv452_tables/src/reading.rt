@@ -4,7 +4,7 @@ ghost use Rattle.std.specs.Prelude.{◌≡◌, ◌≢◌, ◌<◌, ◌^◌, [], 
 ghost use Rattle.vdv452_rows.specs.declared.fault.TableFault.{TableFault};
 ghost use Rattle.vdv452_rows.specs.Answers.{IsRefusal};
 ghost use Rattle.vdv452_tables.specs.Calendar.{own_schemas, place_schemas, schemas_of, time_schemas, trip_schemas};
-ghost use Rattle.vdv452_tables.specs.Calendar.{empty, net_of, rows_as, with_own, with_places, with_times, with_trips};
+ghost use Rattle.vdv452_tables.specs.Calendar.{empty, net_of, rows_as, with_all, with_calendar, with_own, with_places, with_times, with_trips};
 ghost use Rattle.vdv452_rows.specs.Rows.{HasOwnKeys, faults_of, first_fault, table_faults};
 
 use crate::net::Net;
@@ -27,14 +27,14 @@ pub enum Needs {
 fn read_rows<R: TypedRow>(
     alloc: Global,
     tables: &[Table],
-    schema: &Schema,
+    schema: Schema,
 ) -> Result<Seq<R>, Refusal>
     requires { All (λ table. length table.rows < 2 ^ 32) tables.now }
-    ensures rows { IfOk result (λ rows. rows ≡ rows_as R.row_of schema.now tables.now) }
-    ensures right { OnOk result (table_faults schema.now tables.now ≡ []) }
-    ensures wrong { IfErr result (IsRefusal (table_faults schema.now tables.now)) }
+    ensures rows { IfOk result (λ rows. rows ≡ rows_as R.row_of schema tables.now) }
+    ensures right { OnOk result (table_faults schema tables.now ≡ []) }
+    ensures wrong { IfErr result (IsRefusal (table_faults schema tables.now)) }
 {
-    Ok(Seq::from_vec(read_table(alloc, schema, tables)?))
+    Ok(Seq::from_vec(read_table(alloc, &schema, tables)?))
 }
 
 /// No rows.
@@ -64,17 +64,16 @@ fn empty_net(alloc: Global) -> Net
 }
 
 /// Reads BASIS_VER_GUELTIGKEIT, FIRMENKALENDER and REC_FRT.
-fn read_calendar(alloc: Global, tables: &[Table]) -> Result<Net, Refusal>
+fn read_calendar(alloc: Global, tables: &[Table], net: &mut Net) -> Result<(), Refusal>
     requires { All (λ table. length table.rows < 2 ^ 32) tables.now }
-    ensures rows { IfOk result (λ net. net ≡ net_of Needs.Calendar tables.now) }
+    ensures rows { OnOk result (net.new ≡ with_calendar net.old tables.now) }
     ensures right { OnOk result (faults_of (schemas_of Needs.Calendar) tables.now ≡ []) }
     ensures wrong { IfErr result (IsRefusal (faults_of (schemas_of Needs.Calendar) tables.now)) }
 {
-    let mut net = empty_net(alloc);
-    net.versions = read_rows(alloc, tables, &standard::versions(alloc)?)?;
-    net.days = read_rows(alloc, tables, &standard::days(alloc)?)?;
-    net.trips = read_rows(alloc, tables, &standard::trips(alloc)?)?;
-    Ok(net)
+    net.versions = read_rows(alloc, tables, standard::versions(alloc)?)?;
+    net.days = read_rows(alloc, tables, standard::days(alloc)?)?;
+    net.trips = read_rows(alloc, tables, standard::trips(alloc)?)?;
+    Ok(())
 }
 
 /// Reads BASIS_VER_GUELTIGKEIT, FIRMENKALENDER, REC_ORT and REC_SEL.
@@ -84,10 +83,10 @@ fn read_places(alloc: Global, tables: &[Table], net: &mut Net) -> Result<(), Ref
     ensures right { OnOk result (faults_of place_schemas tables.now ≡ []) }
     ensures wrong { IfErr result (IsRefusal (faults_of place_schemas tables.now)) }
 {
-    net.versions = read_rows(alloc, tables, &standard::versions(alloc)?)?;
-    net.days = read_rows(alloc, tables, &standard::days(alloc)?)?;
-    net.points = read_rows(alloc, tables, &standard::points(alloc)?)?;
-    net.sections = read_rows(alloc, tables, &standard::sections(alloc)?)?;
+    net.versions = read_rows(alloc, tables, standard::versions(alloc)?)?;
+    net.days = read_rows(alloc, tables, standard::days(alloc)?)?;
+    net.points = read_rows(alloc, tables, standard::points(alloc)?)?;
+    net.sections = read_rows(alloc, tables, standard::sections(alloc)?)?;
     Ok(())
 }
 
@@ -98,9 +97,9 @@ fn read_times(alloc: Global, tables: &[Table], net: &mut Net) -> Result<(), Refu
     ensures right { OnOk result (faults_of time_schemas tables.now ≡ []) }
     ensures wrong { IfErr result (IsRefusal (faults_of time_schemas tables.now)) }
 {
-    net.runs = read_rows(alloc, tables, &standard::runs(alloc)?)?;
-    net.group_dwells = read_rows(alloc, tables, &standard::group_dwells(alloc)?)?;
-    net.trip_dwells = read_rows(alloc, tables, &standard::trip_dwells(alloc)?)?;
+    net.runs = read_rows(alloc, tables, standard::runs(alloc)?)?;
+    net.group_dwells = read_rows(alloc, tables, standard::group_dwells(alloc)?)?;
+    net.trip_dwells = read_rows(alloc, tables, standard::trip_dwells(alloc)?)?;
     Ok(())
 }
 
@@ -111,11 +110,11 @@ fn read_trips(alloc: Global, tables: &[Table], net: &mut Net) -> Result<(), Refu
     ensures right { OnOk result (faults_of trip_schemas tables.now ≡ []) }
     ensures wrong { IfErr result (IsRefusal (faults_of trip_schemas tables.now)) }
 {
-    net.lines = read_rows(alloc, tables, &standard::lines(alloc)?)?;
-    net.stops = read_rows(alloc, tables, &standard::stops(alloc)?)?;
-    net.trips = read_rows(alloc, tables, &standard::trips(alloc)?)?;
-    net.deads = read_rows(alloc, tables, &standard::deads(alloc)?)?;
-    net.types = read_rows(alloc, tables, &standard::types(alloc)?)?;
+    net.lines = read_rows(alloc, tables, standard::lines(alloc)?)?;
+    net.stops = read_rows(alloc, tables, standard::stops(alloc)?)?;
+    net.trips = read_rows(alloc, tables, standard::trips(alloc)?)?;
+    net.deads = read_rows(alloc, tables, standard::deads(alloc)?)?;
+    net.types = read_rows(alloc, tables, standard::types(alloc)?)?;
     Ok(())
 }
 
@@ -126,42 +125,48 @@ fn read_own(alloc: Global, tables: &[Table], net: &mut Net) -> Result<(), Refusa
     ensures right { OnOk result (faults_of own_schemas tables.now ≡ []) }
     ensures wrong { IfErr result (IsRefusal (faults_of own_schemas tables.now)) }
 {
-    net.plan = read_rows(alloc, tables, &own::plan(alloc)?)?;
-    net.depots = read_rows(alloc, tables, &own::depots(alloc)?)?;
-    net.line_types = read_rows(alloc, tables, &own::line_types(alloc)?)?;
-    net.reliefs = read_rows(alloc, tables, &own::reliefs(alloc)?)?;
-    net.ways = read_rows(alloc, tables, &own::ways(alloc)?)?;
-    net.drivers = read_rows(alloc, tables, &own::drivers(alloc)?)?;
+    net.plan = read_rows(alloc, tables, own::plan(alloc)?)?;
+    net.depots = read_rows(alloc, tables, own::depots(alloc)?)?;
+    net.line_types = read_rows(alloc, tables, own::line_types(alloc)?)?;
+    net.reliefs = read_rows(alloc, tables, own::reliefs(alloc)?)?;
+    net.ways = read_rows(alloc, tables, own::ways(alloc)?)?;
+    net.drivers = read_rows(alloc, tables, own::drivers(alloc)?)?;
     Ok(())
 }
 
 /// Reads all tables.
-fn read_all(alloc: Global, tables: &[Table]) -> Result<Net, Refusal>
+fn read_all(alloc: Global, tables: &[Table], net: &mut Net) -> Result<(), Refusal>
     requires { All (λ table. length table.rows < 2 ^ 32) tables.now }
-    ensures rows { IfOk result (λ net. net ≡ net_of Needs.All tables.now) }
+    ensures rows { OnOk result (net.new ≡ with_all net.old tables.now) }
     ensures right { OnOk result (faults_of (schemas_of Needs.All) tables.now ≡ []) }
     ensures wrong { IfErr result (IsRefusal (faults_of (schemas_of Needs.All) tables.now)) }
 {
-    let mut net = empty_net(alloc);
-    read_places(alloc, tables, &mut net)?;
-    read_times(alloc, tables, &mut net)?;
-    read_trips(alloc, tables, &mut net)?;
-    read_own(alloc, tables, &mut net)?;
-    Ok(net)
+    read_places(alloc, tables, net)?;
+    read_times(alloc, tables, net)?;
+    read_trips(alloc, tables, net)?;
+    read_own(alloc, tables, net)?;
+    Ok(())
 }
 
+/// Reads the tables that are needed.
 fn read_needed(alloc: Global, tables: &[Table], needs: Needs) -> Result<Net, Refusal>
     requires { All (λ table. length table.rows < 2 ^ 32) tables.now }
     ensures rows { IfOk result (λ net. net ≡ net_of needs tables.now) }
     ensures right { OnOk result (faults_of (schemas_of needs) tables.now ≡ []) }
     ensures wrong { IfErr result (IsRefusal (faults_of (schemas_of needs) tables.now)) }
 {
-    match needs {
-        Needs::Calendar => read_calendar(alloc, tables),
-        Needs::All => read_all(alloc, tables),
+    let mut net = empty_net(alloc);
+    let read = match needs {
+        Needs::Calendar => read_calendar(alloc, tables, &mut net),
+        Needs::All => read_all(alloc, tables, &mut net),
+    };
+    match read {
+        Ok(()) => Ok(net),
+        Err(refusal) => Err(refusal),
     }
 }
 
+/// Reads the tables that are needed, and makes their indexes.
 fn read_network(alloc: Global, tables: &[Table], needs: Needs) -> Result<Network, Refusal>
     requires { All (λ table. length table.rows < 2 ^ 32) tables.now }
     ensures rows { IfOk result (λ net. net ≡ net_of needs tables.now) }

@@ -38,6 +38,7 @@ pub struct StopRow {
 impl TypedRow for LineRow {
     ghost row_of = { typed_rows.line_row };
 
+    #[tactic(auto, unfolding(crate::specs::TypedRows::line_row))]
     fn from_cells(alloc: Global, cells: &[Cell], _place: u32) -> Result<LineRow, Memory> {
         Ok(LineRow {
             version: number_at(cells, 0),
@@ -51,6 +52,7 @@ impl TypedRow for LineRow {
 impl TypedRow for StopRow {
     ghost row_of = { typed_rows.stop_row };
 
+    #[tactic(auto, unfolding(crate::specs::TypedRows::stop_row))]
     fn from_cells(alloc: Global, cells: &[Cell], _place: u32) -> Result<StopRow, Memory> {
         Ok(StopRow {
             version: number_at(cells, 0),

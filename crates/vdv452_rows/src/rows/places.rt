@@ -28,6 +28,7 @@ pub struct TypeRow {
 impl TypedRow for PointRow {
     ghost row_of = { typed_rows.point_row };
 
+    #[tactic(auto, unfolding(crate::specs::TypedRows::point_row))]
     fn from_cells(_alloc: Global, cells: &[Cell], _place: u32) -> Result<PointRow, Memory> {
         Ok(PointRow {
             version: number_at(cells, 0),
@@ -39,6 +40,7 @@ impl TypedRow for PointRow {
 impl TypedRow for TypeRow {
     ghost row_of = { typed_rows.type_row };
 
+    #[tactic(auto, unfolding(crate::specs::TypedRows::type_row))]
     fn from_cells(_alloc: Global, cells: &[Cell], _place: u32) -> Result<TypeRow, Memory> {
         Ok(TypeRow {
             version: number_at(cells, 0),

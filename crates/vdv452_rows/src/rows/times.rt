@@ -85,6 +85,7 @@ pub struct DeadRow {
 impl TypedRow for SectionRow {
     ghost row_of = { typed_rows.section_row };
 
+    #[tactic(auto, unfolding(crate::specs::TypedRows::section_row))]
     fn from_cells(_alloc: Global, cells: &[Cell], _place: u32) -> Result<SectionRow, Memory> {
         Ok(SectionRow {
             version: number_at(cells, 0),
@@ -99,6 +100,7 @@ impl TypedRow for SectionRow {
 impl TypedRow for RunRow {
     ghost row_of = { typed_rows.run_row };
 
+    #[tactic(auto, unfolding(crate::specs::TypedRows::run_row))]
     fn from_cells(_alloc: Global, cells: &[Cell], _place: u32) -> Result<RunRow, Memory> {
         Ok(RunRow {
             version: number_at(cells, 0),
@@ -114,6 +116,7 @@ impl TypedRow for RunRow {
 impl TypedRow for GroupDwellRow {
     ghost row_of = { typed_rows.group_dwell_row };
 
+    #[tactic(auto, unfolding(crate::specs::TypedRows::group_dwell_row))]
     fn from_cells(_alloc: Global, cells: &[Cell], _place: u32) -> Result<GroupDwellRow, Memory> {
         Ok(GroupDwellRow {
             version: number_at(cells, 0),
@@ -127,6 +130,7 @@ impl TypedRow for GroupDwellRow {
 impl TypedRow for TripDwellRow {
     ghost row_of = { typed_rows.trip_dwell_row };
 
+    #[tactic(auto, unfolding(crate::specs::TypedRows::trip_dwell_row))]
     fn from_cells(_alloc: Global, cells: &[Cell], _place: u32) -> Result<TripDwellRow, Memory> {
         Ok(TripDwellRow {
             version: number_at(cells, 0),
@@ -140,6 +144,7 @@ impl TypedRow for TripDwellRow {
 impl TypedRow for DeadRow {
     ghost row_of = { typed_rows.dead_row };
 
+    #[tactic(auto, unfolding(crate::specs::TypedRows::dead_row))]
     fn from_cells(_alloc: Global, cells: &[Cell], _place: u32) -> Result<DeadRow, Memory> {
         Ok(DeadRow {
             version: number_at(cells, 0),
