@@ -52,54 +52,27 @@ pub(crate) fn offer_next<R: Threads + Sync, P: Pricer + Sync, G: Gate + Sync>(
     gate: &G,
     workers: &Workers,
     setting: &Setting,
-    walk: Walk,
-) -> Result<(Walk, Seq<Column>), Memory>
+    walk: &mut Walk,
+) -> Result<Seq<Column>, Memory>
     requires setting { IsSetting (P.problem problem.now) setting.now }
-    requires walk { IsWalk (P.problem problem.now) walk }
-    ensures walk { IfOk result (λ r. IsWalk (P.problem problem.now) r.0) }
-    ensures columns { IfOk result (λ r. AreReady (P.problem problem.now) r.1) }
+    requires walk { IsWalk (P.problem problem.now) walk.old }
+    ensures walk { OnOk result (IsWalk (P.problem problem.now) walk.new) }
+    ensures columns { IfOk result (AreReady (P.problem problem.now)) }
 {
-    let Walk {
-        course,
-        at,
-        centre,
-        scaled,
-        guess,
-        kept,
-        over,
-    } = walk;
-    let offered = offer(alloc, problem, rt, gate, workers, setting, &at, kept)?;
+    let before = walk.kept.take();
+    let offered = offer(alloc, problem, rt, gate, workers, setting, &walk.at, before)?;
     let Offered {
         kept,
         columns,
         estimate,
     } = offered;
-    let kept = Some(kept);
-    if is_better(guess, estimate.bound) {
-        let centre = copy_of(alloc, &at)?;
-        let scaled = scaled_for(alloc, problem, &at, estimate.scale)?;
-        let guess = Some(estimate.bound);
-        let walk = Walk {
-            course,
-            at,
-            centre,
-            scaled,
-            guess,
-            kept,
-            over,
-        };
-        return Ok((walk, columns));
+    walk.kept = Some(kept);
+    if is_better(walk.guess, estimate.bound) {
+        walk.centre = copy_of(alloc, &walk.at)?;
+        walk.scaled = scaled_for(alloc, problem, &walk.at, estimate.scale)?;
+        walk.guess = Some(estimate.bound);
     }
-    let walk = Walk {
-        course,
-        at,
-        centre,
-        scaled,
-        guess,
-        kept,
-        over,
-    };
-    Ok((walk, columns))
+    Ok(columns)
 }
 
 /// Whether there is a plan, and the best estimate is so near its cost that no plan is cheaper where the estimate comes true: above the next

@@ -61,23 +61,23 @@ fn lowering_round<R: Threads + Sync, P: Pricer + Sync, G: Gate + Sync>(
     workers: &Workers,
     setting: &Setting,
     search: &mut Search,
-    walk: Walk,
+    walk: &mut Walk,
     asked: &[i64],
-) -> Result<Walk, Memory>
+) -> Result<(), Memory>
     requires setting { IsSetting (P.problem problem.now) setting.now }
     requires search { IsSearch (P.problem problem.now) search.old }
-    requires walk { IsWalk (P.problem problem.now) walk }
+    requires walk { IsWalk (P.problem problem.now) walk.old }
     requires classes { length asked.now ≡ length (P.problem problem.now).caps }
     requires asked { AreAsked asked.now }
     ensures search { OnOk result (IsSearch (P.problem problem.now) search.new) }
-    ensures walk { IfOk result (IsWalk (P.problem problem.now)) }
+    ensures walk { OnOk result (IsWalk (P.problem problem.now) walk.new) }
 {
-    let (mut walk, columns) = offer_next(alloc, problem, rt, gate, workers, setting, walk)?;
+    let columns = offer_next(alloc, problem, rt, gate, workers, setting, walk)?;
     search.stock.add(alloc, problem, columns)?;
     let before = copy_of(alloc, &walk.at)?;
     lower_all(problem, &search.stock, &mut walk.at, asked)?;
     walk.over = before.items == walk.at.items;
-    Ok(walk)
+    Ok(())
 }
 
 /// All lowering rounds, from the centre, while the walk is not over.
@@ -105,7 +105,7 @@ pub(crate) fn lowering_rounds<R: Threads + Sync, P: Pricer + Sync, G: Gate + Syn
         if walk.over {
             return Ok(walk);
         }
-        walk = lowering_round(
+        lowering_round(
             alloc,
             problem,
             rt,
@@ -113,7 +113,7 @@ pub(crate) fn lowering_rounds<R: Threads + Sync, P: Pricer + Sync, G: Gate + Syn
             workers,
             setting,
             search,
-            walk,
+            &mut walk,
             asked.as_slice(),
         )?;
     }

@@ -37,25 +37,24 @@ pub(crate) fn climb_often<C: Columns>(
     ground: &Ground,
     stock: &mut Stock,
     rest: &Rest,
-    course: Course,
-) -> Result<Course, Memory>
+    course: &mut Course,
+) -> Result<(), Memory>
     requires ground { IsGround (C.problem problem.now) ground.now }
     requires stock { IsStock (C.problem problem.now) stock.old }
     requires rest { IsRest (C.problem problem.now) rest.now }
-    requires course { IsCourse (C.problem problem.now) course }
-    ensures course { IfOk result (IsCourse (C.problem problem.now)) }
+    requires course { IsCourse (C.problem problem.now) course.old }
+    ensures course { OnOk result (IsCourse (C.problem problem.now) course.new) }
     ensures stock { OnOk result (IsStock (C.problem problem.now) stock.new) }
 {
-    let mut course = course;
     for _climb in 0..5u32 {
         let pace = course.pace;
-        course = climb_once(alloc, problem, ground, stock, rest, &course.prices, pace)?;
+        *course = climb_once(alloc, problem, ground, stock, rest, &course.prices, pace)?;
         course.pace = next_pace(course.pace);
         if !course.grew {
-            return Ok(course);
+            return Ok(());
         }
     }
-    Ok(course)
+    Ok(())
 }
 
 /// Lowers prices by all columns of a stock.
@@ -83,14 +82,14 @@ fn climb_step<C: Columns>(
     problem: &C,
     setting: &Setting,
     search: &mut Search,
-    course: Course,
+    course: &mut Course,
     columns: Seq<Column>,
-) -> Result<Course, Memory>
+) -> Result<(), Memory>
     requires setting { IsSetting (C.problem problem.now) setting.now }
     requires search { IsSearch (C.problem problem.now) search.old }
-    requires course { IsCourse (C.problem problem.now) course }
+    requires course { IsCourse (C.problem problem.now) course.old }
     requires columns { AreReady (C.problem problem.now) columns }
-    ensures course { IfOk result (IsCourse (C.problem problem.now)) }
+    ensures course { OnOk result (IsCourse (C.problem problem.now) course.new) }
     ensures search { OnOk result (IsSearch (C.problem problem.now) search.new) }
 {
     search.stock.add(alloc, problem, columns)?;
@@ -217,48 +216,45 @@ fn price_round<R: Threads + Sync, P: Pricer + Sync, G: Gate + Sync>(
     setting: &Setting,
     steps: u32,
     search: Search,
-    walk: Walk,
+    walk: &mut Walk,
     dives: bool,
-) -> Result<(Search, Walk), Memory>
+) -> Result<Search, Memory>
     requires setting { IsSetting (P.problem problem.now) setting.now }
     requires search { IsSearch (P.problem problem.now) search }
-    requires walk { IsWalk (P.problem problem.now) walk }
-    ensures search { IfOk result (λ r. IsSearch (P.problem problem.now) r.0) }
-    ensures walk { IfOk result (λ r. IsWalk (P.problem problem.now) r.1) }
+    requires walk { IsWalk (P.problem problem.now) walk.old }
+    ensures search { IfOk result (IsSearch (P.problem problem.now)) }
+    ensures walk { OnOk result (IsWalk (P.problem problem.now) walk.new) }
 {
     let mut search = search;
-    let (walk, columns) = offer_next(alloc, problem, rt, gate, workers, setting, walk)?;
+    let columns = offer_next(alloc, problem, rt, gate, workers, setting, walk)?;
     if is_near(&search, walk.guess, problem.items()) {
-        let mut walk = walk;
         walk.over = true;
-        return Ok((search, walk));
+        return Ok(search);
     }
-    let Walk {
-        course,
-        centre,
-        scaled,
-        guess,
-        kept,
-        over,
-        ..
-    } = walk;
-    let course = climb_step(alloc, problem, setting, &mut search, course, columns)?;
+    climb_step(
+        alloc,
+        problem,
+        setting,
+        &mut search,
+        &mut walk.course,
+        columns,
+    )?;
     if dives {
         search = dive_from_nothing(
-            alloc, problem, rt, gate, workers, setting, steps, search, &course, true,
+            alloc,
+            problem,
+            rt,
+            gate,
+            workers,
+            setting,
+            steps,
+            search,
+            &walk.course,
+            true,
         )?;
     }
-    let at = next_prices(alloc, problem, &search.stock, &centre, &course)?;
-    let walk = Walk {
-        course,
-        at,
-        centre,
-        scaled,
-        guess,
-        kept,
-        over,
-    };
-    Ok((search, walk))
+    walk.at = next_prices(alloc, problem, &search.stock, &walk.centre, &walk.course)?;
+    Ok(search)
 }
 
 /// Whether a dive ends a round, counted from 1: each 20th round where only the bound is wanted, else each 8th.
@@ -299,11 +295,9 @@ pub(crate) fn price_rounds<R: Threads + Sync, P: Pricer + Sync, G: Gate + Sync>(
         }
         let dives = ends_in_dive(counted, done + 1);
         let steps = effort.exchange;
-        let next = price_round(
-            alloc, problem, rt, gate, workers, setting, steps, search, walk, dives,
+        search = price_round(
+            alloc, problem, rt, gate, workers, setting, steps, search, &mut walk, dives,
         )?;
-        search = next.0;
-        walk = next.1;
     }
     Ok((search, walk))
 }
