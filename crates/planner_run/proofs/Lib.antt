@@ -7,6 +7,7 @@ pub mod ModelOutcomes
 pub mod ModelLemmas
 pub mod PlanLemmas
 pub mod PlanOutcomes
+pub mod ReadyLemmas
 pub mod ReplanLemmas
 pub mod ReplanOutcomes
 pub mod RowReads
