@@ -79,6 +79,10 @@ build() {
     say "proved and built in $((seconds / 60)):$(printf %02d $((seconds % 60)))"
 }
 
+if ! command -v rt >/dev/null 2>&1; then
+    say "rt, the command of the Rattle toolchain, is not on the PATH"
+    exit 1
+fi
 wanted=$(checksum)
 if [ ! -x "$program" ] || [ "$(cat "$sum" 2>/dev/null)" != "$wanted" ]; then
     build
