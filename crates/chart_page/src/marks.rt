@@ -66,7 +66,7 @@ const BODY: &[u8] = b"</style>\n\
 /// What stands between the bounds and the chart of the blocks: the search and the legend.
 const BLOCKS: &[u8] = b"</tbody>\n\
 </table>\n\
-<p>No plan lies below a bound: none has fewer blocks, and none of the same blocks has fewer duties; none costs less.\n\
+<p>No plan lies below a bound: none has fewer blocks or cheaper ones, and none of the same blocks has fewer duties or cheaper ones.\n\
 A distance is how far the plan lies above the bound, in per cent of the bound.</p>\n\
 <p class='find'><label>Find a trip by its number: <input id='trip' inputmode='numeric'></label> <output id='found'></output></p>\n\
 <h2>Vehicle blocks by pool</h2>\n\
