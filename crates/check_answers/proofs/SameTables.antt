@@ -1,5 +1,5 @@
 -- Tables do not differ from themselves, where their names differ from one another.
-use Rattle.std.proofs.Common.{◌≡◌, ℕ, ℤ, zero, suc, ◌+◌, ◌<◌, ◌&&◌, Bool, true, false, not, cond, if◌then◌else◌, nat_eq, min, List, ◌∷◌, length, take, drop, get_or, Option, Some, None, refl, ap, ◌∙◌, arith, []}
+use Rattle.std.proofs.Common.{◌≡◌, ℕ, ℤ, zero, suc, ◌+◌, ◌<◌, ◌==◌, ◌&&◌, Bool, true, false, not, cond, if◌then◌else◌, nat_eq, min, List, ◌∷◌, length, take, drop, get_or, Option, Some, None, refl, ap, ◌∙◌, arith, []}
 use Rattle.std.specs.Prelude.{count_by}
 use Rattle.std.proofs.lemmas.Bool.Decides.{Decides-int_eq, nat_tests}
 use Rattle.std.proofs.lemmas.List.Sums.{sum_by-cons}
@@ -13,7 +13,8 @@ use Rattle.vdv451_text.specs.declared.table.Field.TheVariants.{Num, Text, Raw, E
 use Rattle.vdv451_text.specs.declared.table.Head.{Head}
 use Rattle.vdv451_text.specs.declared.table.Table.{Table}
 use Rattle.vdv452_rows.specs.Rows.{has_name}
-use Rattle.table_differences.specs.Differences.{aside_in, difference_among, difference_from, difference_on, end_difference, first_difference, found_or, only_one, pair_or_end, row_difference, same_field, same_fields, same_head, same_heads, same_row, table_difference}
+use Rattle.number_tables.specs.Single.{single_in}
+use Rattle.table_differences.specs.Differences.{aside_in, difference_among, difference_from, difference_on, end_difference, first_difference, found_or, pair_or_end, row_difference, same_field, same_fields, same_head, same_heads, same_row, table_difference}
 use Rattle.check_answers.proofs.Apart.{Apart, IsOther, each, each-at, one_if}
 
 own-text : (xs : List ℕ) → bytes_eq xs xs ≡ true
@@ -114,14 +115,14 @@ found (t ∷ ts) (suc k) d apart within =
     ap (λ (b : Bool). cond b (Some t) (find (has_name u.name) ts)) other.1 ∙ found ts k d apart.1 (omega (arith, within))
 
 only-itself : (ts : List Table) (k : ℕ) (d : Table) → Apart named ts → k < length ts →
-    only_one (get_or ts k d).name ts ≡ Some (get_or ts k d)
+    single_in (get_or ts k d).name ts ≡ Some (get_or ts k d)
 only-itself ts k d apart within =
     let u = get_or ts k d in
-    ap (λ (n : ℕ). if nat_eq n 1 then find (has_name u.name) ts else None) (once ts k d apart within) ∙ found ts k d apart within
+    ap (λ (n : ℕ). if n == 1 then find (has_name u.name) ts else None) (once ts k d apart within) ∙ found ts k d apart within
 
 -- each of some tables is found among the given ones
 abbrev AreAmong : List Table → List Table → Type 0
-AreAmong given ts = AllByRecursion (λ (t : Table). only_one t.name given ≡ Some t) ts
+AreAmong given ts = AllByRecursion (λ (t : Table). single_in t.name given ≡ Some t) ts
 
 no-difference-on : (table column : List ℕ) (given : List Table) (number : ℕ) (made : List Table) → AreAmong given made →
     difference_on table column given number made ≡ None
@@ -143,4 +144,4 @@ from-places P (x ∷ xs) all = (all 0 x (omega arith), from-places P xs (λ k d 
 pub no-difference : (table column : List ℕ) (ts : List Table) → Apart named ts → first_difference table column ts ts ≡ None
 no-difference table column ts apart =
     no-difference-on table column ts 0 ts
-    (from-places (λ (t : Table). only_one t.name ts ≡ Some t) ts (λ k d within. only-itself ts k d apart within))
+    (from-places (λ (t : Table). single_in t.name ts ≡ Some t) ts (λ k d within. only-itself ts k d apart within))

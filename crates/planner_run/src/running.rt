@@ -41,19 +41,20 @@ fn tell_refusal<E: Sink>(err: &mut E, words: &[Bytes], status: &Status)
 /// Carries out the command that the words say, over the files and sinks that are handed in.
 ///
 /// `words` has no program name. The command `trips DAY FILE..` writes to `out` the table REC_FRT with the rows of the day's trips,
-/// unchanged, by departure and number; `day DAY FILE..` writes X_TAG and X_FAHRT, what the day is and when and how far its trips go;
-/// `plan DAY FILE..` plans the day: vehicle blocks of its trips, each trip in exactly one block of one pool within its vehicles; driver
-/// duties over the pieces that the blocks are cut into, each piece in exactly one duty that keeps articles 6 to 8 of Regulation (EC)
-/// 561/2006; their costs; and bounds that no lawful plan lies below. It writes REC_UMLAUF, REC_FRT, X_UMLAUF, X_UMLAUF_TEIL, X_DIENST,
-/// X_DIENST_STUECK and X_SCHRANKE. `make SEED` makes a day from a number and writes its tables, or with `--run` plans it and writes X_KURZ
-/// and X_SCHRANKE; it reads no file. `certify DAY FILE..` writes the certificate of the plan that `plan` writes with the same words:
-/// X_PREIS, X_KLASSENPREIS, X_MARKE and X_UMARKE. `check DAY PLAN CERT FILE..` reads the planning files, then a plan and a certificate, and
-/// writes `yes` where both hold, or else `no` with number and name of the first reason, and then it ends with CheckNo. `replan DAY MOMENT PLAN
-/// FILE..` reads the planning files, then a plan of the day, keeps of its blocks and duties what has begun before the moment, in seconds of the
-/// operating day, plans the rest anew, and writes the tables that `plan` writes; the bounds are on all plans that keep as much. Where PLAN is no
-/// plan of the day it ends with OldPlan. Each text is the same for any number of workers, any `rt` and any `gate`; with `--climb`, which finds
-/// plan and bounds by the other method, all is promised but that. Nothing is written before the whole text is computed. A refusal writes one
-/// line to `err`; a write that fails there changes no status.
+/// unchanged, by departure and number; `day DAY FILE..` writes X_TAG and X_FAHRT, what the day is and when and how far its trips go; `plan
+/// DAY FILE..` plans the day: vehicle blocks of its trips, each trip in exactly one block of one pool within its vehicles; driver duties
+/// over the pieces that the blocks are cut into, each piece in exactly one duty that keeps articles 6 to 8 of Regulation (EC) 561/2006;
+/// their costs; and bounds that no plan of blocks, and no lawful plan of duties over these pieces, lies below. It writes REC_UMLAUF,
+/// REC_FRT, X_UMLAUF, X_UMLAUF_TEIL, X_DIENST, X_DIENST_STUECK and X_SCHRANKE. `make SEED` makes a day from a number and writes its
+/// tables, or with `--run` plans it and writes X_KURZ and X_SCHRANKE; it reads no file. `week ROSTER` reads a roster and writes X_URTEIL:
+/// what articles 6 and 8 deny of its duties, each denial once, in order. `certify DAY FILE..` writes the certificate of the plan that
+/// `plan` writes with the same words: X_PREIS, X_KLASSENPREIS, X_MARKE and X_UMARKE. `check DAY PLAN CERT FILE..` reads the planning
+/// files, then a plan and a certificate, and writes `yes` where both hold, or else `no` with number and name of the first reason, and then
+/// it ends with CheckNo. `replan DAY MOMENT PLAN FILE..` reads the planning files, then a plan of the day, keeps of its blocks and duties
+/// what has begun before the moment, in seconds of the operating day, plans the rest anew, and writes the tables that `plan` writes; the
+/// bounds are on all plans that keep as much. Where PLAN is no plan of the day it ends with OldPlan. Each text is the same for any number
+/// of workers, any `rt` and any `gate`; with `--climb`, which finds plan and bounds by the other method, all is promised but that. Nothing
+/// is written before the whole text is computed. A refusal writes one line to `err`; a write that fails there changes no status.
 pub fn run<R: Threads + Sync, F: Files, O: Sink, E: Sink, G: Gate + Sync>(
     rt: &R,
     alloc: Global,

@@ -1,13 +1,14 @@
 -- Promise: the first place where tables are not the ones that they should be.
-use Rattle.std.specs.Prelude.{ℕ, ◌+◌, ◌&&◌, min, not, Bool, true, false, nat_eq, List, [], ◌∷◌, length, count_by, drop, take, Option, Some, None, if◌then◌else◌}
-use Rattle.std.specs.List.{find, list_all, position_from, zip}
+use Rattle.std.specs.Prelude.{ℕ, ◌+◌, ◌&&◌, min, not, Bool, true, false, nat_eq, List, ◌∷◌, length, drop, take, Option, Some, None, if◌then◌else◌, []}
+use Rattle.std.specs.List.{list_all, position_from, zip}
 use Rattle.std.specs.Ordering.{int_eq}
 use Rattle.std.specs.Str.{bytes_eq}
 use Rattle.vdv451_text.specs.declared.table.Field.{Field}
 use Rattle.vdv451_text.specs.declared.table.Field.TheVariants.{Num, Text, Raw, Empty}
 use Rattle.vdv451_text.specs.declared.table.Head.{Head}
 use Rattle.vdv451_text.specs.declared.table.Table.{Table}
-use Rattle.vdv452_rows.specs.Rows.{has_name, place_of}
+use Rattle.vdv452_rows.specs.Rows.{place_of}
+use Rattle.number_tables.specs.Single.{single_in}
 use Rattle.table_differences.specs.declared.difference.Difference.{Difference}
 
 -- fields of one kind with one content
@@ -64,17 +65,13 @@ aside_in table column made = if bytes_eq made.name table then place_of column ma
 abbrev pub table_difference : Option ℕ → Table → Table → Option ℕ
 table_difference aside given made = if same_heads given.columns made.columns then row_difference aside given.rows made.rows else Some 0
 
--- the table of a name, where it stands once
-abbrev pub only_one : List ℕ → List Table → Option Table
-only_one name tables = if nat_eq (count_by (has_name name) tables) 1 then find (has_name name) tables else None
-
 abbrev pub difference_from : Option ℕ → Table → Option Table → Option ℕ
 difference_from aside made None = Some 0
 difference_from aside made (Some given) = table_difference aside given made
 
 -- the same of the table of its name among others, which differs as a whole too where it is missing or stands twice
 abbrev pub difference_among : List ℕ → List ℕ → List Table → Table → Option ℕ
-difference_among table column given made = difference_from (aside_in table column made) made (only_one made.name given)
+difference_among table column given made = difference_from (aside_in table column made) made (single_in made.name given)
 
 abbrev pub difference : ℕ → ℕ → Difference
 difference table row = record { table = table; row = row }

@@ -1,14 +1,13 @@
 //! Tables compared with those that should be there.
 #![tactic(auto)]
 
-ghost use Rattle.std.specs.Prelude.{◌≡◌, ◌≤◌, ◌<◌, ◌+◌, IfSome, count_by, length};
-ghost use Rattle.std.specs.List.{find};
-ghost use Rattle.std.specs.Option.{option_copied};
+ghost use Rattle.std.specs.Prelude.{◌≡◌, ◌≤◌, ◌<◌, ◌+◌, IfSome, length};
 ghost use Rattle.vdv452_rows.specs.Rows.{has_name as has_name_spec};
 ghost use Rattle.table_differences.specs.Differences as spec;
 
 use crate::difference::Difference;
 use crate::rows::table_difference;
+use number_tables::single_table;
 use vdv451_text::Table;
 use vdv452_tables::column_place;
 
@@ -28,31 +27,6 @@ fn has_name(table: &Table, name: &[u8]) -> bool
     table.name.as_slice() == name
 }
 
-/// How many tables of a name there are.
-fn count_of(tables: &[Table], name: &[u8]) -> usize
-    ensures { result ≡ count_by (has_name_spec name.now) tables.now }
-{
-    tables.iter().filter(|table| has_name(table, name)).count()
-}
-
-/// The first table of a name.
-fn first_of<'t>(tables: &'t [Table], name: &[u8]) -> Option<&'t Table>
-    ensures { option_copied result ≡ find (has_name_spec name.now) tables.now }
-{
-    tables.iter().find(|table| has_name(table, name))
-}
-
-/// The table of a name, where it stands once.
-fn only_one<'t>(tables: &'t [Table], name: &[u8]) -> Option<&'t Table>
-    ensures { option_copied result ≡ spec.only_one name.now tables.now }
-{
-    if count_of(tables, name) == 1 {
-        first_of(tables, name)
-    } else {
-        None
-    }
-}
-
 /// The place of the column that is left aside, where it is one of this table.
 fn aside_in(aside: &Aside<'_>, made: &Table) -> Option<usize>
     ensures { result ≡ spec.aside_in aside.now.table.now aside.now.column.now made.now }
@@ -69,7 +43,7 @@ fn difference_among(aside: &Aside<'_>, given: &[Table], made: &Table) -> Option<
     ensures difference { result ≡ spec.difference_among aside.now.table.now aside.now.column.now given.now made.now }
     ensures within { IfSome result (λ row. row ≤ length made.now.rows + 1) }
 {
-    match only_one(given, made.name.as_slice()) {
+    match single_table(given, made.name.as_slice()) {
         None => Some(0),
         Some(table) => table_difference(aside_in(aside, made), table, made),
     }

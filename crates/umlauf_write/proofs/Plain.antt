@@ -1,8 +1,6 @@
 -- The tables are plain.
-use Rattle.std.proofs.Common.{◌≡◌, ℕ, ◌+◌, ◌<◌, ◌≤◌, ◌^◌, Bool, true, false, ◌==◌, zero, suc, All, List, [], ◌∷◌, length, Option, Some, None, IfSome, Result, Ok, Err, IfOk, refl, ◌∙◌, ap, arith, slice_set, slice_index_or, decimal, codes, pos, if◌then◌else◌}
-use Rattle.std.proofs.lemmas.Bool.Decides.{nat_tests}
+use Rattle.std.proofs.Common.{◌≡◌, ℕ, ◌+◌, ◌<◌, ◌≤◌, ◌^◌, Bool, true, false, ◌==◌, zero, suc, List, ◌∷◌, length, Option, Some, None, IfSome, Result, Ok, Err, IfOk, refl, ◌∙◌, ap, arith, slice_set, slice_index_or, decimal, pos, if◌then◌else◌, []}
 use Rattle.std.proofs.lemmas.List.{length-set}
-use Rattle.std.proofs.lemmas.List.Elements.{All-head, All-tail}
 use Rattle.std.specs.Option.{option_map}
 use Rattle.std.specs.List.{list_all, zip}
 use Rattle.std.specs.Str.{bytes_eq}
@@ -12,13 +10,13 @@ use Rattle.vdv451_text.specs.declared.table.Field.TheVariants.{Num, Raw}
 use Rattle.vdv451_text.specs.declared.table.Head.{Head}
 use Rattle.vdv451_text.specs.declared.table.Table.{Table}
 use Rattle.vdv451_text.specs.Fields.{is_num_format}
-use Rattle.vdv451_text.specs.Plain.{are_plain, are_plain_columns, is_plain_field, is_plain_name, is_plain_row, is_plain_table}
+use Rattle.vdv451_text.specs.Plain.{is_plain_field, is_plain_row, is_plain_table}
 use Rattle.vdv451_text.proofs.FieldsBack.{digits_plain}
 use Rattle.vdv452_rows.specs.Rows.{place_of}
 use Rattle.cover_core.specs.declared.Column.{Column}
 use Rattle.day_model.specs.Facts.{DayFacts}
 use Rattle.number_tables.specs.Numbers.{AreFull}
-use Rattle.umlauf_write.specs.Tables.{block_columns, block_of, block_row, cost_columns, cost_row, format_at, is_in, numbered, trip_row, trip_table, uid_field, with_uid}
+use Rattle.umlauf_write.specs.Tables.{block_columns, block_of, block_row, cost_columns, cost_row, format_at, is_in, numbered, uid_field, with_uid}
 
 -- rows of numbered items are full
 pub full_from : {A : Type 0} (columns : List (List ℕ)) (row : ℕ → A → List (Option ℕ)) →
@@ -103,49 +101,6 @@ block_small number (block ∷ blocks) trip =
     let later = block_small (number + 1) blocks trip in
     let split : (b : Bool) → Goal b = λ b. elim b as Goal [ true ↦ omega arith | false ↦ omega (arith, later) ] in
     split (is_in trip block)
-
--- rows of a plain table are plain
-one_plain : (p : List Field → Bool) (rows : List (List Field)) (k : ℕ) (d : List Field) → list_all p rows ≡ true → k < length rows →
-    p (slice_index_or rows k d) ≡ true
-one_plain p [] k d all within = absurd (omega (arith, within))
-one_plain p (row ∷ rows) zero d all within = (and_parts (p row) (list_all p rows) all).0
-one_plain p (row ∷ rows) (suc k) d all within = one_plain p rows k d (and_parts (p row) (list_all p rows) all).1 (omega (arith, within))
-
-trip_rows_plain : (table : Table) (blocks : List Column) (trip : ℕ) (places : List ℕ) →
-    list_all (is_plain_row table.columns) table.rows ≡ true → length blocks ≤ 3000 → All (λ place. place < length table.rows) places →
-    list_all (is_plain_row table.columns) (numbered (trip_row table blocks) trip places) ≡ true
-trip_rows_plain table blocks trip [] plain few within = refl
-trip_rows_plain table blocks trip (place ∷ places) plain few within =
-    and_from (is_plain_row table.columns (trip_row table blocks trip place))
-    (list_all (is_plain_row table.columns) (numbered (trip_row table blocks) (trip + 1) places))
-    (with_uid_plain table.columns (place_of (codes "UM_UID") table.columns) (slice_index_or table.rows place []) (block_of 1 blocks trip)
-    (place_there (codes "UM_UID") table.columns)
-    (omega (arith, block_small 1 blocks trip, few))
-    (one_plain (is_plain_row table.columns) table.rows place [] plain (All-head (λ k. k < length table.rows) place places within)))
-    (trip_rows_plain table blocks (trip + 1) places plain few (All-tail (λ k. k < length table.rows) place places within))
-
--- the trips of a plan make a plain table
-pub trip_table_plain : (day : DayFacts) (table : Table) (blocks : List Column) → is_plain_table table ≡ true → length blocks ≤ 3000 →
-    All (λ place. place < length table.rows) day.rows → is_plain_table (trip_table day table blocks) ≡ true
-trip_table_plain day table blocks plain few within =
-    let name = and_parts (is_plain_name table.name) _ plain in
-    let columns = and_parts (are_plain_columns table.columns) _ name.1 in
-    and_from (is_plain_name table.name) _ name.0
-    (and_from (are_plain_columns table.columns) _ columns.0 (trip_rows_plain table blocks 0 day.rows columns.1 few within))
-
-pub three_plain : (a b c : Table) → is_plain_table a ≡ true → is_plain_table b ≡ true → is_plain_table c ≡ true →
-    are_plain (a ∷ b ∷ c ∷ []) ≡ true
-three_plain a b c p q r = rw (p, q, r) refl
-
--- a row of a plain table is as long as its columns
-pub row_long : (table : Table) (k : ℕ) (d : List Field) → is_plain_table table ≡ true → k < length table.rows →
-    length (slice_index_or table.rows k d) ≡ length table.columns
-row_long table k d plain within =
-    let name = and_parts (is_plain_name table.name) _ plain in
-    let columns = and_parts (are_plain_columns table.columns) _ name.1 in
-    let row = one_plain (is_plain_row table.columns) table.rows k d columns.1 within in
-    let same = (and_parts (length table.columns == length (slice_index_or table.rows k d)) _ row).0 in
-    grind (arith, nat_tests, same)
 
 -- what is made is plain
 pub ok_plain : {E : Type 0} (r : Result Table E) (t : Table) → IfOk r (λ made. made ≡ t) → is_plain_table t ≡ true →

@@ -1,12 +1,11 @@
 -- Promise: the tables of a plan of blocks.
-use Rattle.std.specs.Prelude.{ℕ, ◌+◌, ◌==◌, pos, Bool, List, [], ◌∷◌, Option, Some, None, codes, decimal, slice_index_or, slice_set, if◌then◌else◌}
+use Rattle.std.specs.Prelude.{ℕ, ◌+◌, ◌==◌, pos, Bool, List, ◌∷◌, Option, Some, None, codes, decimal, slice_index_or, slice_set, if◌then◌else◌, []}
 use Rattle.std.specs.List.{list_any}
 use Rattle.vdv451_text.specs.declared.table.Field.{Field}
 use Rattle.vdv451_text.specs.declared.table.Field.TheVariants.{Num, Raw}
 use Rattle.vdv451_text.specs.declared.table.Head.{Head}
 use Rattle.vdv451_text.specs.declared.table.Table.{Table}
 use Rattle.vdv451_text.specs.Fields.{is_num_format}
-use Rattle.vdv452_rows.specs.Rows.{place_of}
 use Rattle.cover_core.specs.declared.Column.{Column}
 use Rattle.plan_params.specs.declared.rows.pool.Pool.{Pool}
 use Rattle.day_model.specs.Facts.{DayFacts}
@@ -75,16 +74,3 @@ format_at heads place = (slice_index_or heads place (record { name = []; format 
 abbrev pub with_uid : List Head → Option ℕ → List Field → ℕ → List Field
 with_uid heads None row number = row
 with_uid heads (Some place) row number = slice_set row place (uid_field (format_at heads place) number)
-
--- the row of a trip, which stands at a place, with the number of its block
-abbrev pub trip_row : Table → List Column → ℕ → ℕ → List Field
-trip_row table blocks trip place =
-    with_uid table.columns (place_of (codes "UM_UID") table.columns) (slice_index_or table.rows place []) (block_of 1 blocks trip)
-
--- REC_FRT with the rows of the day's trips by number, as they were read but for UM_UID
-abbrev pub trip_table : DayFacts → Table → List Column → Table
-trip_table day table blocks = record { name = table.name; columns = table.columns; rows = numbered (trip_row table blocks) 0 day.rows }
-
--- the tables of a plan of blocks: the blocks, the trips, and what the blocks cost
-abbrev pub plan_tables_of : DayFacts → Table → List Column → List Table
-plan_tables_of day table blocks = block_table day blocks ∷ trip_table day table blocks ∷ cost_table day blocks ∷ []

@@ -7,7 +7,6 @@ mod answer;
 mod blocks;
 mod bounds;
 mod duties;
-mod found;
 mod legs;
 mod numbers;
 mod printed;
@@ -17,5 +16,5 @@ mod trips;
 
 pub use answer::Answer;
 pub use printed::in_printed_order;
-pub use tables::{block_tables, plan_tables};
+pub use tables::plan_tables;
 pub use text::{DutyRow, PlanFault, PlanText};

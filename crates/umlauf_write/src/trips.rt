@@ -1,15 +1,18 @@
 //! The table REC_FRT of the trips of a plan.
 
-ghost use Rattle.std.specs.Prelude.{◌≡◌, ◌<◌, ◌≤◌, ℕ, true, [], All, IsTrue, IfOk, IfSome, codes, length, slice_get, slice_index, slice_index_or};
+ghost use Rattle.std.specs.Prelude.{◌≡◌, ◌<◌, ◌≤◌, ◌^◌, true, [], All, IsTrue, IfOk, IfSome, codes, filter, length, unwrap_or};
+ghost use Rattle.std.specs.List.{find};
 ghost use Rattle.plan_core.specs.Limits.{most_items};
 ghost use Rattle.cover_core.specs.Cover.{AllBelow};
 ghost use Rattle.vdv451_text.specs.Plain.{is_plain_table};
-ghost use Rattle.umlauf_write.specs.Tables.{block_of, format_at, numbered, trip_row as trip_row_of, trip_table as trip_table_of, uid_field as uid_field_of, with_uid as with_uid_of};
+ghost use Rattle.umlauf_write.specs.Tables.{block_of, format_at, numbered, uid_field as uid_field_of, with_uid as with_uid_of};
+ghost use Rattle.umlauf_write.specs.Trips.{HasOneRow, found_row, found_table as found_table_of, is_number as is_number_of, is_row_of as is_row_of_spec, row_of as row_of_spec};
 
 use crate::numbers::block_numbers;
 use cover_core::Column;
 use day_model::Day;
 use itoa::Buffer;
+use number_tables::number_in;
 use plan_core::{Bytes, Memory, Seq};
 use std::alloc::Global;
 use vdv451_text::{Field, FieldBytes, Head, Table, copied_columns, copied_row, is_number_format};
@@ -28,7 +31,7 @@ fn uid_field(alloc: Global, format: &[u8], number: u32) -> Result<Field, Memory>
 }
 
 /// A row once more, with the number of its block.
-pub(crate) fn with_uid(
+fn with_uid(
     alloc: Global,
     heads: &[Head],
     place: Option<usize>,
@@ -49,57 +52,96 @@ pub(crate) fn with_uid(
     }
 }
 
-/// The row at a place of a plain table: it has a field for each column.
-fn row_at(table: &Table, place: u32) -> &[Field]
-    requires plain { IsTrue (is_plain_table table.now) }
-    requires place { place < length table.now.rows }
-    ensures row { result.now ≡ slice_index_or table.now.rows place [] }
-    ensures long { length result.now ≡ length table.now.columns }
+/// Whether a number is there and is this one.
+fn is_number(number: u64, found: Option<i64>) -> bool
+    ensures { result ≡ is_number_of number found }
 {
-    table.rows.as_slice()[place as usize].as_slice()
+    match found {
+        Some(found) => found >= 0 && found as u64 == number,
+        None => false,
+    }
+}
+
+/// Whether a row is that of a trip of a version.
+fn is_row_of(heads: &[Head], version: u32, fid: u64, row: &[Field]) -> bool
+    ensures { result ≡ is_row_of_spec heads.now version fid row.now }
+{
+    is_number(u64::from(version), number_in(heads, row, b"BASIS_VERSION"))
+        && is_number(fid, number_in(heads, row, b"FRT_FID"))
+}
+
+/// The row of a trip of a version, by looking through all rows.
+fn row_of_trip<'t>(heads: &[Head], rows: &'t [Seq<Field>], version: u32, fid: u64) -> &'t [Field]
+    requires one { length (filter (is_row_of_spec heads.now version fid) rows.now) ≡ 1 }
+    ensures { result.now ≡ unwrap_or (find (is_row_of_spec heads.now version fid) rows.now) [] }
+{
+    for row in rows {
+        if is_row_of(heads, version, fid, row.as_slice()) {
+            return row.as_slice();
+        }
+    }
+    unreachable!()
+}
+
+/// The row of a trip of a version. It mostly stands at the place that is told first.
+fn row_of<'t>(table: &'t Table, told: u32, version: u32, fid: u64) -> &'t [Field]
+    requires one { HasOneRow table.now version fid }
+    ensures { result.now ≡ row_of_spec table.now version fid }
+{
+    let heads = table.columns.as_slice();
+    let rows = table.rows.as_slice();
+    if let Some(row) = rows.get(told as usize) {
+        if is_row_of(heads, version, fid, row.as_slice()) {
+            return row.as_slice();
+        }
+    }
+    row_of_trip(heads, rows, version, fid)
 }
 
 /// The rows of the day's trips by number, with the numbers of their blocks.
-fn trip_rows(
+fn found_rows(
     alloc: Global,
     day: &Day,
     table: &Table,
     blocks: &[Column],
 ) -> Result<Seq<Seq<Field>>, Memory>
     requires plain { IsTrue (is_plain_table table.now) }
-    requires rows { All (λ place. place < length table.now.rows) day.now.rows }
+    requires one { All (λ trip. HasOneRow table.now day.now.kind.version trip.fid) day.now.trips }
     requires few { length blocks.now ≤ most_items }
     requires items { All (λ block. AllBelow (length day.now.trips) block.items) blocks.now }
-    ensures { IfOk result (λ rows. rows ≡ numbered (trip_row_of table.now blocks.now) 0 day.now.rows) }
+    ensures { IfOk result (λ rows. rows ≡ numbered (found_row table.now day.now.kind.version blocks.now) 0 day.now.trips) }
 {
-    let numbers = block_numbers(alloc, day.trips().len(), blocks)?;
+    let trips = day.trips();
+    let told = day.rows();
+    let version = day.kind().version;
+    let numbers = block_numbers(alloc, trips.len(), blocks)?;
     let heads = table.columns.as_slice();
     let uid = column_place(heads, b"UM_UID");
     let mut rows = Seq::new(alloc);
-    for (trip, place) in day.rows().iter().enumerate() {
-        let row = row_at(table, *place);
-        rows.push(with_uid(alloc, heads, uid, row, numbers[trip])?)?;
+    for (number, trip) in trips.iter().enumerate() {
+        let row = row_of(table, told[number], version, trip.fid);
+        rows.push(with_uid(alloc, heads, uid, row, numbers[number])?)?;
     }
     Ok(rows)
 }
 
 /// The table REC_FRT with the rows of the day's trips by number, as they were read but for UM_UID, which has the numbers of their blocks.
-pub(crate) fn trip_table(
+pub(crate) fn found_table(
     alloc: Global,
     day: &Day,
     table: &Table,
     blocks: &[Column],
 ) -> Result<Table, Memory>
     requires plain { IsTrue (is_plain_table table.now) }
-    requires rows { All (λ place. place < length table.now.rows) day.now.rows }
+    requires one { All (λ trip. HasOneRow table.now day.now.kind.version trip.fid) day.now.trips }
     requires few { length blocks.now ≤ most_items }
     requires items { All (λ block. AllBelow (length day.now.trips) block.items) blocks.now }
-    ensures table { IfOk result (λ written. written ≡ trip_table_of day.now table.now blocks.now) }
+    ensures table { IfOk result (λ written. written ≡ found_table_of day.now table.now blocks.now) }
     ensures plain { IfOk result (λ written. is_plain_table written ≡ true) }
 {
     Ok(Table {
         name: table.name.clone()?,
         columns: copied_columns(alloc, table.columns.as_slice())?,
-        rows: trip_rows(alloc, day, table, blocks)?,
+        rows: found_rows(alloc, day, table, blocks)?,
     })
 }

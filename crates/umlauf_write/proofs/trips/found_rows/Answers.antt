@@ -1,7 +1,7 @@
 use Rattle.std.proofs.Common.{ap, length, ◌∙◌, rules}
 use Rattle.umlauf_write.proofs.FoundPlain.{row_long}
 use Rattle.umlauf_write.proofs.Plain.{uid_fits}
-use Rattle.umlauf_write.proofs.found.found_rows.Goals as goal
+use Rattle.umlauf_write.proofs.trips.found_rows.Goals as goal
 
 pub with_uid-requires : goal.with_uid-requires
 with_uid-requires c =

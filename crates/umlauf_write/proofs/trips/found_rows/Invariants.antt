@@ -1,7 +1,7 @@
 use Rattle.std.proofs.Common.{◌≡◌, ◌++◌, drop}
 use Rattle.umlauf_write.specs.Tables.{numbered}
 use Rattle.umlauf_write.specs.Trips.{found_row}
-use Rattle.umlauf_write.proofs.found.found_rows.Given as goal
+use Rattle.umlauf_write.proofs.trips.found_rows.Given as goal
 
 -- the rows so far stand before those of the other trips
 abbrev pub invariant-loop-number : goal.invariant-loop-number

@@ -1,7 +1,7 @@
-use Rattle.std.proofs.Common.{[], ◌∙◌, sym, ap, rules}
+use Rattle.std.proofs.Common.{◌∙◌, sym, ap, rules, []}
 use Rattle.umlauf_write.specs.Trips.{is_row_of}
 use Rattle.umlauf_write.proofs.FoundRows.{found_here}
-use Rattle.umlauf_write.proofs.found.row_of_trip.Goals as goal
+use Rattle.umlauf_write.proofs.trips.row_of_trip.Goals as goal
 
 pub returns-then-is_row_of : goal.returns-then-is_row_of
 returns-then-is_row_of c =

@@ -3,7 +3,7 @@ use Rattle.vdv451_text.specs.declared.table.Table.{Table}
 use Rattle.vdv451_text.specs.Plain.{is_plain_table}
 use Rattle.umlauf_write.specs.Trips.{found_table}
 use Rattle.umlauf_write.proofs.FoundPlain.{found_table_plain}
-use Rattle.umlauf_write.proofs.found.found_table.Goals as goal
+use Rattle.umlauf_write.proofs.trips.found_table.Goals as goal
 
 pub returns-clause-plain : goal.returns-clause-plain
 returns-clause-plain c =

@@ -1,7 +1,7 @@
 use Rattle.std.proofs.Common.{◌≡◌, drop, filter, length}
 use Rattle.std.specs.List.{find}
 use Rattle.umlauf_write.specs.Trips.{is_row_of}
-use Rattle.umlauf_write.proofs.found.row_of_trip.Given as goal
+use Rattle.umlauf_write.proofs.trips.row_of_trip.Given as goal
 
 -- the row is among those left
 abbrev pub invariant-loop-row : goal.invariant-loop-row

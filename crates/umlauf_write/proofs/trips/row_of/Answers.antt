@@ -1,7 +1,7 @@
 use Rattle.std.proofs.Common.{◌∙◌, sym, ap}
 use Rattle.umlauf_write.specs.Trips.{is_row_of}
 use Rattle.umlauf_write.proofs.FoundPlain.{row_told}
-use Rattle.umlauf_write.proofs.found.row_of.Goals as goal
+use Rattle.umlauf_write.proofs.trips.row_of.Goals as goal
 
 pub returns-then-is_row_of : goal.returns-then-is_row_of
 returns-then-is_row_of c =
