@@ -13,7 +13,7 @@ use small_networks::{STOP, driver_settings};
 use std::alloc::Global;
 use std::marker::{Send, Sync};
 use std::test::Fail;
-use tried_lists::{agrees, prices_of, searched};
+use tried_lists::{agrees, best, prices_of, searched};
 
 /// A piece from the depot to the stop, one of another block from there to the depot, and the next one of the first block, where the later
 /// two are put off.
@@ -180,5 +180,52 @@ fn have_firsts(alloc: Global) -> Result<bool, Fail> {
 #[test]
 fn lists_begin_in_their_range(rt: HostRuntime) -> Result<(), Fail> {
     assert!(rt; have_firsts(rt.alloc())?);
+    Ok(())
+}
+
+/// Sixty pieces of one block, each of five minutes and ten minutes after the one before. Every list of them is a lawful duty.
+fn sixty_pieces(alloc: Global) -> Result<Vec<Piece>, Memory> {
+    let mut pieces = Vec::new(alloc);
+    for index in 0..60 {
+        let begin = 20_000 + 600 * index;
+        pieces.push(round(1, index + 1, begin, begin + 300, 0))?;
+    }
+    Ok(pieces)
+}
+
+/// Whether a list has all sixty numbers from 0 on.
+fn has_all(list: &[u32]) -> bool {
+    for (place, item) in list.iter().enumerate() {
+        if *item as usize != place {
+            return false;
+        }
+    }
+    list.len() == 60
+}
+
+/// Whether the best duty has all sixty pieces: each that is left out spares at most 600 and gives up a price of 1,000. A search through all
+/// lists, one by one, would not end.
+fn takes_all(alloc: Global, net: &DutyNet<'_>) -> Result<bool, Fail> {
+    match best(alloc, &DutyPricer::new(net), 0, &[1_000_000; 60], -1)? {
+        None => Ok(false),
+        Some(duty) => Ok(duty.worth == 37_100 && has_all(duty.items.as_slice())),
+    }
+}
+
+fn takes_all_under(alloc: Global, params: &Params) -> Result<bool, Fail>
+    requires { HaveRanges params.now }
+{
+    let net = net_of(alloc, sixty_pieces(alloc)?, params, Worth::Cost)?;
+    takes_all(alloc, &net)
+}
+
+fn are_all_taken(alloc: Global) -> Result<bool, Fail> {
+    let params = driver_settings(alloc, GROUPS)?;
+    takes_all_under(alloc, &params)
+}
+
+#[test]
+fn worse_lists_are_left_behind(rt: HostRuntime) -> Result<(), Fail> {
+    assert!(rt; are_all_taken(rt.alloc())?);
     Ok(())
 }

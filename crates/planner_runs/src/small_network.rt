@@ -127,6 +127,15 @@ pub const NO_RUN_TIME: &[Change] = &[(
     "rec; 1; 1; 1; 1; 1; 2; 1; 3600\nend; 1\n",
 )];
 
+/// The second trip, whose section has no run time, is of another day type.
+pub const OTHER_DAY: &[Change] = &[
+    (
+        "rec; 1; 1; 1; 1; 1; 2; 1; 3600\nrec; 1; 1; 1; 1; 2; 1; 1; 3600\nend; 2\n",
+        "rec; 1; 1; 1; 1; 1; 2; 1; 3600\nend; 1\n",
+    ),
+    (SECOND, "rec; 1; 2; 33000; 1; 2; 1; 1; \"R\"; NULL"),
+];
+
 /// The depot is no point of the network.
 pub const UNKNOWN_DEPOT: &[Change] = &[(
     "rec; 1; 2; 9; 1; 2; 1000; 1; 0",

@@ -6,9 +6,9 @@ use planner_run::{InputFault, Status};
 use planner_runs::{
     ALLOWED, Change, DAY_WRITTEN, FEWER_TABLES, FULL, HALF_ALLOWED, IN_TIME, LATE, MANY_POOLS,
     NO_CHANGE, NO_DEADHEADS, NO_DRIVERS, NO_NUMBER, NO_ROUTE, NO_RUN_TIME, NO_TRIPS, ONE_FOR_BOTH,
-    OPEN_QUOTE, OTHER_TYPE, PAST_END, SHORT, SHORT_ROW, TOGETHER, TOO_LONG, TOO_SOON, TWO_PLANS,
-    UNENDED, UNKNOWN_DEPOT, UNKNOWN_TYPE, UNNAMED, USAGE, WRITTEN_HEAD, end_on, has_written,
-    is_plan_written, is_refused, joined, text_on,
+    OPEN_QUOTE, OTHER_DAY, OTHER_TYPE, PAST_END, SHORT, SHORT_ROW, TOGETHER, TOO_LONG, TOO_SOON,
+    TWO_PLANS, UNENDED, UNKNOWN_DEPOT, UNKNOWN_TYPE, UNNAMED, USAGE, WRITTEN_HEAD, end_on,
+    has_written, is_plan_written, is_refused, joined, text_on,
 };
 use std::alloc::Global;
 use std::test::Fail;
@@ -126,7 +126,7 @@ fn is_planned<R: Threads + Sync>(
 type Cost = (&'static [Change], &'static str);
 
 /// The last rows of a plan's text have the number of blocks, their cost, the number of duties and theirs, each with its bound.
-const COSTS: [Cost; 7] = [
+const COSTS: [Cost; 8] = [
     (
         TOO_SOON,
         "rec; 1; 2; 2\nrec; 2; 5000; 5000\nrec; 3; 2; 2\nrec; 4; 13000; 13000\nend; 4\neof; 7\n",
@@ -142,6 +142,10 @@ const COSTS: [Cost; 7] = [
     (
         NO_TRIPS,
         "rec; 1; 0; 0\nrec; 2; 0; 0\nrec; 3; 0; 0\nrec; 4; 0; 0\nend; 4\neof; 7\n",
+    ),
+    (
+        OTHER_DAY,
+        "rec; 1; 1; 1\nrec; 2; 2500; 2500\nrec; 3; 1; 1\nrec; 4; 6500; 6500\nend; 4\neof; 7\n",
     ),
     (
         LATE,
@@ -181,7 +185,7 @@ fn plans_have_their_costs_and_bounds(rt: HostRuntime) -> Result<(), Fail> {
 /// Words, changes, the number of the status that they end with, and the line.
 type Refusal = (&'static [&'static str], &'static [Change], u8, &'static str);
 
-const REFUSALS: [Refusal; 27] = [
+const REFUSALS: [Refusal; 28] = [
     (PLAN, UNENDED, 3, "file 1 line 96: Unended\n"),
     (PLAN, FEWER_TABLES, 3, "file 1 line 96: EofCount\n"),
     (PLAN, UNNAMED, 3, "file 1 line 8: Order\n"),
@@ -239,6 +243,7 @@ const REFUSALS: [Refusal; 27] = [
         2,
         USAGE,
     ),
+    (&["plan", "20260302"], NO_CHANGE, 2, USAGE),
 ];
 
 fn first_other_refusal<R: Threads + Sync>(
